@@ -1,0 +1,15 @@
+pub mod Actions
+pub mod Lists
+pub mod Values
+pub mod Words
+pub mod Program
+pub mod Reading
+pub mod Uses
+pub mod Constructors
+pub mod Machine
+pub mod Bound
+pub mod Frames
+pub mod Steps
+pub mod Finished
+pub mod Opened
+pub mod Scripts

@@ -1,0 +1,56 @@
+-- 01's steps between blocks under final kinds, and what demand 3 says of an answer. Assumes nothing.
+use mathlib.Core.Bool.{true, false}
+use mathlib.Core.Option.{none, some}
+use mathlib.Core.Path.{_≡_}
+use mathlib.Core.Logic.{_↔_}
+use mathlib.Core.List.{List, [], _∷_, _++_, map}
+use Prim.Native.Nat.{ℕ, _≤_}
+use lib.ListN.{getD}
+use lib.Dec.{eqb, T}
+use Rattle.sets.specs.Sets.{membersOf}
+use Rattle.kinds.specs.Rules.{admits}
+use Rattle.rules.specs.Actions.{answered}
+use Rattle.rules.specs.Lists.{consIf, toList, concat, any}
+use Rattle.rules.specs.Values.{classesIn}
+use Rattle.rules.specs.Program.{Limits, Opnd, Terminator, Jump, IfTrue, Return, Callee, Static, Dynamic, Op, about, Program, opOf, code, entry, methodNamed, mainFunction}
+use Rattle.rules.specs.Machine.{State, kindOf, atRest}
+use Rattle.rules.specs.Bound.{bound}
+use Rattle.rules.specs.Frames.{Analysis, analyze}
+
+module _ (p : Program) (s : State) where
+  -- a jump's target; the arms that the condition's kind admits
+  unfoldable pub arms : Terminator → List ℕ
+  arms (Jump b) = b ∷ []
+  arms (IfTrue v t e) = consIf (admits true (kindOf s v)) t (consIf (admits false (kindOf s v)) e [])
+  arms (Return v) = []
+
+  -- the classes of a receiver's kind; none where it is no object kind
+  abbrev pub classes : Opnd → List ℕ
+  classes r = elim (classesIn (kindOf s r)) [ none ↦ [] | some c ↦ membersOf c ]
+
+  -- the function of a bare call; the method in each class of the receiver
+  abbrev pub called : Callee → List ℕ
+  called (Static f) = f ∷ []
+  called (Dynamic r n) = concat (map (λ c. toList (methodNamed p c n)) (classes r))
+
+  -- the blocks that an instruction's steps lead to
+  unfoldable pub targets : Op → List ℕ
+  targets o = concat (map arms (toList (about o .terminator))) ++ map (entry p) (concat (map called (toList (about o .callee))))
+
+  abbrev pub Among : ℕ → List ℕ → Type 0
+  Among n l = T (any (eqb n) l)
+
+  -- the main entry, and what a chain of steps leads to
+  pub data Reached : ℕ → Type 0 where
+    main : Reached (entry p (mainFunction p))
+    along : {b c : ℕ} (i : ℕ) → Reached b → Among i (code p b) → Among c (targets (opOf p i)) → Reached c
+
+  -- exactness and bound. The run may take no more steps than the bound, so the count says something only because nothing waits any more
+  pub record Exact : Type 0 where
+    pub rest : atRest s ≡ true
+    pub count : s .count ≤ bound p
+    pub live : (b : ℕ) → (getD (s .live) b false ≡ true) ↔ Reached b
+
+-- demand 3, under limits whose classes have bits in a set
+abbrev pub Demand : Type 0
+Demand = (L : Limits) (script : List ℕ) (a : Analysis) → L .classes ≤ 64 → analyze L script ≡ answered a → Exact (a .program) (a .state)
