@@ -1,6 +1,6 @@
 -- The ways through `mix`, `union`, `by_union` and `combine`, on plain values: each flag is a callee's answer. Assumes nothing.
 use mathlib.Core.Path.{_≡_, refl, sym, ap, ap₂, _∙_}
-use mathlib.Core.Bool.{Bool as 𝔹, true, false, Bool·beq, _&&_, _||_, or-true, or-false}
+use mathlib.Core.Bool.{Bool as 𝔹, true, false, _&&_, _||_, or-true, or-false}
 use Prim.Native.Nat.{ℕ}
 use lib.IntN.{ℤ}
 use lib.Bits.{bitOr}
@@ -12,8 +12,8 @@ use Rattle.kinds.specs.declared.Joined.the-variants.{Of, Refused}
 use Rattle.kinds.specs.declared.Known.the-variants.{Number, Other}
 use Rattle.kinds.specs.declared.Arith.{Arith}
 use Rattle.kinds.specs.Kinds.{sameOf, isAny, isEmpty, isName, isNumber, isTruth}
-use Rattle.kinds.specs.Union.{setOf, isAlone, mixOf, lub, clash, unionOf}
-use Rattle.kinds.specs.Rules.{knownIn, resultOf, wideOf, byUnion, byUnions, both, isSub, arithOf, admits}
+use Rattle.kinds.specs.Union.{setOf, isAlone, mixOf, lub, unionOf}
+use Rattle.kinds.specs.Rules.{knownIn, resultOf, wideOf, byUnion, byUnions, isSub, arithOf}
 use Rattle.kinds.proofs.Same.{same-eq}
 
 -- a flag's value, handed on to what it answers
@@ -159,10 +159,3 @@ module _ (o : Arith) (a b : Kind) where
       pub right-arith : {j : Joined} → knownIn a ≡ Other → j ≡ byUnions o (unionOf a b) → j ≡ arithOf o a b
       unfolding arithOf
       right-arith p e = rw (s, h, p) e
-
--- the arm of a known truth, as the code tests it
-pub arm-truth : (arm t : 𝔹) → Bool·beq t arm ≡ admits arm (Truth t)
-arm-truth true true = refl
-arm-truth true false = refl
-arm-truth false true = refl
-arm-truth false false = refl

@@ -1,5 +1,5 @@
 -- Add, Mul and LessThan on kinds, and the arms of a choice, from document 01, "The analysis". Assumes nothing.
-use mathlib.Core.Bool.{Bool as 𝔹, true, false, not, cond, _||_}
+use mathlib.Core.Bool.{Bool as 𝔹, true, false, Bool·beq, cond, _||_}
 use lib.IntN.{ℤ, _+ℤ_, _-ℤ_, _*ℤ_}
 use lib.Signed.{ltZ}
 use Rattle.numbers.specs.Numbers.{fitOf}
@@ -34,7 +34,7 @@ abbrev pub kindOf : Fit → Kind
 kindOf (Fits z) = Num z
 kindOf Leaves = Int
 
--- of two known numbers
+-- of two known numbers, as integers
 unfoldable pub resultOf : Arith → ℤ → ℤ → Kind
 resultOf Add m n = kindOf (fitOf 63 (m +ℤ n))
 resultOf Sub m n = kindOf (fitOf 63 (m -ℤ n))
@@ -52,10 +52,12 @@ wideOf Less = Bool
 unfoldable pub byUnion : Arith → Kind → Kind
 byUnion o u = cond (sameOf u Int) (wideOf o) Any
 
+-- the same with the union's refusal
 abbrev pub byUnions : Arith → Joined → Joined
 byUnions o (Of u) = Of (byUnion o u)
 byUnions o (Refused n) = Refused n
 
+-- by two known numbers, or else a given answer
 abbrev pub both : {A : Type 0} → (ℤ → ℤ → A) → A → Known → Known → A
 both f d (Number m) (Number n) = f m n
 both f d (Number m) Other = d
@@ -68,7 +70,7 @@ isSub Sub = true
 isSub Mul = false
 isSub Less = false
 
--- the rule, with refusals 18 and 19
+-- the rule of an operation, with refusals 18 and 19: an operand that is Empty gives Empty, then two known numbers count, then the union
 unfoldable pub arithOf : Arith → Kind → Kind → Joined
 arithOf o a b =
     cond (isSub o) (Refused 18)
@@ -80,13 +82,12 @@ unfoldable pub arithTotal : Arith → Kind → Kind → Kind
 arithTotal o a b =
     cond (isEmpty a || isEmpty b) Empty (both (resultOf o) (byUnion o (lub a b)) (knownIn a) (knownIn b))
 
--- nothing admits no arm, true the then arm, false the else arm, all else both; the Boolean is true for the then arm
+-- the arms of a choice: Empty opens neither, a known truth its own, every other kind both. `arm` is true for the then arm
 abbrev pub admits : 𝔹 → Kind → 𝔹
 admits arm Empty = false
 admits arm Nil = true
-admits true (Truth t) = t
-admits false (Truth t) = not t
 admits arm (Num n) = true
+admits arm (Truth t) = Bool·beq t arm
 admits arm (Fun f) = true
 admits arm (Class c) = true
 admits arm Int = true

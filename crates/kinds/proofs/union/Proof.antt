@@ -1,56 +1,45 @@
+-- `kinds::union` meets its contract. Assumes nothing.
 use Rattle.kinds.proofs.Steps.{told, told-or, not-alone, union-any, union-left, union-right, union-name, union-mix}
 use borrow.Author.Needs.{needs}
 use Rattle.kinds.proofs.union.Statement.{statement}
 use Rattle.kinds.proofs.union.Tie as tie
-use Rattle.kinds.proofs.union.Reads as reads
-use Rattle.kinds.proofs.union.Lts as lts
-use Rattle.kinds.proofs.Kind.is_any.Reads as is-any-reads
-use Rattle.kinds.proofs.Kind.is_empty.Reads as is-empty-reads
-use Rattle.kinds.proofs.Kind.is_name.Reads as is-name-reads
-use Rattle.kinds.proofs.mix.Reads as mix-reads
 
--- src/lib.rt:220:8
 is-any-requires : tie.Need-is-any-requires
 is-any-requires c κs = search needs
 
--- src/lib.rt:220:21
 is-any-requires-2 : tie.Need-is-any-requires-2
 is-any-requires-2 c κs = search needs
 
--- src/lib.rt:221:9
 returns : tie.Need-returns
 returns c = union-any (c .before .before .before .args .a) (c .before .before .before .args .b) (told-or (c .before .before .is-any .ensures) (c .before .is-any2 .ensures) (c .if1 .taken))
--- src/lib.rt:223:8
+
 is-empty-requires : tie.Need-is-empty-requires
 is-empty-requires c κs = search needs
 
--- src/lib.rt:224:9
 returns-2 : tie.Need-returns-2
 returns-2 c = union-left (c .before .before .before .before .before .args .a) (c .before .before .before .before .before .args .b) (told-or (c .before .before .before .before .is-any .ensures) (c .before .before .before .is-any2 .ensures) (c .before .before .if1 .left)) (told (c .before .is-empty .ensures) (c .if2 .taken))
--- src/lib.rt:226:8
+
 is-empty-requires-2 : tie.Need-is-empty-requires-2
 is-empty-requires-2 c κs = search needs
 
--- src/lib.rt:227:9
 returns-3 : tie.Need-returns-3
 returns-3 c = union-right (c .before .before .before .before .before .before .before .args .a) (c .before .before .before .before .before .before .before .args .b) (told-or (c .before .before .before .before .before .before .is-any .ensures) (c .before .before .before .before .before .is-any2 .ensures) (c .before .before .before .before .if1 .left)) (told (c .before .before .before .is-empty .ensures) (c .before .before .if2 .left)) (told (c .before .is-empty2 .ensures) (c .if3 .taken))
--- src/lib.rt:229:8
+
 is-name-requires : tie.Need-is-name-requires
 is-name-requires c κs = search needs
 
--- src/lib.rt:229:22
 is-name-requires-2 : tie.Need-is-name-requires-2
 is-name-requires-2 c κs = search needs
 
--- src/lib.rt:230:9
 returns-4 : tie.Need-returns-4
 returns-4 c = union-name (c .before .before .before .before .before .before .before .before .before .before .args .a) (c .before .before .before .before .before .before .before .before .before .before .args .b) (told-or (c .before .before .before .before .before .before .before .before .before .is-any .ensures) (c .before .before .before .before .before .before .before .before .is-any2 .ensures) (c .before .before .before .before .before .before .before .if1 .left)) (told (c .before .before .before .before .before .before .is-empty .ensures) (c .before .before .before .before .before .if2 .left)) (told (c .before .before .before .before .is-empty2 .ensures) (c .before .before .before .if3 .left)) (told-or (c .before .before .is-name .ensures) (c .before .is-name2 .ensures) (c .if4 .taken))
--- src/lib.rt:232:16
+
 mix-requires : tie.Need-mix-requires
 mix-requires c κs = not-alone (c .before .before .before .before .before .before .before .before .before .before .args .a) (c .before .before .before .before .before .before .before .before .before .before .args .b) (told-or (c .before .before .is-name .ensures) (c .before .is-name2 .ensures) (c .if4 .left)) (told-or (c .before .before .before .before .before .before .before .before .before .is-any .ensures) (c .before .before .before .before .before .before .before .before .is-any2 .ensures) (c .before .before .before .before .before .before .before .if1 .left))
--- src/lib.rt:217:1
+
 returns-5 : tie.Need-returns-5
 returns-5 c = union-mix (c .before .before .before .before .before .before .before .before .before .before .before .args .a) (c .before .before .before .before .before .before .before .before .before .before .before .args .b) (told-or (c .before .before .before .before .before .before .before .before .before .before .is-any .ensures) (c .before .before .before .before .before .before .before .before .before .is-any2 .ensures) (c .before .before .before .before .before .before .before .before .if1 .left)) (told (c .before .before .before .before .before .before .before .is-empty .ensures) (c .before .before .before .before .before .before .if2 .left)) (told (c .before .before .before .before .before .is-empty2 .ensures) (c .before .before .before .before .if3 .left)) (told-or (c .before .before .before .is-name .ensures) (c .before .before .is-name2 .ensures) (c .before .if4 .left)) (c .mix .ensures)
+
 pub union-spec : {M : Type 1} → statement M
 union-spec =
     tie.close
