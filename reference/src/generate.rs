@@ -332,7 +332,7 @@ impl Writer<'_> {
         false
     }
 
-    /// A statement that starts with `(` would call the one before: keep most from it.
+    /// Seldom a line end, which means nothing.
     fn fresh_line(&mut self) {
         if self.rng.percent(2) {
             self.put("\n");
@@ -401,6 +401,7 @@ impl Writer<'_> {
         }
     }
 
+    /// An expression that, mostly, doesn't start with `(`: that would call what stands before it.
     fn unbracketed(&mut self, sort: Sort) {
         let at = self.words.len();
         self.expression(sort);
@@ -435,7 +436,6 @@ impl Writer<'_> {
         let old = self.vars.clone();
         self.dead = was_dead || then_dead;
         let n = self.rng.below(3);
-        // keep a bracket from turning the condition into a call
         let then_ends = self.arm(n, gives);
         let then_vars = std::mem::replace(&mut self.vars, old.clone());
         let mut else_ends = false;
