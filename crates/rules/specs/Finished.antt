@@ -3,7 +3,7 @@ use mathlib.Core.Bool.{Bool as 𝔹, true, false, not, _&&_}
 use mathlib.Core.Option.{none, some}
 use mathlib.Core.Path.{_≡_}
 use mathlib.Core.List.{List, [], _∷_}
-use Prim.Native.Nat.{ℕ, _<_}
+use Prim.Native.Nat.{ℕ, _<_, _≤_, _^_}
 use lib.Dec.{eqb, ltb, leb}
 use lib.ListN.{length, getD}
 use Rattle.kinds.specs.declared.Kind.{Kind}
@@ -83,3 +83,9 @@ pub record Finished (L : Limits) (p : Program) : Type 0 where
   pub blocks : (b : ℕ) → b < length (p .blocks) → goodBlock p b ≡ true
   pub functions : (f : ℕ) → f < length (p .functions) → goodFunction p f ≡ true
   pub instructions : (i : ℕ) → i < length (p .instructions) → goodInstruction p i ≡ true
+
+-- limits under which every number has room: the built-in classes are within them, a set has a bit for each class, a function's number has 32 bits
+pub record Usable (L : Limits) : Type 0 where
+  pub builtIns : 4 ≤ L .classes
+  pub classes : L .classes ≤ 64
+  pub functions : L .functions ≤ 2 ^ 32

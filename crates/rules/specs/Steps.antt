@@ -9,12 +9,13 @@ use lib.ListN.{getD}
 use lib.Dec.{eqb, T}
 use Rattle.sets.specs.Sets.{membersOf}
 use Rattle.kinds.specs.Rules.{admits}
-use Rattle.rules.specs.Actions.{answered}
+use Rattle.rules.specs.Actions.{Answer, answered, refused}
 use Rattle.rules.specs.Lists.{consIf, toList, concat, any}
 use Rattle.rules.specs.Values.{classesIn}
 use Rattle.rules.specs.Program.{Limits, Opnd, Terminator, Jump, IfTrue, Return, Callee, Static, Dynamic, Op, about, Program, opOf, code, entry, methodNamed, mainFunction}
 use Rattle.rules.specs.Machine.{State, kindOf, atRest}
 use Rattle.rules.specs.Bound.{bound}
+use Rattle.rules.specs.Finished.{Usable}
 use Rattle.rules.specs.Frames.{Analysis, analyze}
 
 module _ (p : Program) (s : State) where
@@ -51,6 +52,14 @@ module _ (p : Program) (s : State) where
     pub count : s .count ≤ bound p
     pub live : (b : ℕ) → (getD (s .live) b false ≡ true) ↔ Reached b
 
--- demand 3, under limits whose classes have bits in a set
+-- demand 3: every answer is exact and within the bound
 abbrev pub Demand : Type 0
-Demand = (L : Limits) (script : List ℕ) (a : Analysis) → L .classes ≤ 64 → analyze L script ≡ answered a → Exact (a .program) (a .state)
+Demand = (L : Limits) → Usable L → (script : List ℕ) (a : Analysis) → analyze L script ≡ answered a → Exact (a .program) (a .state)
+
+-- a script is answered, and then exactly, or refused by one of the questions; 2 asks about lent memory
+abbrev pub Told : Answer Analysis → Type 0
+Told (answered a) = Exact (a .program) (a .state)
+Told (refused n) = (1 ≤ n) × (n ≤ 20) × (n ≡ 2 → ⊥)
+
+abbrev pub Answers : Type 0
+Answers = (L : Limits) → Usable L → (script : List ℕ) → Told (analyze L script)

@@ -1,0 +1,4 @@
+pub mod Wellformed
+pub mod Exactness
+pub mod Questions
+pub mod Demand
