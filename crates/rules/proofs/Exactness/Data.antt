@@ -89,7 +89,7 @@ name-self : (a : Name) → same a a ≡ true
 name-self [] = refl
 name-self (x ∷ a) = rw (Rattle.rules.proofs.Exactness.Sums.eqb-self x) (name-self a)
 
-listed-used : (o : Op) (v : Opnd) → v ∈ about o .listed → v ∈ about o .operands
+pub listed-used : (o : Op) (v : Opnd) → v ∈ about o .listed → v ∈ about o .operands
 listed-used (Ends t) v m = not-in-none m
 listed-used (Send (Static f) l) v m = m
 listed-used (Send (Dynamic r n) l) v m = List·Memᴰ·tail m

@@ -23,7 +23,7 @@ use Rattle.rules.proofs.Exactness.Sums.{_∈_, not-in-none, ∈-cons, �
 use Rattle.rules.proofs.Exactness.Laws.{Fine, Laws}
 use Rattle.rules.proofs.Exactness.Grow.{kindIn, armsIn}
 use Rattle.rules.proofs.Exactness.Flows.{FineOpnd}
-use Rattle.rules.proofs.Exactness.Data.{Tables}
+use Rattle.rules.proofs.Exactness.Data.{Tables, listed-used}
 use Rattle.rules.proofs.Exactness.Invariant.{isParam}
 use Rattle.rules.proofs.Exactness.Potential.{params#, number-sum}
 use Rattle.rules.proofs.Exactness.Visit.{Formed}
@@ -82,18 +82,6 @@ index-in d (x ∷ l) zero h = List·Memᴰ·head refl
 index-in d (x ∷ l) (suc i) h = List·Memᴰ·tail (index-in d l i (omega arith))
 
 -- ---- operands
-
-listed-used : (o : Op) (v : Opnd) → v ∈ about o .listed → v ∈ about o .operands
-listed-used (Ends t) v m = not-in-none m
-listed-used (Send (Static f) l) v m = m
-listed-used (Send (Dynamic r n) l) v m = List·Memᴰ·tail m
-listed-used (Compute o x y) v m = not-in-none m
-listed-used (Phi b x c y) v m = m
-listed-used (Param n) v m = not-in-none m
-listed-used (SelfParam c) v m = not-in-none m
-listed-used (New c) v m = not-in-none m
-listed-used (GetIvar n r) v m = not-in-none m
-listed-used (SetIvar n r x) v m = not-in-none m
 
 returned-used : (o : Op) (v : Opnd) → v ∈ toList (returned o) → v ∈ about o .operands
 returned-used (Ends (Jump b)) v m = not-in-none m
