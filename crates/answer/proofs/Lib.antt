@@ -1,0 +1,5 @@
+pub mod Answered
+pub mod Image
+pub mod Laws
+pub mod Publish
+pub mod Uses

@@ -1,0 +1,17 @@
+use Rattle.answer.specs.Image.{functionsIn}
+use borrow.Author.Needs.{needs}
+use Rattle.answer.proofs.functions.Statement.{statement}
+use Rattle.answer.proofs.functions.Tie as tie
+
+shared-slice-read-at-most : tie.Need-shared-slice-read-at-most
+shared-slice-read-at-most c = search needs
+
+at-most-requires : tie.Need-at-most-requires
+at-most-requires c κs = search needs
+
+returns : tie.Need-returns
+unfolding functionsIn
+returns c = search needs
+
+pub functions-spec : {M : Type 1} → statement M
+functions-spec = tie.close (tie.spec shared-slice-read-at-most at-most-requires returns)

@@ -1,0 +1,3 @@
+pub mod Image
+pub mod Layout
+pub mod Record

@@ -1,0 +1,266 @@
+// The frames of an answer as text, written piece by piece from the answer memory.
+use sets::BlockId;
+use sets::FunId;
+use sets::InsnId;
+ghost use mathlib.Core.Path.{_≡_};
+ghost use mathlib.Core.List.{[]};
+ghost use Prim.Native.Nat.{_+_, _≤_, _<_};
+ghost use lib.ListN.{length};
+ghost use Rattle.rules.specs.Frames.{digitOf, digits, refusalFrame};
+ghost use Rattle.memory.specs.Memory.{over};
+ghost use Rattle.answer.specs.Layout.{answerLen};
+ghost use Rattle.frames.specs.Text.{lineOf, roomFor, lineMost, moreOf, Wrote, Piece};
+
+// No line is longer, its end included.
+pub const LINE_MOST: usize = 32;
+
+// The next frame to write: the totals; a block's; an instruction's kind; its use at a place of the users' table; a function's from a caller on.
+pub enum Cursor {
+    Totals,
+    Block(BlockId),
+    Instruction(InsnId),
+    Use(InsnId, usize),
+    Caller(FunId, InsnId),
+    Done,
+}
+
+// How far the writing came: the next frame, and the bytes written.
+pub struct Reach {
+    pub next: Cursor,
+    pub len: usize,
+}
+
+// A hexadecimal digit.
+fn digit(n: u64) -> u8
+    requires { ⌜ n < 16 ⌝ }
+    ensures { λ r. ⌜ r ≡ digitOf n ⌝ }
+{
+    if n < 10 {
+        (n + 48) as u8
+    } else {
+        (n + 87) as u8
+    }
+}
+
+// The lowest k digits of n, from a place on.
+fn put(n: u64, k: usize, out: &mut [u8], at: usize)
+    requires { ⌜ at + k ≤ length (now out) ⌝ }
+    ensures { λ _. ⌜ now (out .exit) ≡ over at (digits k n []) (now (out .entry)) ⌝ }
+{
+    let mut rest = n;
+    let mut left = k;
+    while 0 < left {
+        left -= 1;
+        out[at + left] = digit(rest % 16);
+        rest = rest / 16;
+    }
+}
+
+// A line: numbers of these widths in bytes, and the line's end.
+fn write_line(widths: &[usize], numbers: &[u64], out: &mut [u8]) -> usize
+    requires { ⌜ length (now widths) ≡ length (now numbers) ⌝ }
+    requires { ⌜ roomFor (now widths) ≤ length (now out) ⌝ }
+    ensures { λ r. ⌜ Wrote (lineOf (now (widths .entry)) (now (numbers .entry))) (now (out .entry)) r (now (out .exit)) ⌝ }
+{
+    let mut i = 0;
+    let mut at = 0;
+    while i < widths.len() {
+        let k = 2 * widths[i];
+        put(numbers[i], k, out, at);
+        at += k;
+        i += 1;
+    }
+    out[at] = 10;
+    at + 1
+}
+
+// The frame of a refusal.
+pub fn write_refusal(n: u8, out: &mut [u8]) -> usize
+    requires { ⌜ lineMost ≤ length (now out) ⌝ }
+    ensures { λ r. ⌜ Wrote (refusalFrame n) (now (out .entry)) r (now (out .exit)) ⌝ }
+{
+    write_line(&[1, 1], &[127, n as u64], out)
+}
+
+fn step_totals(answer: &[u64], out: &mut [u8]) -> Reach
+    requires { ⌜ length (now answer) ≡ answerLen ⌝ }
+    requires { ⌜ lineMost ≤ length (now out) ⌝ }
+    ensures { λ r. ⌜ Piece (now (answer .entry)) Cursor.Totals (now (out .entry)) (r .next) (r .len) (now (out .exit)) ⌝ }
+{
+    let f = answer::functions(answer) as u64;
+    let b = answer::blocks(answer) as u64;
+    let i = answer::instructions(answer) as u64;
+    let count = answer::count(answer);
+    let len = write_line(&[1, 1, 1, 2, 8], &[1, f, b, i, count], out);
+    Reach {
+        next: Cursor::Block(BlockId(0)),
+        len,
+    }
+}
+
+fn step_block(answer: &[u64], b: BlockId, out: &mut [u8]) -> Reach
+    requires { ⌜ length (now answer) ≡ answerLen ⌝ }
+    requires { ⌜ lineMost ≤ length (now out) ⌝ }
+    ensures { λ r. ⌜ Piece (now (answer .entry)) (Cursor.Block b) (now (out .entry)) (r .next) (r .len) (now (out .exit)) ⌝ }
+{
+    let n = b.0 as usize;
+    if answer::blocks(answer) <= n {
+        return Reach {
+            next: Cursor::Instruction(InsnId(0)),
+            len: 0,
+        };
+    }
+    let live = answer::live(answer, b) as u64;
+    let len = write_line(&[1, 1, 1], &[2, n as u64, live], out);
+    Reach {
+        next: Cursor::Block(BlockId(b.0 + 1)),
+        len,
+    }
+}
+
+fn step_instruction(answer: &[u64], i: InsnId, out: &mut [u8]) -> Reach
+    requires { ⌜ length (now answer) ≡ answerLen ⌝ }
+    requires { ⌜ lineMost ≤ length (now out) ⌝ }
+    ensures { λ r. ⌜ Piece (now (answer .entry)) (Cursor.Instruction i) (now (out .entry)) (r .next) (r .len) (now (out .exit)) ⌝ }
+{
+    let n = i.0 as usize;
+    if answer::instructions(answer) <= n {
+        return Reach {
+            next: Cursor::Use(InsnId(0), answer::users_start(answer, InsnId(0))),
+            len: 0,
+        };
+    }
+    let tag = answer::tag(answer, i);
+    let payload = answer::payload(answer, i);
+    let len = write_line(&[1, 2, 1, 8], &[3, n as u64, tag, payload], out);
+    Reach {
+        next: Cursor::Instruction(InsnId(i.0 + 1)),
+        len,
+    }
+}
+
+fn step_use(answer: &[u64], i: InsnId, j: usize, out: &mut [u8]) -> Reach
+    requires { ⌜ length (now answer) ≡ answerLen ⌝ }
+    requires { ⌜ lineMost ≤ length (now out) ⌝ }
+    ensures { λ r. ⌜ Piece (now (answer .entry)) (Cursor.Use i j) (now (out .entry)) (r .next) (r .len) (now (out .exit)) ⌝ }
+{
+    let n = i.0 as usize;
+    if answer::instructions(answer) <= n {
+        return Reach {
+            next: Cursor::Caller(FunId(0), InsnId(0)),
+            len: 0,
+        };
+    }
+    let end = answer::users_end(answer, i);
+    if end <= j {
+        return Reach {
+            next: Cursor::Use(InsnId(i.0 + 1), end),
+            len: 0,
+        };
+    }
+    let user = answer::user(answer, j);
+    let len = write_line(&[1, 2, 2], &[4, n as u64, user.0 as u64], out);
+    Reach {
+        next: Cursor::Use(i, j + 1),
+        len,
+    }
+}
+
+fn step_caller(answer: &[u64], f: FunId, i: InsnId, out: &mut [u8]) -> Reach
+    requires { ⌜ length (now answer) ≡ answerLen ⌝ }
+    requires { ⌜ lineMost ≤ length (now out) ⌝ }
+    ensures { λ r. ⌜ Piece (now (answer .entry)) (Cursor.Caller f i) (now (out .entry)) (r .next) (r .len) (now (out .exit)) ⌝ }
+{
+    let g = f.0 as usize;
+    if answer::functions(answer) <= g {
+        return Reach {
+            next: Cursor::Done,
+            len: 0,
+        };
+    }
+    let n = i.0 as usize;
+    if answer::instructions(answer) <= n {
+        return Reach {
+            next: Cursor::Caller(FunId(f.0 + 1), InsnId(0)),
+            len: 0,
+        };
+    }
+    let bits = answer::callers_from(answer, f, i);
+    if bits == 0 {
+        // None in the rest of the word.
+        return Reach {
+            next: Cursor::Caller(f, InsnId((i.0 / 64 + 1) * 64)),
+            len: 0,
+        };
+    }
+    if bits % 2 == 0 {
+        return Reach {
+            next: Cursor::Caller(f, InsnId(i.0 + 1)),
+            len: 0,
+        };
+    }
+    let len = write_line(&[1, 1, 2], &[5, g as u64, n as u64], out);
+    Reach {
+        next: Cursor::Caller(f, InsnId(i.0 + 1)),
+        len,
+    }
+}
+
+// At most one line.
+fn step(answer: &[u64], at: Cursor, out: &mut [u8]) -> Reach
+    requires { ⌜ length (now answer) ≡ answerLen ⌝ }
+    requires { ⌜ lineMost ≤ length (now out) ⌝ }
+    ensures { λ r. ⌜ Piece (now (answer .entry)) at (now (out .entry)) (r .next) (r .len) (now (out .exit)) ⌝ }
+{
+    match at {
+        Cursor::Totals => step_totals(answer, out),
+        Cursor::Block(b) => step_block(answer, b, out),
+        Cursor::Instruction(i) => step_instruction(answer, i, out),
+        Cursor::Use(i, j) => step_use(answer, i, j, out),
+        Cursor::Caller(f, i) => step_caller(answer, f, i, out),
+        Cursor::Done => Reach {
+            next: Cursor::Done,
+            len: 0,
+        },
+    }
+}
+
+// Whether a frame may be left.
+pub fn more(at: Cursor) -> bool
+    ensures { λ r. ⌜ r ≡ moreOf at ⌝ }
+{
+    match at {
+        Cursor::Totals => true,
+        Cursor::Block(_) => true,
+        Cursor::Instruction(_) => true,
+        Cursor::Use(_, _) => true,
+        Cursor::Caller(_, _) => true,
+        Cursor::Done => false,
+    }
+}
+
+// Writes the frames from a cursor on, as far as the buffer has room for a line.
+pub fn write_from(answer: &[u64], from: Cursor, out: &mut [u8]) -> Reach
+    requires { ⌜ length (now answer) ≡ answerLen ⌝ }
+    requires { ⌜ lineMost ≤ length (now out) ⌝ }
+    ensures { λ r. ⌜ Piece (now (answer .entry)) from (now (out .entry)) (r .next) (r .len) (now (out .exit)) ⌝ }
+{
+    let mut cursor = from;
+    let mut at = 0;
+    while more(cursor) {
+        if out.len() - at < LINE_MOST {
+            return Reach {
+                next: cursor,
+                len: at,
+            };
+        }
+        let reach = step(answer, cursor, &mut out[at..]);
+        at += reach.len;
+        let next = reach.next;
+        cursor = next;
+    }
+    Reach {
+        next: cursor,
+        len: at,
+    }
+}

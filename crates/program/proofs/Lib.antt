@@ -1,0 +1,10 @@
+pub mod Tables
+pub mod Forms
+pub mod Areas
+pub mod Stores
+pub mod Viewing
+pub mod Committing
+pub mod Pushing
+pub mod Calling
+pub mod Adding
+pub mod Reading

@@ -1,0 +1,819 @@
+// The program that a reading leaves: its tables in one lent memory of words.
+use kinds::Arith;
+use kinds::Kind;
+use sets::BlockId;
+use sets::ClassId;
+use sets::FunId;
+use sets::InsnId;
+ghost use mathlib.Core.Path.{_≡_};
+ghost use mathlib.Core.List.{[], _∷_, _++_, map};
+ghost use Prim.Native.Nat.{_+_, _*_, _≤_, _<_};
+ghost use lib.ListN.{length};
+ghost use Rattle.rules.specs.Program.{limits, sameOpnd};
+ghost use Rattle.program.specs.Rows.{size, opndsAt, opndFrom, opndAt, opndsIn, opndOf, nth, given, opFrom, listedIn, endsBlock, ownerFrom};
+ghost use Rattle.program.specs.View.{Ready, Small, limitsOf, ReadsInsn, ReadsFun, ReadsBlock, Puts, PutsRow, Asks, Room, PutsBlock, PutsFun, PutsClass, Commits, Adds, Did, DidFun, Starts, insnOf, blockOf, classOf, pushOf, callOf, blockFor, nextBlock, classFor, moreInsns, moreCalls, moreBlocks, moreClasses, unchanged};
+
+// Where the tables start, in words, and how many words they take together.
+pub const INSNS: usize = 0;
+
+pub const OPNDS: usize = 12288;
+
+pub const BLOCKS: usize = 36864;
+
+pub const FUNCTIONS: usize = 38912;
+
+pub const CLASSES: usize = 39424;
+
+pub const IVARS: usize = 39680;
+
+pub const SIZE: usize = 47872;
+
+// A place in the script.
+pub struct Name {
+    pub start: usize,
+    pub len: usize,
+}
+
+// A constant, or the result of an instruction.
+pub enum Opnd {
+    Const(Kind),
+    Insn(InsnId),
+}
+
+// The sorts of instructions, without their operands.
+pub enum Op {
+    Jump(BlockId),
+    IfTrue(BlockId, BlockId),
+    Return,
+    SendStatic(FunId),
+    SendDynamic(Name),
+    Compute(Arith),
+    Phi(BlockId, BlockId),
+    Param(usize),
+    SelfParam(ClassId),
+    New(ClassId),
+    GetIvar(Name),
+    SetIvar(Name),
+}
+
+// An instruction: its operands are a part of the operand table.
+pub struct Row {
+    pub block: BlockId,
+    pub op: Op,
+    pub first: usize,
+    pub count: usize,
+}
+
+// The class of a method.
+pub enum Owner {
+    Class(ClassId),
+    Nobody,
+}
+
+pub struct Function {
+    pub name: Name,
+    pub class: Owner,
+    pub entry: BlockId,
+}
+
+// The operands of an instruction that is no call.
+pub enum Given {
+    Zero,
+    One(Opnd),
+    Two(Opnd, Opnd),
+}
+
+// Whom a call calls: a function, or the method of a name on a receiver.
+pub enum Callee {
+    Static(FunId),
+    Dynamic(Opnd, Name),
+}
+
+// How many rows of each table are in use, and how many operands are call arguments or join operands.
+pub struct Counts {
+    pub functions: usize,
+    pub classes: usize,
+    pub blocks: usize,
+    pub insns: usize,
+    pub opnds: usize,
+    pub listed: usize,
+}
+
+// 01's limits, none above the tables' room; those of the script's length, of the depth and of the lists are no concern of the tables.
+pub struct Limits {
+    pub script: usize,
+    pub functions: usize,
+    pub classes: usize,
+    pub blocks: usize,
+    pub instructions: usize,
+    pub operands: usize,
+    pub ivars: usize,
+    pub depth: usize,
+    pub worklist: usize,
+}
+
+impl Limits {
+    pub fn built_in() -> Limits
+        ensures { λ r. ⌜ (limitsOf r ≡ limits) × Small r ⌝ }
+    {
+        Limits {
+            script: 16384,
+            functions: 128,
+            classes: 64,
+            blocks: 255,
+            instructions: 2048,
+            operands: 8192,
+            ivars: 64,
+            depth: 128,
+            worklist: 16384,
+        }
+    }
+}
+
+// The two are one operand.
+pub fn same_opnd(v: Opnd, w: Opnd) -> bool
+    ensures { λ r. ⌜ r ≡ sameOpnd (opndOf v) (opndOf w) ⌝ }
+{
+    match v {
+        Opnd::Const(a) => match w {
+            Opnd::Const(b) => a.same(b),
+            Opnd::Insn(_) => false,
+        },
+        Opnd::Insn(i) => match w {
+            Opnd::Const(_) => false,
+            Opnd::Insn(j) => i.0 == j.0,
+        },
+    }
+}
+
+// The number of what was added and the counts after it, or the number of a refusal.
+pub enum NewInsn {
+    Added(InsnId, Counts),
+    Refused(u8),
+}
+
+pub enum NewBlock {
+    Added(BlockId, Counts),
+    Refused(u8),
+}
+
+pub enum NewFun {
+    Added(FunId, BlockId, Counts),
+    Refused(u8),
+}
+
+pub enum NewClass {
+    Added(ClassId, Counts),
+    Refused(u8),
+}
+
+// ---- stored forms
+
+struct OpndWords {
+    tag: usize,
+    bits: usize,
+}
+
+struct OpWords {
+    tag: usize,
+    x: usize,
+    y: usize,
+}
+
+fn opnd_from(tag: usize, bits: usize) -> Opnd
+    ensures { λ r. ⌜ r ≡ opndFrom tag bits ⌝ }
+{
+    if tag == 10 {
+        Opnd::Insn(InsnId((bits % 4294967296) as u32))
+    } else {
+        Opnd::Const(kinds::kind_from(tag, bits))
+    }
+}
+
+fn opnd_words(o: Opnd) -> OpndWords
+    ensures { λ r. ⌜ opndFrom (r .tag) (r .bits) ≡ o ⌝ }
+{
+    match o {
+        Opnd::Const(k) => OpndWords {
+            tag: k.tag(),
+            bits: k.payload(),
+        },
+        Opnd::Insn(i) => OpndWords {
+            tag: 10,
+            bits: i.0 as usize,
+        },
+    }
+}
+
+fn op_from(tag: usize, x: usize, y: usize) -> Op
+    ensures { λ r. ⌜ r ≡ opFrom tag x y ⌝ }
+{
+    match tag {
+        0 => Op::Jump(BlockId((x % 4294967296) as u32)),
+        1 => Op::IfTrue(
+            BlockId((x % 4294967296) as u32),
+            BlockId((y % 4294967296) as u32),
+        ),
+        2 => Op::Return,
+        3 => Op::SendStatic(FunId((x % 4294967296) as u32)),
+        4 => Op::SendDynamic(Name { start: x, len: y }),
+        5 => Op::Compute(Arith::Add),
+        6 => Op::Compute(Arith::Sub),
+        7 => Op::Compute(Arith::Mul),
+        8 => Op::Compute(Arith::Less),
+        9 => Op::Phi(
+            BlockId((x % 4294967296) as u32),
+            BlockId((y % 4294967296) as u32),
+        ),
+        10 => Op::Param(x),
+        11 => Op::SelfParam(ClassId((x % 4294967296) as u32)),
+        12 => Op::New(ClassId((x % 4294967296) as u32)),
+        13 => Op::GetIvar(Name { start: x, len: y }),
+        _ => Op::SetIvar(Name { start: x, len: y }),
+    }
+}
+
+fn op_words(op: Op) -> OpWords
+    ensures { λ r. ⌜ opFrom (r .tag) (r .x) (r .y) ≡ op ⌝ }
+{
+    match op {
+        Op::Jump(b) => OpWords {
+            tag: 0,
+            x: b.0 as usize,
+            y: 0,
+        },
+        Op::IfTrue(b, e) => OpWords {
+            tag: 1,
+            x: b.0 as usize,
+            y: e.0 as usize,
+        },
+        Op::Return => OpWords { tag: 2, x: 0, y: 0 },
+        Op::SendStatic(f) => OpWords {
+            tag: 3,
+            x: f.0 as usize,
+            y: 0,
+        },
+        Op::SendDynamic(n) => OpWords {
+            tag: 4,
+            x: n.start,
+            y: n.len,
+        },
+        Op::Compute(o) => match o {
+            Arith::Add => OpWords { tag: 5, x: 0, y: 0 },
+            Arith::Sub => OpWords { tag: 6, x: 0, y: 0 },
+            Arith::Mul => OpWords { tag: 7, x: 0, y: 0 },
+            Arith::Less => OpWords { tag: 8, x: 0, y: 0 },
+        },
+        Op::Phi(b, e) => OpWords {
+            tag: 9,
+            x: b.0 as usize,
+            y: e.0 as usize,
+        },
+        Op::Param(n) => OpWords {
+            tag: 10,
+            x: n,
+            y: 0,
+        },
+        Op::SelfParam(c) => OpWords {
+            tag: 11,
+            x: c.0 as usize,
+            y: 0,
+        },
+        Op::New(c) => OpWords {
+            tag: 12,
+            x: c.0 as usize,
+            y: 0,
+        },
+        Op::GetIvar(n) => OpWords {
+            tag: 13,
+            x: n.start,
+            y: n.len,
+        },
+        Op::SetIvar(n) => OpWords {
+            tag: 14,
+            x: n.start,
+            y: n.len,
+        },
+    }
+}
+
+// How many of n operands are call arguments or join operands.
+fn listed_in(op: Op, n: usize) -> usize
+    ensures { λ r. ⌜ r ≡ listedIn op n ⌝ }
+{
+    match op {
+        Op::Jump(_) => 0,
+        Op::IfTrue(_, _) => 0,
+        Op::Return => 0,
+        Op::SendStatic(_) => n,
+        Op::SendDynamic(_) => if 0 < n { n - 1 } else { 0 },
+        Op::Compute(_) => 0,
+        Op::Phi(_, _) => 2,
+        Op::Param(_) => 0,
+        Op::SelfParam(_) => 0,
+        Op::New(_) => 0,
+        Op::GetIvar(_) => 0,
+        Op::SetIvar(_) => 0,
+    }
+}
+
+fn ends_block(op: Op) -> bool
+    ensures { λ r. ⌜ r ≡ endsBlock op ⌝ }
+{
+    match op {
+        Op::Jump(_) => true,
+        Op::IfTrue(_, _) => true,
+        Op::Return => true,
+        Op::SendStatic(_) => false,
+        Op::SendDynamic(_) => false,
+        Op::Compute(_) => false,
+        Op::Phi(_, _) => false,
+        Op::Param(_) => false,
+        Op::SelfParam(_) => false,
+        Op::New(_) => false,
+        Op::GetIvar(_) => false,
+        Op::SetIvar(_) => false,
+    }
+}
+
+fn owner_from(x: usize) -> Owner
+    ensures { λ r. ⌜ r ≡ ownerFrom x ⌝ }
+{
+    if x == 0 {
+        Owner::Nobody
+    } else {
+        Owner::Class(ClassId(((x - 1) % 4294967296) as u32))
+    }
+}
+
+fn owner_word(o: Owner) -> usize
+    ensures { λ r. ⌜ ownerFrom r ≡ o ⌝ }
+{
+    match o {
+        Owner::Class(c) => c.0 as usize + 1,
+        Owner::Nobody => 0,
+    }
+}
+
+// ---- rows read
+
+// The operand that stands at a word of a memory.
+pub fn read_opnd(m: &[usize], at: usize) -> Opnd
+    requires { ⌜ at + 1 < length (now m) ⌝ }
+    ensures { λ r. ⌜ r ≡ opndAt (now (m .entry)) at ⌝ }
+{
+    opnd_from(m[at], m[at + 1])
+}
+
+// The one function that reads an instruction.
+pub fn read_insn(m: &[usize], c: Counts, i: InsnId) -> Row
+    requires { ⌜ Ready (now m) c ⌝ }
+    requires { ⌜ i .0 < c .insns ⌝ }
+    ensures { λ r. ⌜ ReadsInsn (now (m .entry)) c (i .0) r ⌝ }
+{
+    let at = INSNS + 6 * (i.0 as usize);
+    Row {
+        block: BlockId((m[at + 1] % 4294967296) as u32),
+        op: op_from(m[at], m[at + 2], m[at + 3]),
+        first: m[at + 4],
+        count: m[at + 5],
+    }
+}
+
+// Operand j of an instruction.
+pub fn read_operand(m: &[usize], c: Counts, x: Row, j: usize) -> Opnd
+    requires { ⌜ Ready (now m) c ⌝ }
+    requires { ⌜ (x .first + x .count ≤ c .opnds) × (j < x .count) ⌝ }
+    ensures { λ r. ⌜ opndOf r ≡ nth (map opndOf (opndsIn (now (m .entry)) (opndsAt + 2 * x .first) (x .count))) j ⌝ }
+{
+    read_opnd(m, OPNDS + 2 * x.first + 2 * j)
+}
+
+pub fn read_fun(m: &[usize], c: Counts, f: FunId) -> Function
+    requires { ⌜ Ready (now m) c ⌝ }
+    requires { ⌜ f .0 < c .functions ⌝ }
+    ensures { λ r. ⌜ ReadsFun (now (m .entry)) c (f .0) r ⌝ }
+{
+    let at = FUNCTIONS + 4 * (f.0 as usize);
+    Function {
+        name: Name {
+            start: m[at],
+            len: m[at + 1],
+        },
+        class: owner_from(m[at + 2]),
+        entry: BlockId((m[at + 3] % 4294967296) as u32),
+    }
+}
+
+// The function of a block.
+pub fn function_of(m: &[usize], c: Counts, b: BlockId) -> FunId
+    requires { ⌜ Ready (now m) c ⌝ }
+    requires { ⌜ b .0 < c .blocks ⌝ }
+    ensures { λ r. ⌜ ReadsBlock (now (m .entry)) c (b .0) (r .0) ⌝ }
+{
+    let at = BLOCKS + 2 * (b.0 as usize);
+    FunId((m[at] % 4294967296) as u32)
+}
+
+// ---- rows written
+
+// The operand stands at a word of a memory.
+pub fn put_opnd(m: &mut [usize], at: usize, o: Opnd)
+    requires { ⌜ at + 1 < length (now m) ⌝ }
+    ensures { λ _. ⌜ Puts at (o ∷ []) (now (m .entry)) (now (m .exit)) ⌝ }
+{
+    let w = opnd_words(o);
+    m[at] = w.tag;
+    m[at + 1] = w.bits;
+}
+
+fn count_of(g: Given) -> usize
+    ensures { λ r. ⌜ r ≡ length (given g) ⌝ }
+{
+    match g {
+        Given::Zero => 0,
+        Given::One(_) => 1,
+        Given::Two(_, _) => 2,
+    }
+}
+
+fn put_given(m: &mut [usize], at: usize, g: Given)
+    requires { ⌜ at + 4 ≤ length (now m) ⌝ }
+    ensures { λ _. ⌜ Puts at (given g) (now (m .entry)) (now (m .exit)) ⌝ }
+{
+    match g {
+        Given::Zero => {}
+        Given::One(v) => {
+            put_opnd(m, at, v);
+        }
+        Given::Two(v, w) => {
+            put_opnd(m, at, v);
+            put_opnd(m, at + 2, w);
+        }
+    }
+}
+
+// n operands that stand in another memory from word a on.
+fn copy_opnds(args: &[usize], a: usize, n: usize, m: &mut [usize], at: usize)
+    requires { ⌜ a + 2 * n ≤ length (now args) ⌝ }
+    requires { ⌜ at + 2 * n ≤ length (now m) ⌝ }
+    ensures { λ _. ⌜ Puts at (opndsIn (now (args .entry)) a n) (now (m .entry)) (now (m .exit)) ⌝ }
+{
+    let mut i = 0;
+    while i < n {
+        let t = args[a + 2 * i];
+        let x = args[a + 2 * i + 1];
+        m[at + 2 * i] = t;
+        m[at + 2 * i + 1] = x;
+        i += 1;
+    }
+}
+
+fn put_insn(m: &mut [usize], i: InsnId, x: Row)
+    requires { ⌜ size ≤ length (now m) ⌝ }
+    requires { ⌜ i .0 < 2048 ⌝ }
+    ensures { λ _. ⌜ PutsRow (i .0) x (now (m .entry)) (now (m .exit)) ⌝ }
+{
+    let at = INSNS + 6 * (i.0 as usize);
+    let b = x.block;
+    let op = x.op;
+    let w = op_words(op);
+    m[at] = w.tag;
+    m[at + 1] = b.0 as usize;
+    m[at + 2] = w.x;
+    m[at + 3] = w.y;
+    m[at + 4] = x.first;
+    m[at + 5] = x.count;
+}
+
+// ---- instructions added
+
+// Questions 10 and 11 for an instruction of block b with k listed operands: 0, or the number of the first that is answered no.
+fn may_push(m: &[usize], c: Counts, l: Limits, b: BlockId, k: usize) -> u8
+    requires { ⌜ Ready (now m) c ⌝ }
+    requires { ⌜ b .0 < c .blocks ⌝ }
+    ensures { λ r. ⌜ Asks l (now (m .entry)) c (b .0) k r ⌝ }
+{
+    let at = BLOCKS + 2 * (b.0 as usize);
+    if m[at + 1] != 0 {
+        return 10;
+    }
+    if l.instructions <= c.insns {
+        return 11;
+    }
+    if l.operands < c.listed {
+        return 11;
+    }
+    if l.operands - c.listed < k {
+        return 11;
+    }
+    0
+}
+
+// An instruction whose n operands stand right behind those in use.
+fn commit(m: &mut [usize], c: Counts, b: BlockId, op: Op, n: usize) -> Counts
+    requires { ⌜ Ready (now m) c ⌝ }
+    requires { ⌜ Room (b .0) op n c ⌝ }
+    ensures { λ r. ⌜ Commits (b .0) op n (now (m .entry)) c (now (m .exit)) r ⌝ }
+{
+    let listed = listed_in(op, n);
+    let next = Counts {
+        functions: c.functions,
+        classes: c.classes,
+        blocks: c.blocks,
+        insns: c.insns + 1,
+        opnds: c.opnds + n,
+        listed: c.listed + listed,
+    };
+    put_insn(
+        m,
+        InsnId(c.insns as u32),
+        Row {
+            block: b,
+            op,
+            first: c.opnds,
+            count: n,
+        },
+    );
+    if ends_block(op) {
+        let at = BLOCKS + 2 * (b.0 as usize);
+        m[at + 1] = 1;
+        return next;
+    }
+    next
+}
+
+// An instruction with the n operands given.
+fn add_insn(m: &mut [usize], c: Counts, b: BlockId, op: Op, g: Given, n: usize) -> Counts
+    requires { ⌜ Ready (now m) c ⌝ }
+    requires { ⌜ Room (b .0) op n c ⌝ }
+    requires { ⌜ n ≡ length (given g) ⌝ }
+    ensures { λ r. ⌜ Adds (b .0) op (given g) (now (m .entry)) c (now (m .exit)) r ⌝ }
+{
+    let at = OPNDS + 2 * c.opnds;
+    put_given(m, at, g);
+    commit(m, c, b, op, n)
+}
+
+// An instruction that is no call is added to block b, or 10 or 11.
+pub fn push_insn(m: &mut [usize], c: Counts, l: Limits, b: BlockId, op: Op, g: Given) -> NewInsn
+    requires { ⌜ Ready (now m) c ⌝ }
+    requires { ⌜ Small l ⌝ }
+    requires { ⌜ b .0 < c .blocks ⌝ }
+    ensures { λ r. ⌜ Did (pushOf (limitsOf l) (b .0) op (given g)) unchanged (c .insns) (moreInsns op (length (given g)) c) (now (m .entry)) c (now (m .exit)) (insnOf r) ⌝ }
+{
+    let n = count_of(g);
+    let k = listed_in(op, n);
+    let e = may_push(m, c, l, b, k);
+    if e != 0 {
+        return NewInsn::Refused(e);
+    }
+    let i = InsnId(c.insns as u32);
+    let next = add_insn(m, c, b, op, g, n);
+    NewInsn::Added(i, next)
+}
+
+// An instruction with the k operands given, and behind them n that stand in another memory from word a on.
+fn add_call(
+    m: &mut [usize],
+    c: Counts,
+    b: BlockId,
+    op: Op,
+    g: Given,
+    k: usize,
+    args: &[usize],
+    a: usize,
+    n: usize,
+) -> Counts
+    requires { ⌜ Ready (now m) c ⌝ }
+    requires { ⌜ Room (b .0) op (k + n) c ⌝ }
+    requires { ⌜ (k ≡ length (given g)) × (a + 2 * n ≤ length (now args)) ⌝ }
+    ensures { λ r. ⌜ Adds (b .0) op (given g ++ opndsIn (now (args .entry)) a n) (now (m .entry)) c (now (m .exit)) r ⌝ }
+{
+    let at = OPNDS + 2 * c.opnds;
+    put_given(m, at, g);
+    copy_opnds(args, a, n, m, at + 2 * k);
+    commit(m, c, b, op, k + n)
+}
+
+fn push_static(
+    m: &mut [usize],
+    c: Counts,
+    l: Limits,
+    b: BlockId,
+    f: FunId,
+    args: &[usize],
+    a: usize,
+    n: usize,
+) -> NewInsn
+    requires { ⌜ Ready (now m) c ⌝ }
+    requires { ⌜ Small l ⌝ }
+    requires { ⌜ (b .0 < c .blocks) × (a + 2 * n ≤ length (now args)) ⌝ }
+    ensures { λ r. ⌜ Did (callOf (limitsOf l) (b .0) (Callee.Static f) (opndsIn (now (args .entry)) a n)) unchanged (c .insns) (moreCalls (Callee.Static f) n c) (now (m .entry)) c (now (m .exit)) (insnOf r) ⌝ }
+{
+    let e = may_push(m, c, l, b, n);
+    if e != 0 {
+        return NewInsn::Refused(e);
+    }
+    let i = InsnId(c.insns as u32);
+    let next = add_call(m, c, b, Op::SendStatic(f), Given::Zero, 0, args, a, n);
+    NewInsn::Added(i, next)
+}
+
+fn push_dynamic(
+    m: &mut [usize],
+    c: Counts,
+    l: Limits,
+    b: BlockId,
+    v: Opnd,
+    name: Name,
+    args: &[usize],
+    a: usize,
+    n: usize,
+) -> NewInsn
+    requires { ⌜ Ready (now m) c ⌝ }
+    requires { ⌜ Small l ⌝ }
+    requires { ⌜ (b .0 < c .blocks) × (a + 2 * n ≤ length (now args)) ⌝ }
+    ensures { λ r. ⌜ Did (callOf (limitsOf l) (b .0) (Callee.Dynamic v name) (opndsIn (now (args .entry)) a n)) unchanged (c .insns) (moreCalls (Callee.Dynamic v name) n c) (now (m .entry)) c (now (m .exit)) (insnOf r) ⌝ }
+{
+    let e = may_push(m, c, l, b, n);
+    if e != 0 {
+        return NewInsn::Refused(e);
+    }
+    let i = InsnId(c.insns as u32);
+    let next = add_call(m, c, b, Op::SendDynamic(name), Given::One(v), 1, args, a, n);
+    NewInsn::Added(i, next)
+}
+
+// A call is added to block b, or 10 or 11; its n arguments stand in another memory from word a on.
+pub fn push_call(
+    m: &mut [usize],
+    c: Counts,
+    l: Limits,
+    b: BlockId,
+    callee: Callee,
+    args: &[usize],
+    a: usize,
+    n: usize,
+) -> NewInsn
+    requires { ⌜ Ready (now m) c ⌝ }
+    requires { ⌜ Small l ⌝ }
+    requires { ⌜ (b .0 < c .blocks) × (a + 2 * n ≤ length (now args)) ⌝ }
+    ensures { λ r. ⌜ Did (callOf (limitsOf l) (b .0) callee (opndsIn (now (args .entry)) a n)) unchanged (c .insns) (moreCalls callee n c) (now (m .entry)) c (now (m .exit)) (insnOf r) ⌝ }
+{
+    match callee {
+        Callee::Static(f) => push_static(m, c, l, b, f, args, a, n),
+        Callee::Dynamic(v, name) => push_dynamic(m, c, l, b, v, name, args, a, n),
+    }
+}
+
+// ---- blocks, functions and classes added
+
+fn put_block(m: &mut [usize], b: BlockId, f: FunId)
+    requires { ⌜ size ≤ length (now m) ⌝ }
+    requires { ⌜ b .0 < 1024 ⌝ }
+    ensures { λ _. ⌜ PutsBlock (b .0) (f .0) (now (m .entry)) (now (m .exit)) ⌝ }
+{
+    let at = BLOCKS + 2 * (b.0 as usize);
+    m[at] = f.0 as usize;
+    m[at + 1] = 0;
+}
+
+fn put_fun(m: &mut [usize], f: FunId, x: Function)
+    requires { ⌜ size ≤ length (now m) ⌝ }
+    requires { ⌜ f .0 < 128 ⌝ }
+    ensures { λ _. ⌜ PutsFun (f .0) x (now (m .entry)) (now (m .exit)) ⌝ }
+{
+    let at = FUNCTIONS + 4 * (f.0 as usize);
+    let name = x.name;
+    let class = x.class;
+    let entry = x.entry;
+    let w = owner_word(class);
+    m[at] = name.start;
+    m[at + 1] = name.len;
+    m[at + 2] = w;
+    m[at + 3] = entry.0 as usize;
+}
+
+fn put_class(m: &mut [usize], k: ClassId, x: Name)
+    requires { ⌜ size ≤ length (now m) ⌝ }
+    requires { ⌜ k .0 < 64 ⌝ }
+    ensures { λ _. ⌜ PutsClass (k .0) x (now (m .entry)) (now (m .exit)) ⌝ }
+{
+    let at = CLASSES + 4 * (k.0 as usize);
+    m[at] = x.start;
+    m[at + 1] = x.len;
+    m[at + 2] = 0;
+}
+
+// A block of function f is opened, or 11.
+pub fn new_block(m: &mut [usize], c: Counts, l: Limits, f: FunId) -> NewBlock
+    requires { ⌜ Ready (now m) c ⌝ }
+    requires { ⌜ Small l ⌝ }
+    ensures { λ r. ⌜ Did (blockFor (limitsOf l) (f .0)) unchanged (c .blocks) (moreBlocks c) (now (m .entry)) c (now (m .exit)) (blockOf r) ⌝ }
+{
+    let n = c.blocks;
+    if l.blocks <= n {
+        return NewBlock::Refused(11);
+    }
+    let b = BlockId(n as u32);
+    put_block(m, b, f);
+    NewBlock::Added(
+        b,
+        Counts {
+            functions: c.functions,
+            classes: c.classes,
+            blocks: n + 1,
+            insns: c.insns,
+            opnds: c.opnds,
+            listed: c.listed,
+        },
+    )
+}
+
+// A block of the function being read, which is the last, or 11.
+pub fn next_block(m: &mut [usize], c: Counts, l: Limits) -> NewBlock
+    requires { ⌜ Ready (now m) c ⌝ }
+    requires { ⌜ Small l ⌝ }
+    ensures { λ r. ⌜ Did (nextBlock (limitsOf l)) unchanged (c .blocks) (moreBlocks c) (now (m .entry)) c (now (m .exit)) (blockOf r) ⌝ }
+{
+    let n = c.functions;
+    if n == 0 {
+        return new_block(m, c, l, FunId(0));
+    }
+    new_block(m, c, l, FunId((n - 1) as u32))
+}
+
+// A function with its entry block, or 11.
+pub fn new_fun(m: &mut [usize], c: Counts, l: Limits, name: Name, class: Owner) -> NewFun
+    requires { ⌜ Ready (now m) c ⌝ }
+    requires { ⌜ Small l ⌝ }
+    ensures { λ r. ⌜ DidFun l name class (now (m .entry)) c (now (m .exit)) r ⌝ }
+{
+    let n = c.functions;
+    let f = FunId(n as u32);
+    match new_block(m, c, l, f) {
+        NewBlock::Added(entry, d) => {
+            if l.functions <= n {
+                return NewFun::Refused(11);
+            }
+            put_fun(m, f, Function { name, class, entry });
+            NewFun::Added(
+                f,
+                entry,
+                Counts {
+                    functions: n + 1,
+                    classes: d.classes,
+                    blocks: d.blocks,
+                    insns: d.insns,
+                    opnds: d.opnds,
+                    listed: d.listed,
+                },
+            )
+        }
+        NewBlock::Refused(e) => NewFun::Refused(e),
+    }
+}
+
+pub fn new_class(m: &mut [usize], c: Counts, l: Limits, name: Name) -> NewClass
+    requires { ⌜ Ready (now m) c ⌝ }
+    requires { ⌜ Small l ⌝ }
+    ensures { λ r. ⌜ Did (classFor (limitsOf l) name) unchanged (c .classes) (moreClasses c) (now (m .entry)) c (now (m .exit)) (classOf r) ⌝ }
+{
+    let n = c.classes;
+    if l.classes <= n {
+        return NewClass::Refused(11);
+    }
+    let k = ClassId(n as u32);
+    put_class(m, k, name);
+    NewClass::Added(
+        k,
+        Counts {
+            functions: c.functions,
+            classes: n + 1,
+            blocks: c.blocks,
+            insns: c.insns,
+            opnds: c.opnds,
+            listed: c.listed,
+        },
+    )
+}
+
+// The program before any reading: the four built-in classes.
+pub fn no_program(m: &mut [usize]) -> Counts
+    requires { ⌜ size ≤ length (now m) ⌝ }
+    ensures { λ r. ⌜ Starts (now (m .exit)) r ⌝ }
+{
+    put_class(m, ClassId(0), Name { start: 0, len: 0 });
+    put_class(m, ClassId(1), Name { start: 0, len: 0 });
+    put_class(m, ClassId(2), Name { start: 0, len: 0 });
+    put_class(m, ClassId(3), Name { start: 0, len: 0 });
+    Counts {
+        functions: 0,
+        classes: 4,
+        blocks: 0,
+        insns: 0,
+        opnds: 0,
+        listed: 0,
+    }
+}

@@ -1,0 +1,5 @@
+pub mod Order
+pub mod Sorted
+pub mod Made
+pub mod Rows
+pub mod Joins

@@ -1,0 +1,4 @@
+pub mod Listed
+pub mod Ring
+pub mod Bit
+pub mod Walk

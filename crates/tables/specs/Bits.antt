@@ -1,0 +1,38 @@
+-- Rows of bits in a memory of 64-bit words, the lowest bit of a row's first word first. Assumes nothing.
+use mathlib.Core.Bool.{Bool as 𝔹, not}
+use mathlib.Core.Path.{_≡_}
+use mathlib.Core.List.{List, [], _∷_}
+use Prim.Native.Nat.{ℕ, suc, _+_, _/_, _%_, _^_, _≤_, _<_}
+use lib.Dec.{eqb}
+use lib.Bits.{bitOr}
+use lib.ListN.{getD, set, drop}
+use Rattle.rules.specs.Lists.{placesFrom}
+use Rattle.tables.specs.Tables.{listed}
+use Rattle.tables.specs.declared.Found.{Found}
+use Rattle.tables.specs.declared.Found.the-variants.{At, Nothing}
+
+-- bit n of the row whose first word is at base
+unfoldable pub bitAt : List ℕ → ℕ → ℕ → 𝔹
+bitAt m base n = not (eqb (getD m (base + n / 64) 0 / 2 ^ (n % 64) % 2) 0)
+
+-- the memory with that bit set
+unfoldable pub withBit : List ℕ → ℕ → ℕ → List ℕ
+withBit m base n = set m (base + n / 64) (bitOr (getD m (base + n / 64) 0) (2 ^ (n % 64)))
+
+-- the places, from k on, of the first n values of b that are true: rising
+unfoldable pub after : (ℕ → 𝔹) → ℕ → ℕ → List ℕ
+after b n k = placesFrom k (λ t. t) (drop k (listed n b))
+
+-- what the walk finds, and the places behind it
+abbrev pub goesOn : (ℕ → 𝔹) → ℕ → Found → List ℕ
+goesOn b n (At j) = j ∷ after b n (suc j)
+goesOn b n Nothing = []
+
+abbrev pub Within : ℕ → ℕ → Found → Type 0
+Within k n (At j) = (k ≤ j) × (j < n)
+Within k n Nothing = Unit
+
+-- r is the first place from k on
+pub record Next (b : ℕ → 𝔹) (n k : ℕ) (r : Found) : Type 0 where
+  pub is : after b n k ≡ goesOn b n r
+  pub ok : Within k n r

@@ -1,0 +1,50 @@
+// Rows of bits in a memory of 64-bit words.
+ghost use mathlib.Core.Path.{_≡_};
+ghost use Prim.Native.Nat.{_+_, _/_, _≤_, _<_};
+ghost use lib.ListN.{length};
+ghost use Rattle.tables.specs.Bits.{bitAt, withBit, Next};
+
+// The next set bit of a row.
+pub enum Found {
+    At(usize),
+    Nothing,
+}
+
+// Bit i of the row that starts at base.
+pub fn test_bit(m: &[usize], base: usize, i: usize) -> bool
+    requires { ⌜ base + i / 64 < length (now m) ⌝ }
+    ensures { λ r. ⌜ r ≡ bitAt (now (m .entry)) base i ⌝ }
+{
+    let word = m[base + i / 64];
+    (word >> (i % 64)) % 2 != 0
+}
+
+pub fn set_bit(m: &mut [usize], base: usize, i: usize)
+    requires { ⌜ base + i / 64 < length (now m) ⌝ }
+    ensures { λ _. ⌜ now (m .exit) ≡ withBit (now (m .entry)) base i ⌝ }
+{
+    let at = base + i / 64;
+    m[at] = m[at] | (1 << (i % 64));
+}
+
+// The first set bit from `from` on, among the first n bits of the row.
+pub fn next_bit(m: &[usize], base: usize, from: usize, n: usize) -> Found
+    requires { ⌜ (n ≤ 2048) × (base + 32 ≤ length (now m)) ⌝ }
+    ensures { λ r. ⌜ Next (bitAt (now (m .entry)) base) n from r ⌝ }
+{
+    let mut i = from;
+    while i < n {
+        let passed = i % 64;
+        let rest = m[base + i / 64] >> passed;
+        if rest != 0 {
+            let zeros = u64::trailing_zeros(rest as u64);
+            let j = i + zeros as usize;
+            if j < n {
+                return Found::At(j);
+            }
+            return Found::Nothing;
+        }
+        i = i - passed + 64;
+    }
+    Found::Nothing
+}

@@ -1,0 +1,318 @@
+// The words of a script, and names as places in it.
+ghost use mathlib.Core.Path.{_≡_};
+ghost use Prim.Native.Nat.{_+_, _-_, _<_};
+ghost use lib.ListN.{drop};
+ghost use Rattle.rules.specs.Lists.{same, precedes};
+ghost use Rattle.rules.specs.Words.{blank, letter, inWord, digit, sign, run, decimal};
+ghost use Rattle.words.specs.Names.{name, fit as fit_of, order};
+ghost use Rattle.words.specs.Lexed.{kindIn, keptWords, fitting, Lexes};
+
+// The kinds of words. A sign's kind is its byte.
+pub const END_OF_TEXT: u8 = 0;
+
+pub const NAME: u8 = 1;
+
+pub const NUMBER: u8 = 2;
+
+pub const DEF: u8 = 3;
+
+pub const CLASS: u8 = 4;
+
+pub const END: u8 = 5;
+
+pub const RETURN: u8 = 6;
+
+pub const IF: u8 = 7;
+
+pub const ELSE: u8 = 8;
+
+pub const ATTR_ACCESSOR: u8 = 9;
+
+// The largest literal, and that without its last digit.
+const MOST: u64 = 9223372036854775807;
+
+const MOST_TENS: u64 = 922337203685477580;
+
+// A word: its kind, a literal's value, its place in the script and the place behind it.
+pub struct Word {
+    pub kind: u8,
+    pub value: u64,
+    pub start: usize,
+    pub len: usize,
+    pub next: usize,
+}
+
+// A word, or the number of a refusal.
+pub enum Lexed {
+    Found(Word),
+    Refused(u8),
+}
+
+// A literal's value, where i64 holds it.
+pub enum Number {
+    Of(u64),
+    Over,
+}
+
+fn wide(b: u8) -> u64
+    ensures { λ r. ⌜ r ≡ b ⌝ }
+{
+    b as u64
+}
+
+// ---- names
+
+// How many of the n bytes from a on a script of that length has.
+fn fit(len: usize, a: usize, n: usize) -> usize
+    ensures { λ r. ⌜ r ≡ fit_of len a n ⌝ }
+{
+    if a < len {
+        let rest = len - a;
+        if n < rest { n } else { rest }
+    } else {
+        0
+    }
+}
+
+// The order of two names: 0 below, 1 the same, 2 above.
+pub fn compare(s: &[u8], a: usize, n: usize, t: &[u8], b: usize, m: usize) -> u8
+    ensures { λ r. ⌜ r ≡ order (name (now (s .entry)) a n) (name (now (t .entry)) b m) ⌝ }
+{
+    let n1 = fit(s.len(), a, n);
+    let m1 = fit(t.len(), b, m);
+    let mut i = 0;
+    while i < n1 {
+        if i == m1 {
+            return 2;
+        }
+        let x = s[a + i];
+        let y = t[b + i];
+        if x < y {
+            return 0;
+        }
+        if y < x {
+            return 2;
+        }
+        i += 1;
+    }
+    if i == m1 { 1 } else { 0 }
+}
+
+pub fn same_name(s: &[u8], a: usize, n: usize, b: usize, m: usize) -> bool
+    ensures { λ r. ⌜ r ≡ same (name (now (s .entry)) a n) (name (now (s .entry)) b m) ⌝ }
+{
+    compare(s, a, n, s, b, m) == 1
+}
+
+// Rising byte order.
+pub fn precedes_name(s: &[u8], a: usize, n: usize, b: usize, m: usize) -> bool
+    ensures { λ r. ⌜ r ≡ precedes (name (now (s .entry)) a n) (name (now (s .entry)) b m) ⌝ }
+{
+    compare(s, a, n, s, b, m) == 0
+}
+
+// Whether a name has the bytes t.
+pub fn spells(s: &[u8], a: usize, n: usize, t: &[u8]) -> bool
+    ensures { λ r. ⌜ r ≡ same (name (now (s .entry)) a n) (now (t .entry)) ⌝ }
+{
+    compare(s, a, n, t, 0, t.len()) == 1
+}
+
+// ---- bytes
+
+fn is_blank(b: u8) -> bool
+    ensures { λ r. ⌜ r ≡ blank b ⌝ }
+{
+    ((9 <= b) & (b <= 13)) | (b == 32)
+}
+
+fn is_letter(b: u8) -> bool
+    ensures { λ r. ⌜ r ≡ letter b ⌝ }
+{
+    ((65 <= b) & (b <= 90)) | ((97 <= b) & (b <= 122))
+}
+
+fn is_in_word(b: u8) -> bool
+    ensures { λ r. ⌜ r ≡ inWord b ⌝ }
+{
+    is_letter(b) | (b == 95)
+}
+
+fn is_digit(b: u8) -> bool
+    ensures { λ r. ⌜ r ≡ digit b ⌝ }
+{
+    (48 <= b) & (b <= 57)
+}
+
+fn is_sign(b: u8) -> bool
+    ensures { λ r. ⌜ r ≡ sign b ⌝ }
+{
+    (b == b'(')
+        | ((b == b')')
+            | ((b == b',')
+                | ((b == b'+')
+                    | ((b == b'-')
+                        | ((b == b'*')
+                            | ((b == b'=')
+                                | ((b == b'<')
+                                    | ((b == b'.') | ((b == b':') | ((b == b'@') | false))))))))))
+}
+
+// ---- runs of bytes: the place behind them
+
+pub fn skip_blank(s: &[u8], at: usize) -> usize
+    ensures { λ r. ⌜ r ≡ at + run blank (drop at (now (s .entry))) ⌝ }
+{
+    let mut i = at;
+    while i < s.len() {
+        if is_blank(s[i]) {
+            i += 1;
+        } else {
+            return i;
+        }
+    }
+    i
+}
+
+fn skip_word(s: &[u8], at: usize) -> usize
+    ensures { λ r. ⌜ r ≡ at + run inWord (drop at (now (s .entry))) ⌝ }
+{
+    let mut i = at;
+    while i < s.len() {
+        if is_in_word(s[i]) {
+            i += 1;
+        } else {
+            return i;
+        }
+    }
+    i
+}
+
+fn skip_digits(s: &[u8], at: usize) -> usize
+    ensures { λ r. ⌜ r ≡ at + run digit (drop at (now (s .entry))) ⌝ }
+{
+    let mut i = at;
+    while i < s.len() {
+        if is_digit(s[i]) {
+            i += 1;
+        } else {
+            return i;
+        }
+    }
+    i
+}
+
+// ---- words
+
+// The digit's number, 0 of a byte below the digits.
+fn digit_of(b: u8) -> u64
+    ensures { λ r. ⌜ (r ≡ b - 48) × (r < 256) ⌝ }
+{
+    if b < 48 { 0 } else { wide(b - 48) }
+}
+
+// The number that the n bytes from a on write, unless it leaves i64.
+fn literal(s: &[u8], a: usize, n: usize) -> Number
+    ensures { λ r. ⌜ r ≡ fitting (decimal 0 (name (now (s .entry)) a n)) ⌝ }
+{
+    let k = fit(s.len(), a, n);
+    let mut v: u64 = 0;
+    let mut i = 0;
+    while i < k {
+        if MOST_TENS < v {
+            return Number::Over;
+        }
+        let next = v * 10 + digit_of(s[a + i]);
+        if MOST < next {
+            return Number::Over;
+        }
+        v = next;
+        i += 1;
+    }
+    Number::Of(v)
+}
+
+// The kind of a word that begins with a letter.
+fn kept_kind(s: &[u8], a: usize, n: usize) -> u8
+    ensures { λ r. ⌜ r ≡ kindIn keptWords (name (now (s .entry)) a n) 1 ⌝ }
+{
+    if spells(s, a, n, b"def") {
+        return DEF;
+    }
+    if spells(s, a, n, b"class") {
+        return CLASS;
+    }
+    if spells(s, a, n, b"end") {
+        return END;
+    }
+    if spells(s, a, n, b"return") {
+        return RETURN;
+    }
+    if spells(s, a, n, b"if") {
+        return IF;
+    }
+    if spells(s, a, n, b"else") {
+        return ELSE;
+    }
+    if spells(s, a, n, b"attr_accessor") {
+        return ATTR_ACCESSOR;
+    }
+    NAME
+}
+
+// The next word from a place on, blanks skipped.
+pub fn word_at(s: &[u8], at: usize) -> Lexed
+    ensures { λ r. ⌜ Lexes (now (s .entry)) at r ⌝ }
+{
+    let start = skip_blank(s, at);
+    if s.len() <= start {
+        return Lexed::Found(Word {
+            kind: END_OF_TEXT,
+            value: 0,
+            start,
+            len: 0,
+            next: start,
+        });
+    }
+    let b = s[start];
+    if is_letter(b) {
+        let next = skip_word(s, start);
+        let len = next - start;
+        let kind = kept_kind(s, start, len);
+        return Lexed::Found(Word {
+            kind,
+            value: 0,
+            start,
+            len,
+            next,
+        });
+    }
+    if is_digit(b) {
+        let next = skip_digits(s, start);
+        let len = next - start;
+        match literal(s, start, len) {
+            Number::Of(value) => {
+                return Lexed::Found(Word {
+                    kind: NUMBER,
+                    value,
+                    start,
+                    len,
+                    next,
+                });
+            }
+            Number::Over => {
+                return Lexed::Refused(4);
+            }
+        }
+    }
+    if is_sign(b) {
+        return Lexed::Found(Word {
+            kind: b,
+            value: 0,
+            start,
+            len: 1,
+            next: start + 1,
+        });
+    }
+    Lexed::Refused(3)
+}
