@@ -1,0 +1,38 @@
+-- `lookups::method_is` meets its contract. Assumes nothing.
+use Rattle.lookups.proofs.Rows.{method-same, method-other, method-none}
+use borrow.Author.Needs.{needs}
+use Rattle.lookups.proofs.method_is.Statement.{statement}
+use Rattle.lookups.proofs.method_is.Tie as tie
+
+read-fun-requires : tie.Need-read-fun-requires
+read-fun-requires c κs = search needs
+
+enum-known-class : tie.Need-enum-known-class
+enum-known-class c = search needs
+
+same-name-requires : tie.Need-same-name-requires
+same-name-requires c κs = search needs
+
+returns : tie.Need-returns
+returns c = search method-same
+
+enum-told : tie.Need-enum-told
+enum-told c = search needs
+
+returns-2 : tie.Need-returns-2
+returns-2 c = search method-other
+
+returns-3 : tie.Need-returns-3
+returns-3 c = search method-none
+
+pub method-is-spec : {M : Type 1} → statement M
+method-is-spec =
+    tie.close
+    (tie.spec
+    read-fun-requires
+    enum-known-class
+    same-name-requires
+    returns
+    enum-told
+    returns-2
+    returns-3)
