@@ -1,0 +1,373 @@
+use Rattle.constructors.proofs.Walking.{mark-good, mark-falls, mark-room, next-falls, next-room, last-room, walk-return, walk-open, walk-jump, walk-choice, jump-inside, then-inside, else-inside, visit-new, visit-old}
+use Rattle.constructors.specs.Walks.{unseen}
+use lib.ListN.{length-set}
+use mathlib.Core.List.{[]}
+use mathlib.Core.Path.{_∙_}
+use Prim.Native.Nat.{ℕ, _<_, _+_, _*_}
+use native.Mathlib.Omega.{arith}
+use borrow.Author.Needs.{needs}
+use borrow.Fn.Kinds.{In}
+use borrow.Fn.PlainCycle.{Measures, is, falls, and}
+use Rattle.constructors.proofs.visit.Reads as visit
+use Rattle.constructors.proofs.visit.Kinds as visit-kinds
+use Rattle.constructors.proofs.+visit+walk.Lts-visit as visit-lts
+use Rattle.constructors.proofs.walk.Reads as walk
+use Rattle.constructors.proofs.walk.Kinds as walk-kinds
+use Rattle.constructors.proofs.+visit+walk.Lts-walk as walk-lts
+use Rattle.constructors.proofs.end_of.Reads as end-of-reads
+use Rattle.constructors.proofs.push.Reads as push-reads
+use Rattle.constructors.proofs.+visit+walk.{statement}
+use Rattle.constructors.proofs.+visit+walk.Tie.{close}
+
+abbrev μ-visit : Measures 3 visit-kinds.ps ℕ
+μ-visit κs a = 2 * unseen (a .1 .1 .1 .0 .now) (a .1 .0 .blocks) + 1
+
+abbrev μ-walk : Measures 3 walk-kinds.ps ℕ
+μ-walk κs a = 2 * unseen (a .1 .1 .1 .0 .now) (a .1 .0 .blocks)
+
+abbrev visit-at : ℕ → In 3 visit-kinds.ps
+visit-at t = and 3 visit-kinds.ps (is 3 visit-kinds.ps μ-visit t) visit.Pre
+
+abbrev visit-below : ℕ → In 3 visit-kinds.ps
+visit-below t = and 3 visit-kinds.ps (falls 3 visit-kinds.ps _<_ μ-visit t) visit.Pre
+
+abbrev walk-at : ℕ → In 3 walk-kinds.ps
+walk-at t = and 3 walk-kinds.ps (is 3 walk-kinds.ps μ-walk t) walk.Pre
+
+abbrev walk-below : ℕ → In 3 walk-kinds.ps
+walk-below t = and 3 walk-kinds.ps (falls 3 walk-kinds.ps _<_ μ-walk t) walk.Pre
+
+-- src/lib.rt:85:14
+visit-cast-at : (t : ℕ) → visit-lts.Need-cast-at (walk-below t, walk.Post) (visit-at t) visit.Post
+visit-cast-at t c = search needs
+
+-- src/lib.rt:86:8
+visit-mul-if1 : (t : ℕ) → visit-lts.Need-mul-if1 (walk-below t, walk.Post) (visit-at t) visit.Post
+visit-mul-if1 t c = search needs
+
+-- src/lib.rt:86:8
+visit-slice-read-if1 :
+    (t : ℕ) → visit-lts.Need-slice-read-if1 (walk-below t, walk.Post) (visit-at t) visit.Post
+visit-slice-read-if1 t c = omega (arith, c .before .before .before .before .before .pre .1 .1 .1 .1 .0 .len, c .before .before .before .before .before .pre .1 .1 .1 .1 .0 .few, c .before .before .before .before .before .pre .1 .1 .1 .1 .1)
+
+-- src/lib.rt:87:9
+visit-walk-requires :
+    (t : ℕ) → visit-lts.Need-walk-requires (walk-below t, walk.Post) (visit-at t) visit.Post
+visit-walk-requires t c κs = (omega arith, (c .before .before .before .before .before .before .before .pre .1 .0, (c .before .before .before .before .before .before .before .pre .1 .1 .0, (c .before .before .before .before .before .before .before .pre .1 .1 .1 .0, (c .before .before .before .before .before .before .before .pre .1 .1 .1 .1 .0, (c .before .before .before .before .before .before .before .pre .1 .1 .1 .1 .1, c .before .if1 .taken))))))
+
+-- src/lib.rt:77:1
+visit-same-length :
+    (t : ℕ) → visit-lts.Need-same-length (walk-below t, walk.Post) (visit-at t) visit.Post
+visit-same-length t c = search needs
+
+-- src/lib.rt:77:1
+visit-returns : (t : ℕ) → visit-lts.Need-returns (walk-below t, walk.Post) (visit-at t) visit.Post
+visit-returns t c = visit-new (c .before .before .before .before .before .before .before .before .before .before .args .m .now) (c .before .before .before .before .before .before .before .before .before .before .args .c) (c .before .before .before .before .before .before .before .before .before .before .pre .1 .1 .1 .1 .0) (c .before .before .before .before .before .before .before .before .before .before .pre .1 .1 .1 .1 .1) (c .before .before .before .before .if1 .taken) (c .before .before .walk .ensures)
+
+-- src/lib.rt:77:1
+visit-returns-2 :
+    (t : ℕ) → visit-lts.Need-returns-2 (walk-below t, walk.Post) (visit-at t) visit.Post
+visit-returns-2 t c = visit-old (c .before .before .before .before .before .before .args .m .now) (c .before .before .before .before .before .before .args .c) (c .before .before .before .before .before .before .pre .1 .1 .1 .1 .0) (c .before .before .before .before .before .before .pre .1 .1 .1 .1 .1) (c .if1 .left)
+
+-- src/lib.rt:103:14
+walk-cast-at : (t : ℕ) → walk-lts.Need-cast-at (
+  end-of-reads.Asked,
+  end-of-reads.Learnt,
+  push-reads.Asked,
+  push-reads.Learnt,
+  visit-below t,
+  visit.Post,
+) (walk-at t) walk.Post
+walk-cast-at t c = search needs
+
+-- src/lib.rt:104:5
+walk-mul-w : (t : ℕ) → walk-lts.Need-mul-w (
+  end-of-reads.Asked,
+  end-of-reads.Learnt,
+  push-reads.Asked,
+  push-reads.Learnt,
+  visit-below t,
+  visit.Post,
+) (walk-at t) walk.Post
+walk-mul-w t c = search needs
+
+-- src/lib.rt:104:5
+walk-slice-write-w : (t : ℕ) → walk-lts.Need-slice-write-w (
+  end-of-reads.Asked,
+  end-of-reads.Learnt,
+  push-reads.Asked,
+  push-reads.Learnt,
+  visit-below t,
+  visit.Post,
+) (walk-at t) walk.Post
+walk-slice-write-w t c = omega (arith, c .before .before .before .before .pre .1 .1 .1 .1 .0 .len, c .before .before .before .before .pre .1 .1 .1 .1 .0 .few, c .before .before .before .before .pre .1 .1 .1 .1 .1 .0)
+
+-- src/lib.rt:105:9
+walk-end-of-requires : (t : ℕ) → walk-lts.Need-end-of-requires (
+  end-of-reads.Asked,
+  end-of-reads.Learnt,
+  push-reads.Asked,
+  push-reads.Learnt,
+  visit-below t,
+  visit.Post,
+) (walk-at t) walk.Post
+walk-end-of-requires t c κs = search needs
+
+-- src/lib.rt:107:30
+walk-enum-told : (t : ℕ) → walk-lts.Need-enum-told (
+  end-of-reads.Asked,
+  end-of-reads.Learnt,
+  push-reads.Asked,
+  push-reads.Learnt,
+  visit-below t,
+  visit.Post,
+) (walk-at t) walk.Post
+walk-enum-told t c = search needs
+
+-- src/lib.rt:107:25
+walk-push-requires : (t : ℕ) → walk-lts.Need-push-requires (
+  end-of-reads.Asked,
+  end-of-reads.Learnt,
+  push-reads.Asked,
+  push-reads.Learnt,
+  visit-below t,
+  visit.Post,
+) (walk-at t) walk.Post
+walk-push-requires t c κs = (mark-good [] (c .before .before .before .before .before .before .before .before .args .c) (c .before .before .before .before .before .before .before .before .pre .1 .1 .1 .1 .0) (c .before .before .before .before .before .before .before .before .pre .1 .1 .1 .1 .1 .0) (c .before .before .before .before .before .before .before .before .pre .1 .1 .1 .1 .1 .1) .len, mark-room [] (c .before .before .before .before .before .before .before .before .args .c) (c .before .before .before .before .before .before .before .before .pre .1 .1 .1 .1 .0) (c .before .before .before .before .before .before .before .before .pre .1 .1 .1 .1 .1 .0) (c .before .before .before .before .before .before .before .before .pre .1 .1 .1 .1 .1 .1))
+
+-- src/lib.rt:108:20
+walk-enum-known-e : (t : ℕ) → walk-lts.Need-enum-known-e (
+  end-of-reads.Asked,
+  end-of-reads.Learnt,
+  push-reads.Asked,
+  push-reads.Learnt,
+  visit-below t,
+  visit.Post,
+) (walk-at t) walk.Post
+walk-enum-known-e t c = search needs
+
+-- src/lib.rt:109:17
+walk-visit-requires : (t : ℕ) → walk-lts.Need-visit-requires (
+  end-of-reads.Asked,
+  end-of-reads.Learnt,
+  push-reads.Asked,
+  push-reads.Learnt,
+  visit-below t,
+  visit.Post,
+) (walk-at t) walk.Post
+walk-visit-requires t c κs = (mark-falls [] (c .before .before .before .before .before .before .before .before .before .args .c) (c .before .before .before .before .before .before .before .before .before .pre .1 .1 .1 .1 .0) (c .before .before .before .before .before .before .before .before .before .pre .1 .1 .1 .1 .1 .0) (c .before .before .before .before .before .before .before .before .before .pre .1 .1 .1 .1 .1 .1) _ (c .before .before .before .before .before .before .before .before .before .pre .0), (c .before .before .before .before .before .before .before .before .before .pre .1 .0, (c .before .before .before .before .before .before .before .before .before .pre .1 .1 .0, (c .before .before .before .before .before .before .before .before .before .pre .1 .1 .1 .0, (mark-good [] (c .before .before .before .before .before .before .before .before .before .args .c) (c .before .before .before .before .before .before .before .before .before .pre .1 .1 .1 .1 .0) (c .before .before .before .before .before .before .before .before .before .pre .1 .1 .1 .1 .1 .0) (c .before .before .before .before .before .before .before .before .before .pre .1 .1 .1 .1 .1 .1), search jump-inside)))))
+
+-- src/lib.rt:110:13
+walk-push-requires-2 : (t : ℕ) → walk-lts.Need-push-requires-2 (
+  end-of-reads.Asked,
+  end-of-reads.Learnt,
+  push-reads.Asked,
+  push-reads.Learnt,
+  visit-below t,
+  visit.Post,
+) (walk-at t) walk.Post
+walk-push-requires-2 t c κs = (c .before .before .before .visit .ensures .good .len, next-room (c .before .before .before .before .before .before .before .before .before .before .before .before .before .args .c) (c .before .before .before .before .before .before .before .before .before .before .before .before .before .pre .1 .1 .1 .1 .0) (c .before .before .before .before .before .before .before .before .before .before .before .before .before .pre .1 .1 .1 .1 .1 .0) (c .before .before .before .before .before .before .before .before .before .before .before .before .before .pre .1 .1 .1 .1 .1 .1) (c .before .before .before .visit .ensures))
+
+-- src/lib.rt:112:22
+walk-enum-known-e-2 : (t : ℕ) → walk-lts.Need-enum-known-e-2 (
+  end-of-reads.Asked,
+  end-of-reads.Learnt,
+  push-reads.Asked,
+  push-reads.Learnt,
+  visit-below t,
+  visit.Post,
+) (walk-at t) walk.Post
+walk-enum-known-e-2 t c = search needs
+
+-- src/lib.rt:113:17
+walk-visit-requires-2 : (t : ℕ) → walk-lts.Need-visit-requires-2 (
+  end-of-reads.Asked,
+  end-of-reads.Learnt,
+  push-reads.Asked,
+  push-reads.Learnt,
+  visit-below t,
+  visit.Post,
+) (walk-at t) walk.Post
+walk-visit-requires-2 t c κs = (mark-falls [] (c .before .before .before .before .before .before .before .before .before .args .c) (c .before .before .before .before .before .before .before .before .before .pre .1 .1 .1 .1 .0) (c .before .before .before .before .before .before .before .before .before .pre .1 .1 .1 .1 .1 .0) (c .before .before .before .before .before .before .before .before .before .pre .1 .1 .1 .1 .1 .1) _ (c .before .before .before .before .before .before .before .before .before .pre .0), (c .before .before .before .before .before .before .before .before .before .pre .1 .0, (c .before .before .before .before .before .before .before .before .before .pre .1 .1 .0, (c .before .before .before .before .before .before .before .before .before .pre .1 .1 .1 .0, (mark-good [] (c .before .before .before .before .before .before .before .before .before .args .c) (c .before .before .before .before .before .before .before .before .before .pre .1 .1 .1 .1 .0) (c .before .before .before .before .before .before .before .before .before .pre .1 .1 .1 .1 .1 .0) (c .before .before .before .before .before .before .before .before .before .pre .1 .1 .1 .1 .1 .1), search then-inside)))))
+
+-- src/lib.rt:114:17
+walk-visit-requires-3 : (t : ℕ) → walk-lts.Need-visit-requires-3 (
+  end-of-reads.Asked,
+  end-of-reads.Learnt,
+  push-reads.Asked,
+  push-reads.Learnt,
+  visit-below t,
+  visit.Post,
+) (walk-at t) walk.Post
+walk-visit-requires-3 t c κs = (next-falls (c .before .before .before .before .before .before .before .before .before .before .before .before .before .args .c) (c .before .before .before .before .before .before .before .before .before .before .before .before .before .pre .1 .1 .1 .1 .0) (c .before .before .before .before .before .before .before .before .before .before .before .before .before .pre .1 .1 .1 .1 .1 .0) (c .before .before .before .before .before .before .before .before .before .before .before .before .before .pre .1 .1 .1 .1 .1 .1) (c .before .before .before .visit2 .ensures) _ (c .before .before .before .before .before .before .before .before .before .before .before .before .before .pre .0), (c .before .before .before .before .before .before .before .before .before .before .before .before .before .pre .1 .0, (c .before .before .before .before .before .before .before .before .before .before .before .before .before .pre .1 .1 .0, (c .before .before .before .before .before .before .before .before .before .before .before .before .before .pre .1 .1 .1 .0, (c .before .before .before .visit2 .ensures .good, search else-inside)))))
+
+-- src/lib.rt:115:13
+walk-push-requires-3 : (t : ℕ) → walk-lts.Need-push-requires-3 (
+  end-of-reads.Asked,
+  end-of-reads.Learnt,
+  push-reads.Asked,
+  push-reads.Learnt,
+  visit-below t,
+  visit.Post,
+) (walk-at t) walk.Post
+walk-push-requires-3 t c κs = (c .before .before .before .visit3 .ensures .good .len, last-room (c .before .before .before .before .before .before .before .before .before .before .before .before .before .before .before .before .before .args .c) (c .before .before .before .before .before .before .before .before .before .before .before .before .before .before .before .before .before .pre .1 .1 .1 .1 .0) (c .before .before .before .before .before .before .before .before .before .before .before .before .before .before .before .before .before .pre .1 .1 .1 .1 .1 .0) (c .before .before .before .before .before .before .before .before .before .before .before .before .before .before .before .before .before .pre .1 .1 .1 .1 .1 .1) (c .before .before .before .before .before .before .before .visit2 .ensures) (c .before .before .before .visit3 .ensures))
+
+-- src/lib.rt:117:28
+walk-enum-told-2 : (t : ℕ) → walk-lts.Need-enum-told-2 (
+  end-of-reads.Asked,
+  end-of-reads.Learnt,
+  push-reads.Asked,
+  push-reads.Learnt,
+  visit-below t,
+  visit.Post,
+) (walk-at t) walk.Post
+walk-enum-told-2 t c = search needs
+
+-- src/lib.rt:117:23
+walk-push-requires-4 : (t : ℕ) → walk-lts.Need-push-requires-4 (
+  end-of-reads.Asked,
+  end-of-reads.Learnt,
+  push-reads.Asked,
+  push-reads.Learnt,
+  visit-below t,
+  visit.Post,
+) (walk-at t) walk.Post
+walk-push-requires-4 t c κs = (mark-good [] (c .before .before .before .before .before .before .before .before .args .c) (c .before .before .before .before .before .before .before .before .pre .1 .1 .1 .1 .0) (c .before .before .before .before .before .before .before .before .pre .1 .1 .1 .1 .1 .0) (c .before .before .before .before .before .before .before .before .pre .1 .1 .1 .1 .1 .1) .len, mark-room [] (c .before .before .before .before .before .before .before .before .args .c) (c .before .before .before .before .before .before .before .before .pre .1 .1 .1 .1 .0) (c .before .before .before .before .before .before .before .before .pre .1 .1 .1 .1 .1 .0) (c .before .before .before .before .before .before .before .before .pre .1 .1 .1 .1 .1 .1))
+
+-- src/lib.rt:94:1
+walk-same-length : (t : ℕ) → walk-lts.Need-same-length (
+  end-of-reads.Asked,
+  end-of-reads.Learnt,
+  push-reads.Asked,
+  push-reads.Learnt,
+  visit-below t,
+  visit.Post,
+) (walk-at t) walk.Post
+walk-same-length t c = c .before .before .push .kept .0 ∙ length-set (c .before .before .before .before .before .before .before .before .before .before .before .args .w .now) (c .before .before .before .before .before .before .before .before .before .before .before .args .b .0) 1
+
+-- src/lib.rt:94:1
+walk-returns : (t : ℕ) → walk-lts.Need-returns (
+  end-of-reads.Asked,
+  end-of-reads.Learnt,
+  push-reads.Asked,
+  push-reads.Learnt,
+  visit-below t,
+  visit.Post,
+) (walk-at t) walk.Post
+walk-returns t c = walk-return (c .before .before .before .before .before .before .before .before .before .before .before .pre .1 .1 .1 .1 .0) (c .before .before .before .before .before .before .before .before .before .before .before .pre .1 .1 .1 .1 .1 .0) (c .before .before .before .before .before .before .before .before .before .before .before .pre .1 .1 .1 .1 .1 .1) (c .before .before .before .before .before .before .end-of .ensures) (search needs) (c .before .before .push .ensures .0) (c .before .before .push .ensures .1)
+
+-- src/lib.rt:94:1
+walk-same-length-2 : (t : ℕ) → walk-lts.Need-same-length-2 (
+  end-of-reads.Asked,
+  end-of-reads.Learnt,
+  push-reads.Asked,
+  push-reads.Learnt,
+  visit-below t,
+  visit.Post,
+) (walk-at t) walk.Post
+walk-same-length-2 t c = c .before .before .push2 .kept .0 ∙ (c .before .before .before .before .before .before .visit .ensures .len-same ∙ length-set (c .before .before .before .before .before .before .before .before .before .before .before .before .before .before .before .before .args .w .now) (c .before .before .before .before .before .before .before .before .before .before .before .before .before .before .before .before .args .b .0) 1)
+
+-- src/lib.rt:94:1
+walk-returns-2 : (t : ℕ) → walk-lts.Need-returns-2 (
+  end-of-reads.Asked,
+  end-of-reads.Learnt,
+  push-reads.Asked,
+  push-reads.Learnt,
+  visit-below t,
+  visit.Post,
+) (walk-at t) walk.Post
+walk-returns-2 t c = walk-jump (c .before .before .before .before .before .before .before .before .before .before .before .before .before .before .before .before .pre .1 .1 .1 .1 .0) (c .before .before .before .before .before .before .before .before .before .before .before .before .before .before .before .before .pre .1 .1 .1 .1 .1 .0) (c .before .before .before .before .before .before .before .before .before .before .before .before .before .before .before .before .pre .1 .1 .1 .1 .1 .1) (c .before .before .before .before .before .before .before .before .before .before .before .end-of .ensures) (c .before .before .before .before .before .before .visit .ensures) (search needs) (c .before .before .push2 .ensures .0) (c .before .before .push2 .ensures .1)
+
+-- src/lib.rt:94:1
+walk-same-length-3 : (t : ℕ) → walk-lts.Need-same-length-3 (
+  end-of-reads.Asked,
+  end-of-reads.Learnt,
+  push-reads.Asked,
+  push-reads.Learnt,
+  visit-below t,
+  visit.Post,
+) (walk-at t) walk.Post
+walk-same-length-3 t c = c .before .before .push3 .kept .0 ∙ (c .before .before .before .before .before .before .visit3 .ensures .len-same ∙ (c .before .before .before .before .before .before .before .before .before .before .visit2 .ensures .len-same ∙ length-set (c .before .before .before .before .before .before .before .before .before .before .before .before .before .before .before .before .before .before .before .before .args .w .now) (c .before .before .before .before .before .before .before .before .before .before .before .before .before .before .before .before .before .before .before .before .args .b .0) 1))
+
+-- src/lib.rt:94:1
+walk-returns-3 : (t : ℕ) → walk-lts.Need-returns-3 (
+  end-of-reads.Asked,
+  end-of-reads.Learnt,
+  push-reads.Asked,
+  push-reads.Learnt,
+  visit-below t,
+  visit.Post,
+) (walk-at t) walk.Post
+walk-returns-3 t c = walk-choice (c .before .before .before .before .before .before .before .before .before .before .before .before .before .before .before .before .before .before .before .before .pre .1 .1 .1 .1 .0) (c .before .before .before .before .before .before .before .before .before .before .before .before .before .before .before .before .before .before .before .before .pre .1 .1 .1 .1 .1 .0) (c .before .before .before .before .before .before .before .before .before .before .before .before .before .before .before .before .before .before .before .before .pre .1 .1 .1 .1 .1 .1) (c .before .before .before .before .before .before .before .before .before .before .before .before .before .before .before .end-of .ensures) (c .before .before .before .before .before .before .before .before .before .before .visit2 .ensures) (c .before .before .before .before .before .before .visit3 .ensures) (search needs) (c .before .before .push3 .ensures .0) (c .before .before .push3 .ensures .1)
+
+-- src/lib.rt:94:1
+walk-same-length-4 : (t : ℕ) → walk-lts.Need-same-length-4 (
+  end-of-reads.Asked,
+  end-of-reads.Learnt,
+  push-reads.Asked,
+  push-reads.Learnt,
+  visit-below t,
+  visit.Post,
+) (walk-at t) walk.Post
+walk-same-length-4 t c = c .before .before .push4 .kept .0 ∙ length-set (c .before .before .before .before .before .before .before .before .before .before .before .args .w .now) (c .before .before .before .before .before .before .before .before .before .before .before .args .b .0) 1
+
+-- src/lib.rt:94:1
+walk-returns-4 : (t : ℕ) → walk-lts.Need-returns-4 (
+  end-of-reads.Asked,
+  end-of-reads.Learnt,
+  push-reads.Asked,
+  push-reads.Learnt,
+  visit-below t,
+  visit.Post,
+) (walk-at t) walk.Post
+walk-returns-4 t c = walk-open (c .before .before .before .before .before .before .before .before .before .before .before .pre .1 .1 .1 .1 .0) (c .before .before .before .before .before .before .before .before .before .before .before .pre .1 .1 .1 .1 .1 .0) (c .before .before .before .before .before .before .before .before .before .before .before .pre .1 .1 .1 .1 .1 .1) (c .before .before .before .before .before .before .end-of .ensures) (search needs) (c .before .before .push4 .ensures .0) (c .before .before .push4 .ensures .1)
+
+pub +visit+walk-spec : {M : Type 1} → statement M
++visit+walk-spec =
+    close
+    μ-visit
+    μ-walk
+    (λ t. visit-lts.spec
+    (walk-below t, walk.Post)
+    (visit-at t)
+    visit.Post
+    (visit-cast-at t)
+    (visit-mul-if1 t)
+    (visit-slice-read-if1 t)
+    (visit-walk-requires t)
+    (visit-same-length t)
+    (visit-returns t)
+    (visit-returns-2 t))
+    λ t. walk-lts.spec (
+      end-of-reads.Asked,
+      end-of-reads.Learnt,
+      push-reads.Asked,
+      push-reads.Learnt,
+      visit-below t,
+      visit.Post,
+    )
+    (walk-at t)
+    walk.Post
+    (walk-cast-at t)
+    (walk-mul-w t)
+    (walk-slice-write-w t)
+    (walk-end-of-requires t)
+    (walk-enum-told t)
+    (walk-push-requires t)
+    (walk-enum-known-e t)
+    (walk-visit-requires t)
+    (walk-push-requires-2 t)
+    (walk-enum-known-e-2 t)
+    (walk-visit-requires-2 t)
+    (walk-visit-requires-3 t)
+    (walk-push-requires-3 t)
+    (walk-enum-told-2 t)
+    (walk-push-requires-4 t)
+    (walk-same-length t)
+    (walk-returns t)
+    (walk-same-length-2 t)
+    (walk-returns-2 t)
+    (walk-same-length-3 t)
+    (walk-returns-3 t)
+    (walk-same-length-4 t)
+    (walk-returns-4 t)

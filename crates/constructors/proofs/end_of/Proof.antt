@@ -1,0 +1,80 @@
+use Rattle.constructors.proofs.Endings.{Ending, ending-start, ending-more, ending-rises, ending-done, end-some, end-none}
+use Prim.Native.Nat.{_-_}
+use native.Mathlib.Omega.{arith}
+use borrow.Author.Needs.{needs}
+use Rattle.constructors.proofs.end_of.Statement.{statement}
+use Rattle.constructors.proofs.end_of.Tie as tie
+use Rattle.constructors.proofs.end_of.Reads as reads
+use Rattle.constructors.proofs.end_of.Lts as lts
+use Rattle.constructors.proofs.ends_from.Reads as ends-from-reads
+use Rattle.index.proofs.first_insn.Reads as first-insn-reads
+use Rattle.index.proofs.next_insn.Reads as next-insn-reads
+use Rattle.program.proofs.read_insn.Reads as read-insn-reads
+
+abbrev Inv-loop : tie.InvT-loop
+Inv-loop m c x n key last₀ h₀ last h = Ending m x n key last h
+
+abbrev μ-loop : tie.MeasureT-loop
+μ-loop m c x n key last₀ h₀ last h = n - h
+
+-- src/lib.rt:52:15
+cast-key : tie.Need-cast-key Inv-loop μ-loop
+cast-key c = search needs
+
+-- src/lib.rt:54:9
+first-insn-requires : tie.Need-first-insn-requires Inv-loop μ-loop
+first-insn-requires c κs = (c .before .before .before .pre .1 .0 .len, omega (arith, c .before .before .before .pre .0 .blocks))
+
+-- src/lib.rt:55:5
+loop-holds : tie.Need-loop-holds Inv-loop μ-loop
+loop-holds c = ending-start (c .before .before .before .before .pre .0) (c .before .before .before .before .pre .1 .0) (c .before .before .before .before .pre .1 .1) (c .first-insn .ensures)
+
+-- src/lib.rt:57:9
+next-insn-requires : tie.Need-next-insn-requires Inv-loop μ-loop
+next-insn-requires c κs = (c .before .before .before .before .before .before .pre .1 .0 .len, omega (arith, c .before .before .before .before .before .before .pre .0 .insns))
+
+-- src/lib.rt:55:5
+loop-less : tie.Need-loop-less Inv-loop μ-loop
+loop-less c = omega (arith, ending-rises (c .before .before .loop .inv) (omega arith) (c .next-insn .ensures))
+
+-- src/lib.rt:55:5
+loop-again : tie.Need-loop-again Inv-loop μ-loop
+loop-again c = ending-more (c .before .before .loop .inv) (omega arith) (c .next-insn .ensures)
+
+-- src/lib.rt:60:48
+cast-t13 : tie.Need-cast-t13 Inv-loop μ-loop
+cast-t13 c = search needs
+
+-- src/lib.rt:60:13
+read-insn-requires : tie.Need-read-insn-requires Inv-loop μ-loop
+read-insn-requires c κs = (c .before .before .before .before .before .before .before .pre .0, omega arith)
+
+-- src/lib.rt:62:9
+ends-from-requires : tie.Need-ends-from-requires Inv-loop μ-loop
+ends-from-requires c κs = search needs
+
+-- src/lib.rt:62:9
+returns : tie.Need-returns Inv-loop μ-loop
+returns c = end-some (c .before .before .before .before .before .before .before .before .before .pre .1 .0) _ (omega (arith, c .before .before .before .before .before .before .before .before .before .pre .0 .blocks, c .before .before .before .before .before .before .before .before .before .pre .1 .1)) _ (ending-done (c .before .before .before .before .loop .inv) (omega arith)) (omega arith) (c .before .read-insn .ensures .row) (c .ends-from .ensures)
+
+-- src/lib.rt:45:1
+returns-2 : tie.Need-returns-2 Inv-loop μ-loop
+returns-2 c = end-none (c .before .before .before .before .before .before .before .pre .1 .0) _ (omega (arith, c .before .before .before .before .before .before .before .pre .0 .blocks, c .before .before .before .before .before .before .before .pre .1 .1)) _ (ending-done (c .before .before .loop .inv) (omega arith)) (omega arith)
+
+pub end-of-spec : {M : Type 1} → statement M
+end-of-spec =
+    tie.close
+    (tie.spec
+    Inv-loop
+    μ-loop
+    cast-key
+    first-insn-requires
+    loop-holds
+    next-insn-requires
+    loop-less
+    loop-again
+    cast-t13
+    read-insn-requires
+    ends-from-requires
+    returns
+    returns-2)

@@ -1,0 +1,4 @@
+pub mod Loops
+pub mod Stack
+pub mod Ways
+pub mod Turns

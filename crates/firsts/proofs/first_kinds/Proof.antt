@@ -1,0 +1,142 @@
+use Rattle.firsts.proofs.Laws.{ctor-below, entry-below, first-none, first-refused, first-some}
+use native.Mathlib.Omega.{arith}
+use borrow.Author.Needs.{needs}
+use Rattle.firsts.proofs.first_kinds.Statement.{statement}
+use Rattle.firsts.proofs.first_kinds.Tie as tie
+use Rattle.firsts.proofs.first_kinds.Reads as reads
+use Rattle.firsts.proofs.first_kinds.Lts as lts
+use Rattle.constructors.proofs.analyze_ctor.Reads as analyze-ctor-reads
+use Rattle.firsts.proofs.put_kinds.Reads as put-kinds-reads
+use Rattle.lookups.proofs.constructor_of.Reads as constructor-of-reads
+use Rattle.program.proofs.read_fun.Reads as read-fun-reads
+
+-- src/lib.rt:39:17
+cast-class : tie.Need-cast-class
+cast-class c = search needs
+
+-- src/lib.rt:40:34
+mul-n : tie.Need-mul-n
+mul-n c = search needs
+
+-- src/lib.rt:40:15
+add-n : tie.Need-add-n
+add-n c = search needs
+
+-- src/lib.rt:40:15
+add-n-2 : tie.Need-add-n-2
+add-n-2 c = search needs
+
+-- src/lib.rt:40:13
+mul-n-2 : tie.Need-mul-n-2
+mul-n-2 c = search needs
+
+-- src/lib.rt:40:13
+shared-slice-read-n : tie.Need-shared-slice-read-n
+shared-slice-read-n c = search needs
+
+-- src/lib.rt:41:9
+mul-first : tie.Need-mul-first
+mul-first c = search needs
+
+add-first : tie.Need-add-first
+add-first c = search needs
+
+mul-second : tie.Need-mul-second
+mul-second c = search needs
+
+add-second : tie.Need-add-second
+add-second c = search needs
+
+constructor-of-requires : tie.Need-constructor-of-requires
+constructor-of-requires c κs = search needs
+
+-- src/lib.rt:44:23
+enum-told : tie.Need-enum-told
+enum-told c = search needs
+
+-- src/lib.rt:44:13
+put-kinds-requires : tie.Need-put-kinds-requires
+put-kinds-requires c κs = (c .before .before .before .before .before .before .before .before .before .before .before .pre .0 .ivars _ (c .before .before .before .before .before .before .before .before .before .before .before .pre .1 .1 .1 .1 .0 .1), (omega (arith, c .before .before .before .before .before .before .before .before .before .before .before .pre .0 .ivars _ (c .before .before .before .before .before .before .before .before .before .before .before .pre .1 .1 .1 .1 .0 .1), c .before .before .before .before .before .before .before .before .before .before .before .pre .1 .1 .1 .1 .1 .0, c .before .before .before .before .before .before .before .before .before .before .before .pre .1 .1 .1 .1 .1 .1, c .before .before .before .before .before .before .before .before .before .before .before .pre .1 .1 .1 .1 .0 .1, c .before .before .before .before .before .before .before .before .before .before .before .pre .0 .classes), omega (arith, c .before .before .before .before .before .before .before .before .before .before .before .pre .0 .ivars _ (c .before .before .before .before .before .before .before .before .before .before .before .pre .1 .1 .1 .1 .0 .1), c .before .before .before .before .before .before .before .before .before .before .before .pre .1 .1 .1 .1 .1 .0, c .before .before .before .before .before .before .before .before .before .before .before .pre .1 .1 .1 .1 .1 .1, c .before .before .before .before .before .before .before .before .before .before .before .pre .1 .1 .1 .1 .0 .1, c .before .before .before .before .before .before .before .before .before .before .before .pre .0 .classes)))
+
+-- src/lib.rt:47:25
+enum-known-found : tie.Need-enum-known-found
+enum-known-found c = search needs
+
+-- src/lib.rt:48:17
+read-fun-requires : tie.Need-read-fun-requires
+read-fun-requires c κs = (c .before .before .before .before .before .before .before .before .before .before .before .pre .0, ctor-below (c .before .before .before .constructor-of .ensures) (c .before .found .given .1))
+
+-- src/lib.rt:50:17
+analyze-ctor-requires : tie.Need-analyze-ctor-requires
+analyze-ctor-requires c κs = (c .before .before .before .before .before .before .before .before .before .before .before .before .before .before .pre .0, (c .before .before .before .before .before .before .before .before .before .before .before .before .before .before .pre .1 .0, (c .before .before .before .before .before .before .before .before .before .before .before .before .before .before .pre .1 .1 .0, (c .before .before .before .before .before .before .before .before .before .before .before .before .before .before .pre .1 .1 .1 .1 .0 .0, (c .before .before .before .before .before .before .before .before .before .before .before .before .before .before .pre .1 .1 .1 .1 .0 .1, entry-below (c .before .before .before .before .before .before .before .before .before .before .before .before .before .before .pre .1 .1 .1 .0) (ctor-below (c .before .before .before .before .before .before .constructor-of .ensures) (c .before .before .before .before .found .given .1)) (c .before .before .read-fun .ensures .row))))))
+
+-- src/lib.rt:52:37
+enum-told-2 : tie.Need-enum-told-2
+enum-told-2 c = search needs
+
+-- src/lib.rt:53:27
+enum-known-sure : tie.Need-enum-known-sure
+enum-known-sure c = search needs
+
+-- src/lib.rt:54:21
+put-kinds-requires-2 : tie.Need-put-kinds-requires-2
+put-kinds-requires-2 c κs = (c .before .before .before .before .before .before .before .before .before .before .before .before .before .before .before .before .before .before .before .before .before .pre .0 .ivars _ (c .before .before .before .before .before .before .before .before .before .before .before .before .before .before .before .before .before .before .before .before .before .pre .1 .1 .1 .1 .0 .1), (omega (arith, c .before .before .before .before .before .before .before .before .before .before .before .before .before .before .before .before .before .before .before .before .before .pre .0 .ivars _ (c .before .before .before .before .before .before .before .before .before .before .before .before .before .before .before .before .before .before .before .before .before .pre .1 .1 .1 .1 .0 .1), c .before .before .before .before .before .before .before .before .before .before .before .before .before .before .before .before .before .before .before .before .before .pre .1 .1 .1 .1 .1 .0, c .before .before .before .before .before .before .before .before .before .before .before .before .before .before .before .before .before .before .before .before .before .pre .1 .1 .1 .1 .1 .1, c .before .before .before .before .before .before .before .before .before .before .before .before .before .before .before .before .before .before .before .before .before .pre .1 .1 .1 .1 .0 .1, c .before .before .before .before .before .before .before .before .before .before .before .before .before .before .before .before .before .before .before .before .before .pre .0 .classes), omega (arith, c .before .before .before .before .before .before .before .before .before .before .before .before .before .before .before .before .before .before .before .before .before .pre .0 .ivars _ (c .before .before .before .before .before .before .before .before .before .before .before .before .before .before .before .before .before .before .before .before .before .pre .1 .1 .1 .1 .0 .1), c .before .before .before .before .before .before .before .before .before .before .before .before .before .before .before .before .before .before .before .before .before .pre .1 .1 .1 .1 .1 .0, c .before .before .before .before .before .before .before .before .before .before .before .before .before .before .before .before .before .before .before .before .before .pre .1 .1 .1 .1 .1 .1, c .before .before .before .before .before .before .before .before .before .before .before .before .before .before .before .before .before .before .before .before .before .pre .1 .1 .1 .1 .0 .1, c .before .before .before .before .before .before .before .before .before .before .before .before .before .before .before .before .before .before .before .before .before .pre .0 .classes)))
+
+-- src/lib.rt:30:1
+same-length : tie.Need-same-length
+same-length c = search needs
+
+-- src/lib.rt:30:1
+returns : tie.Need-returns
+returns c = first-none (c .before .before .before .before .before .before .before .before .before .before .before .before .before .before .args .s .now) (c .before .before .before .before .before .before .before .before .before .before .before .before .before .before .args .m .now) (c .before .before .before .before .before .before .before .before .before .before .before .before .before .before .args .c) _ (c .before .before .before .before .before .before .before .before .before .before .before .before .before .before .pre .1 .1 .1 .1 .0 .1) (c .before .before .before .before .before .before .before .before .before .before .before .before .before .before .pre .0 .ivars _ (c .before .before .before .before .before .before .before .before .before .before .before .before .before .before .pre .1 .1 .1 .1 .0 .1)) (c .before .before .before .before .before .before .constructor-of .ensures) (search needs) (c .before .before .put-kinds .ensures)
+
+-- src/lib.rt:30:1
+same-length-2 : tie.Need-same-length-2
+same-length-2 c = search needs
+
+-- src/lib.rt:30:1
+returns-2 : tie.Need-returns-2
+returns-2 c = first-refused (c .before .before .before .before .before .before .before .before .before .before .before .before .before .before .before .before .before .before .before .args .s .now) (c .before .before .before .before .before .before .before .before .before .before .before .before .before .before .before .before .before .before .before .args .m .now) (c .before .before .before .before .before .before .before .before .before .before .before .before .before .before .before .before .before .before .before .args .c) _ (c .before .before .before .before .before .before .before .before .before .before .before .before .before .before .before .before .before .before .before .pre .1 .1 .1 .1 .0 .1) (c .before .before .before .before .before .before .before .before .before .before .before .before .before .before .before .before .before .before .before .pre .0 .ivars _ (c .before .before .before .before .before .before .before .before .before .before .before .before .before .before .before .before .before .before .before .pre .1 .1 .1 .1 .0 .1)) (c .before .before .before .before .before .before .before .before .before .before .before .constructor-of .ensures) (c .before .before .before .before .analyze-ctor .result) (c .before .before .before .before .before .before .before .before .before .found .given .1) (ctor-below (c .before .before .before .before .before .before .before .before .before .before .before .constructor-of .ensures) (c .before .before .before .before .before .before .before .before .before .found .given .1)) (c .before .before .before .before .before .before .before .read-fun .ensures .row) (c .before .before .before .before .analyze-ctor .ensures) _ _ _ (search needs)
+
+-- src/lib.rt:30:1
+same-length-3 : tie.Need-same-length-3
+same-length-3 c = search needs
+
+-- src/lib.rt:30:1
+same-length-4 : tie.Need-same-length-4
+same-length-4 c = search needs
+
+-- src/lib.rt:30:1
+returns-3 : tie.Need-returns-3
+returns-3 c = first-some (c .before .before .before .before .before .before .before .before .before .before .before .before .before .before .before .before .before .before .before .before .before .before .before .before .args .s .now) (c .before .before .before .before .before .before .before .before .before .before .before .before .before .before .before .before .before .before .before .before .before .before .before .before .args .m .now) (c .before .before .before .before .before .before .before .before .before .before .before .before .before .before .before .before .before .before .before .before .before .before .before .before .args .c) _ (c .before .before .before .before .before .before .before .before .before .before .before .before .before .before .before .before .before .before .before .before .before .before .before .before .pre .1 .1 .1 .1 .0 .1) (c .before .before .before .before .before .before .before .before .before .before .before .before .before .before .before .before .before .before .before .before .before .before .before .before .pre .0 .ivars _ (c .before .before .before .before .before .before .before .before .before .before .before .before .before .before .before .before .before .before .before .before .before .before .before .before .pre .1 .1 .1 .1 .0 .1)) (c .before .before .before .before .before .before .before .before .before .before .before .before .before .before .before .before .constructor-of .ensures) (c .before .before .before .before .before .before .before .before .before .analyze-ctor .result) (c .before .before .before .before .before .before .before .before .before .before .before .before .before .before .found .given .1) (ctor-below (c .before .before .before .before .before .before .before .before .before .before .before .before .before .before .before .before .constructor-of .ensures) (c .before .before .before .before .before .before .before .before .before .before .before .before .before .before .found .given .1)) (c .before .before .before .before .before .before .before .before .before .before .before .before .read-fun .ensures .row) (c .before .before .before .before .before .before .before .before .before .analyze-ctor .ensures) (c .before .before .before .before .before .sure .given .1) (c .before .before .put-kinds2 .ensures)
+
+pub first-kinds-spec : {M : Type 1} → statement M
+first-kinds-spec =
+    tie.close
+    (tie.spec
+    cast-class
+    mul-n
+    add-n
+    add-n-2
+    mul-n-2
+    shared-slice-read-n
+    mul-first
+    add-first
+    mul-second
+    add-second
+    constructor-of-requires
+    enum-told
+    put-kinds-requires
+    enum-known-found
+    read-fun-requires
+    analyze-ctor-requires
+    enum-told-2
+    enum-known-sure
+    put-kinds-requires-2
+    same-length
+    returns
+    same-length-2
+    returns-2
+    same-length-3
+    same-length-4
+    returns-3)

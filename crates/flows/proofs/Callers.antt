@@ -1,0 +1,212 @@
+-- The arguments of a function's callers, and a Param's kind. Assumes nothing.
+use mathlib.Core.Bool.{Bool as 𝔹, true, false, cond}
+use mathlib.Core.Path.{_≡_, refl, sym, ap, _∙_}
+use mathlib.Core.Option.{none, some}
+use mathlib.Core.List.{List, [], _∷_, map}
+use Prim.Native.Nat.{ℕ, zero, suc, _+_, _-_, _*_, _≤_, _<_}
+use native.Mathlib.Numerals.{add-one}
+use native.Mathlib.Omega.{arith}
+use borrow.Author.Tests.{ltb-true, ltb-false}
+use mir.Syntax.{w32}
+use mir.Val.{Fits as FitsIn}
+use lib.Dec.{ltb}
+use lib.ListN.{length, getD, drop, length-map, drop-of-length-le, List·getD-eq-default}
+use lib.Seq.{drop-cons, getD-drop}
+use Rattle.sets.specs.declared.InsnId.{InsnId}
+use Rattle.sets.proofs.Bits.{Either, yes, no, either}
+use Rattle.kinds.specs.declared.Kind.{Kind}
+use Rattle.kinds.specs.declared.Kind.the-variants.{Empty, Any, Nil}
+use Rattle.kinds.specs.declared.Joined.{Joined}
+use Rattle.kinds.specs.Kinds.{isAny}
+use Rattle.kinds.specs.Union.{unionAll}
+use Rattle.rules.specs.Actions.{lift}
+use Rattle.rules.specs.Values.{toAnswer}
+use Rattle.rules.specs.Lists.{has, placesFrom, consIf}
+use Rattle.rules.specs.Program as P
+use Rattle.rules.specs.Program.{Limits, Program, Param, about, opOf, functionOf}
+use Rattle.rules.specs.Machine.{State, marked, kindOf, joinAll, opndSet, callersOf, placeOf, argument, flowsIn, rule}
+use Rattle.program.specs.declared.Op.{Op}
+use Rattle.program.specs.declared.Op.the-variants.{Jump, IfTrue, Return, SendStatic, SendDynamic, Compute, Phi, SelfParam, New, GetIvar, SetIvar}
+use Rattle.program.specs.declared.Op.the-variants.{Param as ParamOp}
+use Rattle.program.specs.declared.Row.{Row}
+use Rattle.program.specs.declared.Opnd.{Opnd}
+use Rattle.program.specs.declared.Opnd.the-variants.{Const, Insn}
+use Rattle.program.specs.declared.Counts.{Counts}
+use Rattle.program.specs.Rows.{opndOf, opndsAt, opndsIn, opIn, nth}
+use Rattle.program.specs.View.{view, ReadsInsn}
+use Rattle.program.proofs.Tables.{tab-length}
+use Rattle.state.specs.declared.Sizes.{Sizes}
+use Rattle.state.specs.declared.NextInsn.{NextInsn}
+use Rattle.state.specs.declared.NextInsn.the-variants.{Place, Done}
+use Rattle.state.specs.View.{kindsOf, calledOf, Held}
+use Rattle.state.specs.View.{view as stateView}
+use Rattle.state.specs.Changes.{marksFrom, Following}
+use Rattle.opnds.specs.Reads.{Inside, kindIn, Reads}
+use Rattle.opnds.proofs.Given.{kind-of}
+use Rattle.flows.specs.declared.Pass.{Pass}
+use Rattle.flows.specs.declared.Tally.the-variants.{Nothing as None}
+use Rattle.flows.specs.Tally.{Nothing, least, takeAll, finish, unionOver, FitsAt, Fits}
+use Rattle.flows.specs.Flows.{tallyOf, Passed, skipOf, Argues, Sound, Known, PassedIn, ParamIs}
+use Rattle.flows.proofs.Whole.{union-over}
+use Rattle.flows.proofs.Tallied.{passed-none, passed-cons}
+
+-- ---- arguments
+
+listed-is : (s : List ℕ) (o : Op) (l : List P.Opnd) → has (about (opIn s o l) .callee) ≡ true → about (opIn s o l) .listed ≡ drop (skipOf o) l
+listed-is s (Jump b) l h = cc
+listed-is s (IfTrue b e) l h = cc
+listed-is s Return l h = cc
+listed-is s (SendStatic f) l h = refl
+listed-is s (SendDynamic m) l h = refl
+listed-is s (Compute o) l h = cc
+listed-is s (Phi b e) l h = cc
+listed-is s (ParamOp k) l h = cc
+listed-is s (SelfParam c) l h = cc
+listed-is s (New c) l h = cc
+listed-is s (GetIvar m) l h = cc
+listed-is s (SetIvar m) l h = cc
+
+at-any : (l : List P.Opnd) (i : ℕ) (d e : P.Opnd) → i < length l → getD l i d ≡ getD l i e
+at-any [] i d e h = absurd (omega arith)
+at-any (x ∷ l) zero d e h = refl
+at-any (x ∷ l) (suc i) d e h = at-any l i d e (omega arith)
+
+module _ (m : List ℕ) (c : Counts) (i n : ℕ) {x : Row} (d : ReadsInsn m c i x) {a : ℕ} (ea : a ≡ skipOf (x .op)) where
+  abbrev given : List P.Opnd
+  given = map opndOf (opndsIn m (opndsAt + 2 * x .first) (x .count))
+
+  given-length : length given ≡ x .count
+  unfolding opndsIn
+  given-length = length-map (opndsIn m (opndsAt + 2 * x .first) (x .count)) opndOf ∙ tab-length _ (x .count)
+
+  argument-is : (L : Limits) (s : List ℕ) → has (about (opOf (view s m c) i) .callee) ≡ true → argument L (view s m c) n i ≡ getD given (a + n) (P.Const Empty)
+  argument-is L s h =
+      let e : opOf (view s m c) i ≡ opIn s (x .op) given = ap (λ (y : P.Instruction). y .op) (d .is s) in
+      let g : has (about (opIn s (x .op) given) .callee) ≡ true = rw e at h in
+      ap (λ (y : P.Op). getD (about y .listed) n (P.Const Empty)) e
+      ∙ ap (λ (y : List P.Opnd). getD y n (P.Const Empty)) (listed-is s (x .op) given g)
+      ∙ getD-drop (skipOf (x .op)) given n (P.Const Empty) ∙ ap (λ (y : ℕ). getD given (y + n) (P.Const Empty)) (sym ea)
+
+  pub argument-here : {j : ℕ} {r : Opnd} → j ≡ a + n → j < x .count → opndOf r ≡ nth given j → Argues m c i n r
+  argument-here {j} {r} ej lt e = record {
+    is = λ L s h. e ∙ at-any given j (P.Const Nil) (P.Const Empty) (let k = given-length in omega arith) ∙ ap (λ (y : ℕ). getD given y (P.Const Empty)) ej ∙ sym (argument-is L s h);
+  }
+
+  pub argument-none : x .count ≤ a + n → Argues m c i n (Const Empty)
+  argument-none le = record {
+    is = λ L s h. sym (argument-is L s h ∙ List·getD-eq-default given (P.Const Empty) (let k = given-length in omega arith));
+  }
+
+fits-inside : (z : Sizes) (r : Opnd) → FitsAt (z .insns) (opndOf r) → Inside z r
+fits-inside z (Const k) f = tt
+fits-inside z (Insn j) f = f
+
+-- ---- the first mark of a row is a mark
+
+marked-first : (row : List 𝔹) (n k i : ℕ) (l : List ℕ) → length row ≤ k + n → placesFrom k (λ b. b) (drop k row) ≡ i ∷ l → getD row i false ≡ true
+marked-first row zero k i l h e =
+    let z : placesFrom k (λ (b : 𝔹). b) [] ≡ i ∷ l = rw (drop-of-length-le row {i = k} (omega arith)) at e in
+    cc
+marked-first row (suc n) k i l h e = go (either (ltb k (length row))) (λ g. marked-first row n (suc k) i l (omega arith) g)
+  where
+    here : (b : 𝔹) → getD row k false ≡ b → consIf b k (placesFrom (suc k) (λ (x : 𝔹). x) (drop (suc k) row)) ≡ i ∷ l
+        → (placesFrom (suc k) (λ (x : 𝔹). x) (drop (suc k) row) ≡ i ∷ l → getD row i false ≡ true) → getD row i false ≡ true
+    here true f g ih = let y : k ≡ i = cc in ap (λ (j : ℕ). getD row j false) (sym y) ∙ f
+    here false f g ih = ih g
+
+    go : Either (ltb k (length row)) → (placesFrom (suc k) (λ (x : 𝔹). x) (drop (suc k) row) ≡ i ∷ l → getD row i false ≡ true) → getD row i false ≡ true
+    go (yes g) ih = here (getD row k false) refl (rw (drop-cons row k false (ltb-true k (length row) g)) at e) ih
+    go (no g) ih =
+        let z : placesFrom k (λ (b : 𝔹). b) [] ≡ i ∷ l = rw (drop-of-length-le row {i = k} (ltb-false k (length row) g)) at e in
+        cc
+
+mark-is : (t : List (List 𝔹)) (f k i : ℕ) → marksFrom t f k ≡ i ∷ marksFrom t f (suc i) → marked t f i ≡ true
+unfolding marksFrom
+mark-is t f k i e = marked-first (getD t f []) (length (getD t f [])) k i (marksFrom t f (suc i)) (omega arith) e
+
+-- ---- pass_callers at its loop's head
+
+abbrev pub Passing : List ℕ → Counts → Sizes → List ℕ → ℕ → ℕ → Pass → Pass → ℕ → Type 0
+Passing m c z w f n x₀ x k = (y : Pass) → PassedIn m c z w f n k x y → PassedIn m c z w f n 0 x₀ y
+
+module _ {m : List ℕ} {c : Counts} {z : Sizes} (w : List ℕ) {f k : ℕ} {s : NextInsn} (q : Known m c z (calledOf z w))
+    (h : Following (calledOf z w) f (z .insns) k s) where
+  next-is : {t : NextInsn} → s ≡ t → Following (calledOf z w) f (z .insns) k t
+  next-is e = rw e at h
+
+  pub caller-below : (i : InsnId) → s ≡ Place i → i .0 < c .insns
+  caller-below i e = let a = next-is e .ok .1 in let b = q .sizes in omega arith
+
+  pub caller-falls : (i : InsnId) → s ≡ Place i → z .insns - (i .0 + 1) < z .insns - k
+  caller-falls i e = let b = next-is e .ok in omega (arith, b .0, b .1)
+
+  pub caller-fits : Held z w → (i : InsnId) → s ≡ Place i → FitsIn w32 (i .0 + 1)
+  caller-fits g i e = let b = next-is e .ok .1 in record { fits = omega arith }
+
+  pub caller-inside : (n : ℕ) (i : InsnId) {o : Opnd} → s ≡ Place i → Argues m c (i .0) n o → Inside z o
+  caller-inside n i {o} e a =
+      fits-inside z o (rw (a .is P.limits (q .script) (q .sound .calls f (i .0) (mark-is (calledOf z w) f k (i .0) (next-is e .is)))) (q .sound .listed (i .0) n))
+
+  pub caller-done : (n : ℕ) (x₀ x : Pass) → s ≡ Done → Passing m c z w f n x₀ x k → PassedIn m c z w f n 0 x₀ x
+  caller-done n x₀ x e g = g x (record { passed = λ L y _. rw (next-is e .is) (passed-none (kindsOf z w) x) })
+
+  pub caller-more : (n : ℕ) (x₀ x : Pass) (i : InsnId) {o : Opnd} {x' : Pass} → s ≡ Place i → Argues m c (i .0) n o → Passed (kindsOf z w) (opndOf o ∷ []) x x'
+      → Passing m c z w f n x₀ x k → Passing m c z w f n x₀ x' (i .0 + 1)
+  caller-more n x₀ x i {o} {x'} e a p g y r = g y (record {
+    passed = λ L u so.
+        let b : opndOf o ≡ argument L (view u m c) n (i .0) = a .is L u (so .calls f (i .0) (mark-is (calledOf z w) f k (i .0) (next-is e .is))) in
+        let t : marksFrom (calledOf z w) f k ≡ i .0 ∷ marksFrom (calledOf z w) f (i .0 + 1) = next-is e .is ∙ ap (λ (j : ℕ). i .0 ∷ marksFrom (calledOf z w) f j) (sym (add-one (i .0))) in
+        rw t (passed-cons (kindsOf z w) (argument L (view u m c) n (i .0)) (map (argument L (view u m c) n) (marksFrom (calledOf z w) f (i .0 + 1))) x x' y (rw b at p) (r .passed L u so));
+  })
+
+pub callers-start : (m : List ℕ) (c : Counts) (z : Sizes) (w : List ℕ) (f n : ℕ) (x : Pass) → Passing m c z w f n x x 0
+callers-start m c z w f n x y p = p
+
+-- ---- a Param
+
+all-callers : (t : List (List 𝔹)) (L : Limits) (p : Program) (s : State) (f : ℕ) → s .calledBy ≡ t → marksFrom t f 0 ≡ callersOf L p s f
+unfolding marksFrom
+all-callers t L p s f e = rw (sym e)
+
+arguments-fit : (L : Limits) (p : Program) (z : Sizes) (t : List (List 𝔹)) (n : ℕ) (l : List ℕ) → Sound p (z .insns) t → Fits (z .insns) (map (argument L p n) l)
+arguments-fit L p z t n [] so = tt
+arguments-fit L p z t n (i ∷ l) so = (so .listed i n, arguments-fit L p z t n l so)
+
+place-is : (L : Limits) (p : Program) (i n : ℕ) → opOf p i ≡ Param n → placeOf L p i ≡ n
+place-is L p i n e = ap (λ (o : P.Op). elim (about o .place) [ none ↦ 0 | some k ↦ k ]) e
+
+param-is : (L : Limits) (p : Program) (i n : ℕ) (s : State) → opOf p i ≡ Param n
+    → rule L p i (Param n) s ≡ lift (toAnswer (unionAll Empty (map (kindOf s) (opndSet (map (argument L p n) (callersOf L p s (functionOf p i))))))) s
+unfolding rule joinAll flowsIn
+param-is L p i n s e =
+    ap (λ (k : ℕ). lift (toAnswer (unionAll Empty (map (kindOf s) (opndSet (map (argument L p k) (callersOf L p s (functionOf p i))))))) s) (place-is L p i n e)
+
+kinds-of : (s : State) (l : List P.Opnd) → map (kindIn (s .kinds)) l ≡ map (kindOf s) l
+kinds-of s [] = refl
+kinds-of s (o ∷ l) = rw (kind-of s o, kinds-of s l)
+
+finish-same : (ks : List Kind) (n a : ℕ) (t : Rattle.flows.specs.Tally.Tally) → finish [] n a t ≡ finish ks n a t
+finish-same ks n a Nothing = refl
+finish-same ks n a (Rattle.flows.specs.Tally.One w j) = refl
+finish-same ks n a (Rattle.flows.specs.Tally.Many j) = refl
+
+pub param-kind : (m : List ℕ) (c : Counts) (z : Sizes) (w : List ℕ) (f n : ℕ) {x y : Pass} {r : Joined}
+    → PassedIn m c z w f n 0 (record { second = false; least = z .insns; tally = None }) x
+    → PassedIn m c z w f n 0 (record { second = true; least = x .least; tally = None }) y
+    → r ≡ finish [] (z .insns) (x .least) (tallyOf (y .tally))
+    → (i : ℕ) → Reads z (ParamIs m c z (calledOf z w) i f n) (λ L p. rule L p i (Param n)) w r
+unfolding unionOver
+param-kind m c z w f n {x} {y} {r} px py e i = record {
+  is = λ L p v g q.
+      let u = view (g .script) m c in
+      let s = stateView z v w q in
+      let ks = kindsOf z w in
+      let l = map (argument L u n) (marksFrom (calledOf z w) f 0) in
+      let a : x .least ≡ least ks (z .insns) l = px .passed L (g .script) (g .sound) .lowest in
+      let t : tallyOf (y .tally) ≡ takeAll ks (x .least) Nothing l = py .passed L (g .script) (g .sound) .told in
+      let h : r ≡ unionOver ks (z .insns) l = e ∙ finish-same ks (z .insns) (x .least) (tallyOf (y .tally)) ∙ rw (t, a) in
+      let k : r ≡ unionAll Empty (map (kindOf s) (opndSet l)) = h ∙ union-over ks (z .insns) l (arguments-fit L u z (calledOf z w) n (marksFrom (calledOf z w) f 0) (g .sound))
+      ∙ ap (unionAll Empty) (kinds-of s (opndSet l)) in
+      let b : l ≡ map (argument L u n) (callersOf L u s (functionOf u i)) = ap (map (argument L u n)) (all-callers (calledOf z w) L u s f refl ∙ ap (callersOf L u s) (sym (g .function))) in
+      rw (g .program) (ap (λ (j : Joined). lift (toAnswer j) s) (k ∙ ap (λ (o : List P.Opnd). unionAll Empty (map (kindOf s) (opndSet o))) b) ∙ sym (param-is L u i n s (g .op)));
+}

@@ -1,0 +1,85 @@
+-- What the passes promise over the operands of callers. Assumes nothing.
+use mathlib.Core.Bool.{Bool as 𝔹, true, cond}
+use mathlib.Core.Path.{_≡_}
+use mathlib.Core.List.{List, map}
+use Prim.Native.Nat.{ℕ, _<_}
+use lib.ListN.{getD}
+use Rattle.kinds.specs.declared.Kind.{Kind}
+use Rattle.kinds.specs.declared.Kind.the-variants.{Empty}
+use Rattle.rules.specs.Lists.{has}
+use Rattle.rules.specs.Program as P
+use Rattle.rules.specs.Program.{Limits, Program, Const, Param, about, opOf, functionOf}
+use Rattle.rules.specs.Machine.{marked, argument as argumentOf}
+use Rattle.program.specs.declared.Op.{Op}
+use Rattle.program.specs.declared.Op.the-variants.{Jump, IfTrue, Return, SendStatic, SendDynamic, Compute, Phi, SelfParam, New, GetIvar, SetIvar}
+use Rattle.program.specs.declared.Op.the-variants.{Param as ParamOp}
+use Rattle.program.specs.declared.Opnd.{Opnd}
+use Rattle.program.specs.declared.Counts.{Counts}
+use Rattle.program.specs.Rows.{opndOf}
+use Rattle.program.specs.View.{view, Ready}
+use Rattle.state.specs.declared.Sizes.{Sizes}
+use Rattle.state.specs.View.{Attrs, kindsOf, calledOf}
+use Rattle.state.specs.Changes.{marksFrom}
+use Rattle.flows.specs.declared.Tally.{Tally as Told}
+use Rattle.flows.specs.declared.Tally.the-variants.{Nothing as None, One as Single, Many as Several}
+use Rattle.flows.specs.declared.Pass.{Pass}
+use Rattle.opnds.specs.Reads.{kindIn}
+use Rattle.flows.specs.Tally.{Tally, Nothing, One, Many, add, least, takeAll, FitsAt}
+
+abbrev pub tallyOf : Told → Tally
+tallyOf None = Nothing
+tallyOf (Single o k) = One (opndOf o) k
+tallyOf (Several j) = Many j
+
+-- r is t with one operand more, whose kind is k
+pub record Adds (t : Told) (k : Kind) (o : Opnd) (r : Told) : Type 0 where
+  pub is : (ks : List Kind) → k ≡ kindIn ks (opndOf o) → tallyOf r ≡ add ks (tallyOf t) (opndOf o)
+
+-- a pass over a list of operands leads from x to y
+pub record Passed (ks : List Kind) (l : List P.Opnd) (x y : Pass) : Type 0 where
+  pub same : y .second ≡ x .second
+  pub lowest : y .least ≡ cond (x .second) (x .least) (least ks (x .least) l)
+  pub told : tallyOf (y .tally) ≡ cond (x .second) (takeAll ks (x .least) (tallyOf (x .tally)) l) (tallyOf (x .tally))
+
+-- how many operands of a sort stand before its arguments
+abbrev pub skipOf : Op → ℕ
+skipOf (Jump b) = 0
+skipOf (IfTrue b e) = 0
+skipOf Return = 0
+skipOf (SendStatic f) = 0
+skipOf (SendDynamic m) = 1
+skipOf (Compute o) = 0
+skipOf (Phi b e) = 0
+skipOf (ParamOp k) = 0
+skipOf (SelfParam c) = 0
+skipOf (New c) = 0
+skipOf (GetIvar m) = 0
+skipOf (SetIvar m) = 0
+
+-- r is the argument that i has for place n, if i is a call
+pub record Argues (m : List ℕ) (c : Counts) (i n : ℕ) (r : Opnd) : Type 0 where
+  pub is : (L : Limits) (s : List ℕ) → has (about (opOf (view s m c) i) .callee) ≡ true → opndOf r ≡ argumentOf L (view s m c) n i
+
+-- the callers are calls, and no argument is Any or a result beyond the program's
+pub record Sound (p : Program) (n : ℕ) (t : List (List 𝔹)) : Type 0 where
+  pub calls : (f i : ℕ) → marked t f i ≡ true → has (about (opOf p i) .callee) ≡ true
+  pub listed : (i k : ℕ) → FitsAt n (getD (about (opOf p i) .listed) k (Const Empty))
+
+pub record Known (m : List ℕ) (c : Counts) (z : Sizes) (t : List (List 𝔹)) : Type 0 where
+  pub script : List ℕ
+  pub ready : Ready m c
+  pub sizes : z .insns ≡ c .insns
+  pub sound : Sound (view script m c) (z .insns) t
+
+-- the arguments for place n of the callers of f that are not below k
+pub record PassedIn (m : List ℕ) (c : Counts) (z : Sizes) (w : List ℕ) (f n k : ℕ) (x y : Pass) : Type 0 where
+  pub passed : (L : Limits) (s : List ℕ) → Sound (view s m c) (z .insns) (calledOf z w)
+      → Passed (kindsOf z w) (map (argumentOf L (view s m c) n) (marksFrom (calledOf z w) f k)) x y
+
+-- instruction i is the Param with place n of function f
+pub record ParamIs (m : List ℕ) (c : Counts) (z : Sizes) (t : List (List 𝔹)) (i f n : ℕ) (p : Program) (v : Attrs) : Type 0 where
+  pub script : List ℕ
+  pub program : p ≡ view script m c
+  pub sound : Sound (view script m c) (z .insns) t
+  pub function : functionOf (view script m c) i ≡ f
+  pub op : opOf (view script m c) i ≡ Param n

@@ -1,0 +1,248 @@
+// What has flowed to a Param: the union of a set of operands in the reference's order, by two passes over the operands as they come.
+use kinds::Joined;
+use kinds::Kind;
+use program::Counts;
+use program::Op;
+use program::Opnd;
+use sets::FunId;
+use sets::InsnId;
+use state::NextInsn;
+use state::Sizes;
+ghost use mathlib.Core.Path.{_≡_};
+ghost use mathlib.Core.List.{[], _∷_};
+ghost use Prim.Native.Nat.{ℕ, _≤_, _<_};
+ghost use Rattle.rules.specs.Program.{Param};
+ghost use Rattle.rules.specs.Machine.{rule};
+ghost use Rattle.program.specs.Rows.{opndOf};
+ghost use Rattle.program.specs.View.{Ready};
+ghost use Rattle.state.specs.View.{kindsOf, calledOf, Held};
+ghost use Rattle.opnds.specs.Reads.{Inside, Reads};
+ghost use Rattle.flows.specs.Tally.{lower, before, take as taken, close, finish};
+ghost use Rattle.flows.specs.Flows.{tallyOf, Adds, Passed, skipOf, Argues, Known, PassedIn, ParamIs};
+
+// What was met so far: no operand, one operand and its kind, or the union of several.
+pub enum Tally {
+    Nothing,
+    One(Opnd, Kind),
+    Many(Joined),
+}
+
+// The first pass finds the least instruction whose kind is Any, the second takes what stands before it.
+pub struct Pass {
+    pub second: bool,
+    pub least: usize,
+    pub tally: Tally,
+}
+
+fn before(a: usize, o: Opnd) -> bool
+    ensures { λ r. ⌜ r ≡ before [] a (opndOf o) ⌝ }
+{
+    match o {
+        Opnd::Const(_) => true,
+        Opnd::Insn(i) => (i.0 as usize) < a,
+    }
+}
+
+fn lower(m: &[usize], z: Sizes, a: usize, o: Opnd) -> usize
+    requires { ⌜ Held z (now m) ⌝ }
+    requires { ⌜ Inside z o ⌝ }
+    ensures { λ r. ⌜ r ≡ lower (kindsOf z (now (m .entry))) a (opndOf o) ⌝ }
+{
+    match o {
+        Opnd::Const(_) => a,
+        Opnd::Insn(i) => {
+            let k = state::kind_at(m, z, i);
+            let j = i.0 as usize;
+            if k.is_any() {
+                if j < a {
+                    return j;
+                }
+            }
+            a
+        }
+    }
+}
+
+fn add(t: Tally, k: Kind, o: Opnd) -> Tally
+    ensures { λ r. ⌜ Adds t k o r ⌝ }
+{
+    match t {
+        Tally::Nothing => Tally::One(o, k),
+        Tally::One(w, j) => {
+            if program::same_opnd(o, w) {
+                return t;
+            }
+            Tally::Many(kinds::union(j, k))
+        }
+        Tally::Many(j) => Tally::Many(kinds::join(j, k)),
+    }
+}
+
+fn take(m: &[usize], z: Sizes, a: usize, t: Tally, o: Opnd) -> Tally
+    requires { ⌜ Held z (now m) ⌝ }
+    requires { ⌜ Inside z o ⌝ }
+    ensures { λ r. ⌜ tallyOf r ≡ taken (kindsOf z (now (m .entry))) a (tallyOf t) (opndOf o) ⌝ }
+{
+    if before(a, o) {
+        let k = opnds::kind_of(m, z, o);
+        if k.is_empty() {
+            return t;
+        }
+        if k.is_any() {
+            return t;
+        }
+        return add(t, k, o);
+    }
+    t
+}
+
+// One operand in a pass.
+fn pass_one(m: &[usize], z: Sizes, x: Pass, o: Opnd) -> Pass
+    requires { ⌜ Held z (now m) ⌝ }
+    requires { ⌜ Inside z o ⌝ }
+    ensures { λ r. ⌜ Passed (kindsOf z (now (m .entry))) (opndOf o ∷ []) x r ⌝ }
+{
+    let t = x.tally;
+    let a = x.least;
+    if x.second {
+        let next = take(m, z, a, t, o);
+        return Pass {
+            second: true,
+            least: a,
+            tally: next,
+        };
+    }
+    Pass {
+        second: false,
+        least: lower(m, z, a, o),
+        tally: t,
+    }
+}
+
+// How many operands of a sort stand before its arguments.
+fn skipped(op: Op) -> usize
+    ensures { λ r. ⌜ (r ≡ skipOf op) × (r ≤ 1) ⌝ }
+{
+    match op {
+        Op::Jump(_) => 0,
+        Op::IfTrue(_, _) => 0,
+        Op::Return => 0,
+        Op::SendStatic(_) => 0,
+        Op::SendDynamic(_) => 1,
+        Op::Compute(_) => 0,
+        Op::Phi(_, _) => 0,
+        Op::Param(_) => 0,
+        Op::SelfParam(_) => 0,
+        Op::New(_) => 0,
+        Op::GetIvar(_) => 0,
+        Op::SetIvar(_) => 0,
+    }
+}
+
+// The argument that call i has for place n; Empty where it has none.
+pub fn argument(p: &[usize], c: Counts, i: InsnId, n: usize) -> Opnd
+    requires { ⌜ Ready (now p) c ⌝ }
+    requires { ⌜ i .0 < c .insns ⌝ }
+    ensures { λ r. ⌜ Argues (now (p .entry)) c (i .0) n r ⌝ }
+{
+    let row = program::read_insn(p, c, i);
+    let op = row.op;
+    let skip = skipped(op);
+    let count = row.count;
+    if n < count {
+        let j = skip + n;
+        if j < count {
+            return program::read_operand(p, c, row, j);
+        }
+    }
+    Opnd::Const(Kind::Empty)
+}
+
+// The arguments for place n of the callers of f, in a pass.
+fn pass_callers(
+    p: &[usize],
+    c: Counts,
+    m: &[usize],
+    z: Sizes,
+    f: FunId,
+    n: usize,
+    start: Pass,
+) -> Pass
+    requires { ⌜ Held z (now m) ⌝ }
+    requires { ⌜ Known (now p) c z (calledOf z (now m)) ⌝ }
+    requires { ⌜ f .0 < z .functions ⌝ }
+    ensures { λ r. ⌜ PassedIn (now (p .entry)) c z (now (m .entry)) (f .0) n 0 start r ⌝ }
+{
+    let mut x = start;
+    let mut from = InsnId(0);
+    loop {
+        match state::next_caller(m, z, f, from) {
+            NextInsn::Place(i) => {
+                let o = argument(p, c, i, n);
+                x = pass_one(m, z, x, o);
+                from = InsnId(i.0 + 1);
+            }
+            NextInsn::Done => {
+                return x;
+            }
+        }
+    }
+}
+
+fn close_tally(t: Tally) -> Joined
+    ensures { λ r. ⌜ r ≡ close [] (tallyOf t) ⌝ }
+{
+    match t {
+        Tally::Nothing => Joined::Of(Kind::Empty),
+        Tally::One(_, k) => Joined::Of(k),
+        Tally::Many(j) => j,
+    }
+}
+
+fn finish_pass(n: usize, a: usize, t: Tally) -> Joined
+    ensures { λ r. ⌜ r ≡ finish [] n a (tallyOf t) ⌝ }
+{
+    let j = close_tally(t);
+    if a < n {
+        return kinds::join(j, Kind::Any);
+    }
+    j
+}
+
+// The kind of a Param of function f with place n.
+pub fn param(p: &[usize], c: Counts, m: &[usize], z: Sizes, f: FunId, n: usize) -> Joined
+    requires { ⌜ Held z (now m) ⌝ }
+    requires { ⌜ Known (now p) c z (calledOf z (now m)) ⌝ }
+    requires { ⌜ f .0 < z .functions ⌝ }
+    ensures { λ r. ⌜ ((i : ℕ) → Reads z (ParamIs (now (p .entry)) c z (calledOf z (now (m .entry))) i (f .0) n) (λ L p. rule L p i (Param n)) (now (m .entry)) r) ⌝ }
+{
+    let first = pass_callers(
+        p,
+        c,
+        m,
+        z,
+        f,
+        n,
+        Pass {
+            second: false,
+            least: z.insns,
+            tally: Tally::Nothing,
+        },
+    );
+    let a = first.least;
+    let both = pass_callers(
+        p,
+        c,
+        m,
+        z,
+        f,
+        n,
+        Pass {
+            second: true,
+            least: a,
+            tally: Tally::Nothing,
+        },
+    );
+    let t = both.tally;
+    finish_pass(z.insns, a, t)
+}

@@ -1,0 +1,196 @@
+-- Words: what the tests of kinds say in the rules' words, and the steps over a word. Assumes nothing.
+use mathlib.Core.Bool.{true, false}
+use mathlib.Core.Path.{_≡_, refl, sym, ap, _∙_}
+use mathlib.Core.List.{List}
+use Prim.Native.Nat.{ℕ, _+_, _≤_, _<_}
+use Prim.Native.String.{String}
+use native.Mathlib.Omega.{arith}
+use lib.Dec.{eqb}
+use lib.ListN.{length}
+use borrow.Author.Tests.{eq-eqb, ne-eqb}
+use Rattle.rules.specs.Actions.{answered, refused}
+use Rattle.rules.specs.Words.{is, isIdent, isLiteral}
+use Rattle.rules.specs.Reading.{peek, pass, next, expect, expectIdent, matchToken}
+use Rattle.words.specs.Lexed.{textOf, wordIn, Reads}
+use Rattle.words.specs.declared.Lexed.{Lexed}
+use Rattle.words.specs.declared.Lexed.the-variants.{Found, Refused}
+use Rattle.words.specs.declared.Word.{Word}
+use Rattle.words.proofs.Texts.{ident-kind, literal-kind, fixed-kind}
+use Rattle.parser.specs.Cursor.{parserOf, moveCur}
+use Rattle.parser.specs.Promises.{Spelt, Sees, Idents, Expects, Matches}
+use Rattle.parser.specs.declared.Cur.{Cur}
+use Rattle.parser.specs.declared.Moved.the-variants as Moved
+use Rattle.parser.specs.declared.Ident.the-variants as Ident
+use Rattle.parser.specs.declared.Matched.the-variants as Matched
+use Rattle.program.specs.declared.Name.{Name}
+
+-- ---- kinds
+
+module _ (x : Word) {s : List ℕ} {at : ℕ} (h : Reads s at x) where
+  by-kind : (k : ℕ) (t : String) → Spelt k t → is (wordIn s x) t ≡ eqb (x .kind) k
+  by-kind k t sp = rw (h .kind) (sp (textOf s x))
+
+  pub is-yes : {k : ℕ} (t : String) → Spelt k t → x .kind ≡ k → is (wordIn s x) t ≡ true
+  is-yes {k} t sp e = by-kind k t sp ∙ eq-eqb _ _ e
+
+  pub is-no : {k : ℕ} (t : String) → Spelt k t → (x .kind ≡ k → ⊥) → is (wordIn s x) t ≡ false
+  is-no {k} t sp e = by-kind k t sp ∙ ne-eqb _ _ e
+
+  pub ident-yes : x .kind ≡ 1 → isIdent (wordIn s x) ≡ true
+  ident-yes e = ident-kind (wordIn s x) ∙ eq-eqb _ _ (sym (h .kind) ∙ e)
+
+  pub ident-no : (x .kind ≡ 1 → ⊥) → isIdent (wordIn s x) ≡ false
+  ident-no e = ident-kind (wordIn s x) ∙ ne-eqb _ _ (λ z. e (h .kind ∙ z))
+
+  pub literal-yes : x .kind ≡ 2 → isLiteral (wordIn s x) ≡ true
+  literal-yes e = literal-kind (wordIn s x) ∙ eq-eqb _ _ (sym (h .kind) ∙ e)
+
+  pub literal-no : (x .kind ≡ 2 → ⊥) → isLiteral (wordIn s x) ≡ false
+  literal-no e = literal-kind (wordIn s x) ∙ ne-eqb _ _ (λ z. e (h .kind ∙ z))
+
+-- the kinds of signs
+pub spelt-end : Spelt 5 "end"
+spelt-end x = fixed-kind x 2 (omega arith)
+
+pub spelt-else : Spelt 8 "else"
+spelt-else x = fixed-kind x 5 (omega arith)
+
+pub spelt-open : Spelt 40 "("
+spelt-open x = fixed-kind x 8 (omega arith)
+
+pub spelt-close : Spelt 41 ")"
+spelt-close x = fixed-kind x 9 (omega arith)
+
+pub spelt-comma : Spelt 44 ","
+spelt-comma x = fixed-kind x 10 (omega arith)
+
+pub spelt-plus : Spelt 43 "+"
+spelt-plus x = fixed-kind x 11 (omega arith)
+
+pub spelt-minus : Spelt 45 "-"
+spelt-minus x = fixed-kind x 12 (omega arith)
+
+pub spelt-times : Spelt 42 "*"
+spelt-times x = fixed-kind x 13 (omega arith)
+
+pub spelt-equals : Spelt 61 "="
+spelt-equals x = fixed-kind x 14 (omega arith)
+
+pub spelt-less : Spelt 60 "<"
+spelt-less x = fixed-kind x 15 (omega arith)
+
+pub spelt-dot : Spelt 46 "."
+spelt-dot x = fixed-kind x 16 (omega arith)
+
+pub spelt-at : Spelt 64 "@"
+spelt-at x = fixed-kind x 18 (omega arith)
+
+-- ---- a word that was looked at
+
+module _ {s : List ℕ} {c : Cur} {r : Lexed} (l : Sees s c r) where
+  pub word-read : {x : Word} → r ≡ Found x → Reads s (c .at) x
+  word-read e = let h = rw e at (l .lexes) in h .word
+
+  module _ (m w : List ℕ) where
+    pub peek-found : {x : Word} → r ≡ Found x → answered (wordIn s x, parserOf s m w c) ≡ peek s (parserOf s m w c)
+    unfolding peek parserOf
+    peek-found e = let h = rw e at (l .lexes) in rw (← h .is)
+
+    pub peek-none : {e : ℕ} → r ≡ Refused e → refused e ≡ peek s (parserOf s m w c)
+    unfolding peek parserOf
+    peek-none e = let h = rw e at (l .lexes) in rw (← h .is)
+
+    pub pass-found : {x : Word} → r ≡ Found x → answered (tt, parserOf s m w (moveCur (x .next) c)) ≡ pass s (parserOf s m w c)
+    unfolding pass peek parserOf
+    pass-found e = let h = rw e at (l .lexes) in rw (← h .is)
+
+    pub next-found : {x : Word} → r ≡ Found x → answered (wordIn s x, parserOf s m w (moveCur (x .next) c)) ≡ next s (parserOf s m w c)
+    unfolding next
+    next-found e = rw (← peek-found e, ← pass-found e)
+
+    pub next-none : {e : ℕ} → r ≡ Refused e → refused e ≡ next s (parserOf s m w c)
+    unfolding next
+    next-none e = rw (← peek-none e)
+
+-- ---- the readers of one word
+
+module _ {s : List ℕ} {c : Cur} {r : Lexed} (l : Sees s c r) where
+  onward : {x : Word} {c' : Cur} → r ≡ Found x → (x .kind ≡ 0 → ⊥) → c' ≡ moveCur (x .next) c
+      → (c' ≡ moveCur (c' .at) c) × ((c .at + 1 ≤ c' .at) × (c .at ≤ length s → c' .at ≤ length s))
+  onward {x} {c'} f z e =
+      let h = word-read l f in
+      let a : c' .at ≡ x .next = ap (λ (d : Cur). d .at) e in
+      (e ∙ ap (λ n. moveCur n c) (sym a), (omega (arith, h .on z, a), λ i. omega (arith, h .inside i, a)))
+
+  pub expect-yes : {x : Word} {k : ℕ} {c' : Cur} → 0 < k → r ≡ Found x → x .kind ≡ k → c' ≡ moveCur (x .next) c → Expects s k c (Moved.On c')
+  unfolding expect
+  expect-yes {x} {k} {c'} p f q e =
+      record {
+        moves = λ t sp.
+            record {
+              is = λ m w. rw (e, ← next-found l m w f, is-yes x (word-read l f) t sp q);
+              ok = onward f (λ z. omega arith) e;
+            };
+      }
+
+  pub expect-no : {x : Word} {k : ℕ} → r ≡ Found x → (x .kind ≡ k → ⊥) → Expects s k c (Moved.Refused 5)
+  unfolding expect
+  expect-no {x} f q = record { moves = λ t sp. record { is = λ m w. rw (← next-found l m w f, is-no x (word-read l f) t sp q); ok = tt } }
+
+  pub expect-none : {k e : ℕ} → r ≡ Refused e → Expects s k c (Moved.Refused e)
+  unfolding expect
+  expect-none f = record { moves = λ t sp. record { is = λ m w. rw (← next-none l m w f); ok = tt } }
+
+  pub ident-found : {x : Word} {n : Name} {c' : Cur} → r ≡ Found x → x .kind ≡ 1 → c' ≡ moveCur (x .next) c → n ≡ record { start = x .start; len = x .len }
+      → Idents s c (Ident.Found c' n)
+  unfolding expectIdent
+  ident-found {x} {n} {c'} f q e g =
+      record {
+        moves = record { is = λ m w. rw (e, g, ← next-found l m w f, ident-yes x (word-read l f) q); ok = onward f (λ z. omega arith) e };
+        inside = λ d k h i. let z : k ≡ n = cc in let h = word-read l f in rw (z, g) (omega (arith, h .next, h .inside i));
+      }
+
+  pub ident-other : {x : Word} → r ≡ Found x → (x .kind ≡ 1 → ⊥) → Idents s c (Ident.Refused 5)
+  unfolding expectIdent
+  ident-other {x} f q =
+      record {
+        moves = record { is = λ m w. rw (← next-found l m w f, ident-no x (word-read l f) q); ok = tt };
+        inside = λ d k h i. let z : _≡_ {A = ℕ} 0 1 = cc in absurd (omega arith);
+      }
+
+  pub ident-none : {e : ℕ} → r ≡ Refused e → Idents s c (Ident.Refused e)
+  unfolding expectIdent
+  ident-none f =
+      record {
+        moves = record { is = λ m w. rw (← next-none l m w f); ok = tt };
+        inside = λ d k h i. let z : _≡_ {A = ℕ} 0 1 = cc in absurd (omega arith);
+      }
+
+  pub match-yes : {x : Word} {k : ℕ} {c' : Cur} → 0 < k → r ≡ Found x → x .kind ≡ k → c' ≡ moveCur (x .next) c → Matches s k c (Matched.Yes c')
+  unfolding matchToken
+  match-yes {x} {k} {c'} p f q e =
+      let o = onward f (λ z. omega arith) e in
+      record {
+        moves = λ t sp.
+            record {
+              is = λ m w. rw (e, ← peek-found l m w f, is-yes x (word-read l f) t sp q, ← pass-found l m w f);
+              ok = (o .0, (omega (arith, o .1 .0), o .1 .1));
+            };
+        further = λ d g. let z : d ≡ c' = cc in rw z (omega (arith, o .1 .0));
+      }
+
+  pub match-not : {x : Word} {k : ℕ} → r ≡ Found x → (x .kind ≡ k → ⊥) → Matches s k c Matched.Not
+  unfolding matchToken
+  match-not {x} f q =
+      record {
+        moves = λ t sp. record { is = λ m w. rw (← peek-found l m w f, is-no x (word-read l f) t sp q); ok = (refl, (omega arith, λ i. i)) };
+        further = λ d g. let z : _≡_ {A = ℕ} 0 1 = cc in absurd (omega arith);
+      }
+
+  pub match-none : {k e : ℕ} → r ≡ Refused e → Matches s k c (Matched.Refused e)
+  unfolding matchToken
+  match-none f =
+      record {
+        moves = λ t sp. record { is = λ m w. rw (← peek-none l m w f); ok = tt };
+        further = λ d g. let z : _≡_ {A = ℕ} 0 1 = cc in absurd (omega arith);
+      }

@@ -1,0 +1,4 @@
+pub mod Ifs
+pub mod Steps
+pub mod Paths
+pub mod Cycle
