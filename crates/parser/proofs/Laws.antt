@@ -93,7 +93,7 @@ module _ {A : Type 0} {s m w : List ℕ} {c : Cur} where
       → answered (a, parserOf s m' w' c') ≡ f (parserOf s m w c) → Did f j s m w c m' w' (done a c')
   arrives st l h e = record { is = e; ok = (h, step-less l st) }
 
-after-step : {A : Type 0} {k : ℕ} (j i : ℕ) {w w1 : List ℕ} (s m2 w2 : List ℕ) {c c1 : Cur} (o : Out A) → Step k c w c1 w1 → i ≤ k + j → After j s c1 w1 m2 w2 o → After i s c w m2 w2 o
+pub after-step : {A : Type 0} {k : ℕ} (j i : ℕ) {w w1 : List ℕ} (s m2 w2 : List ℕ) {c c1 : Cur} (o : Out A) → Step k c w c1 w1 → i ≤ k + j → After j s c1 w1 m2 w2 o → After i s c w m2 w2 o
 after-step j i s m2 w2 (done a c2) st l h = (h .0, step-less l (step-trans st (h .1)))
 after-step j i s m2 w2 (stop e) st l h = tt
 
@@ -148,9 +148,9 @@ moved-did {k = k} {m = m} {w = w} {o = o} v h = record { is = v .is m w; ok = mo
 -- ---- readers that add instructions
 
 module _ {s m w m' : List ℕ} {c : Cur} (h : In s m w c) where
-  counted : (n : Counts) → View.Ready m' n → n .functions ≡ c .counts .functions → n .classes ≡ c .counts .classes → n .blocks ≡ c .counts .blocks
-      → After {A = Unit {0}} 0 s c w m' w (done tt (countCur n c))
-  counted n r f k b = (
+  pub in-counted : (n : Counts) → View.Ready m' n → n .functions ≡ c .counts .functions → n .classes ≡ c .counts .classes → c .counts .blocks ≤ n .blocks
+      → In s m' w (countCur n c) × Step 0 c w (countCur n c) w
+  in-counted n r f k b = (
     record {
       ready = record {
         script = h .ready .script;
@@ -172,7 +172,7 @@ module _ {s m w m' : List ℕ} {c : Cur} (h : In s m w c) where
       receiver = refl;
       functions = omega arith;
       classes = omega arith;
-      blocks = omega arith;
+      blocks = b;
       old = λ i a. refl;
       rows = λ i a b. refl;
       stack = λ i a b. refl;
@@ -180,7 +180,7 @@ module _ {s m w m' : List ℕ} {c : Cur} (h : In s m w c) where
   )
 
 added-after : {A : Type 0} {s m w : List ℕ} (m' : List ℕ) {c : Cur} (o : Out A) → Grown m' c o → In s m w c → After 0 s c w m' w o
-added-after m' {c = c} (done a c') v h = rw (v .cur) (counted h (c' .counts) (v .ready) (v .functions) (v .classes) (v .blocks))
+added-after m' {c = c} (done a c') v h = rw (v .cur) (in-counted h (c' .counts) (v .ready) (v .functions) (v .classes) (omega (arith, v .blocks)))
 added-after m' (stop e) v h = tt
 
 pub added-did : {A : Type 0} {f : Reads A} {s m w m' : List ℕ} {c : Cur} {o : Out A} → Adds s w f m c m' o → In s m w c → Did f 0 s m w c m' w o

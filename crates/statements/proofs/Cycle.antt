@@ -36,7 +36,7 @@ use Rattle.parser.specs.declared.Moved.{Moved}
 use Rattle.parser.specs.declared.Moved.the-variants as On
 use Rattle.parser.specs.declared.Parsed.{Parsed}
 use Rattle.parser.specs.declared.Parsed.the-variants.{Done, Refused}
-use Rattle.parser.proofs.Laws.{Went, got, gave, refuses, arrives, ends-as, moved-did, added-did, in-moved, step-moved, step-less, step-trans, step-none}
+use Rattle.parser.proofs.Laws.{after-step, Went, got, gave, refuses, arrives, ends-as, moved-did, added-did, in-moved, step-moved, step-less, step-trans, step-none}
 use Rattle.parser.proofs.Wording.{spelt-else, is-yes, is-no, word-read, peek-found, peek-none, pass-found}
 use Rattle.statements.specs.declared.Branch.{Branch}
 use Rattle.statements.specs.declared.Opened.{Opened}
@@ -46,7 +46,7 @@ use Rattle.statements.specs.declared.Stops.the-variants as H
 use Rattle.statements.specs.Acts.{stopsAt, parseArm, openElse, finishIf, finishElse, parseElse, ifOf}
 use Rattle.statements.specs.Shape.{blockCur, openedOf, stopsOf, halts, Halts, Opens, EndsBlock, Inside, DidFrom, Aside, OpensElse, FinishesElse, Arm}
 use Rattle.statements.proofs.Ifs.{if-is}
-use Rattle.statements.proofs.Steps.{block-of, env-of, block-to, Keeps, keeps-step, keeps-low, keeps-then, keeps-later, keeps-vars, after-then, after-over, inside-step, inside-then, few-vars, arm-then, opens-did, in-block, step-block}
+use Rattle.statements.proofs.Steps.{block-of, env-of, block-to, Keeps, keeps-step, keeps-low, keeps-then, keeps-later, keeps-vars, after-over, inside-step, inside-then, few-vars, arm-then, opens-did, in-block, step-block}
 
 -- ---- parse_statements
 
@@ -343,7 +343,7 @@ module _ (l : Limits) {s : List ℕ} (d : ℕ) {m w : List ℕ} {c : Cur} {p : P
                     let old : vars s w4 (c1 .vars) ≡ vars s w1 (c1 .vars) = keeps-vars s (keeps-step since) in
                     record {
                       is = rw old at (t .is) ∙ rw (← if-went .is, ← first-went .is, ← join-went .is, ← y) at (is-if l d s m w c);
-                      ok = after-then 1 1 s m' w' r (if-went .step) (omega arith) (after-over 1 s m' w' r (keeps-step since) (t .ok));
+                      ok = after-step 1 1 s m' w' r (if-went .step) (omega arith) (after-over 1 s m' w' r (keeps-step since) (t .ok));
                     }
 
 -- ---- parse_statement

@@ -54,7 +54,7 @@ use Rattle.parser.specs.declared.Moved.{Moved}
 use Rattle.parser.specs.declared.Moved.the-variants as On
 use Rattle.parser.specs.declared.Parsed.{Parsed}
 use Rattle.parser.specs.declared.Parsed.the-variants.{Done, Refused}
-use Rattle.parser.proofs.Laws.{Went, got, gave, refuses, arrives, ends-as, moved-did, added-did, in-moved, step-moved, step-less, step-trans, step-none}
+use Rattle.parser.proofs.Laws.{after-step, in-counted, Went, got, gave, refuses, arrives, ends-as, moved-did, added-did, in-moved, step-moved, step-less, step-trans, step-none}
 use Rattle.parser.proofs.Wording.{spelt-end, spelt-else, is-yes, is-no, word-read, peek-found, peek-none, pass-found}
 use Rattle.statements.specs.declared.Branch.{Branch}
 use Rattle.statements.specs.declared.Opened.{Opened}
@@ -64,7 +64,7 @@ use Rattle.statements.specs.declared.Stops.the-variants as H
 use Rattle.statements.specs.Acts.{addEnd, stopsAt, parseArm, openElse, joinArms, joinValue, finishIf, finishElse, parseElse, ifOf}
 use Rattle.statements.specs.Shape.{blockCur, varsCur, openedOf, stopsOf, halts, Halts, Wider, Widened, Opens, AddsEnd, EndsBlock, Inside, DidFrom, Aside, AsideIf, OpensElse, JoinsArms, FinishesElse, Arm}
 use Rattle.statements.proofs.Ifs.{if-is}
-use Rattle.statements.proofs.Steps.{block-of, env-of, block-to, Keeps, keeps-step, keeps-low, keeps-then, keeps-later, keeps-vars, after-then, after-over, inside-step, inside-then, few-vars, arm-then, in-counted, opens-did, in-block, step-block}
+use Rattle.statements.proofs.Steps.{block-of, env-of, block-to, Keeps, keeps-step, keeps-low, keeps-then, keeps-later, keeps-vars, after-over, inside-step, inside-then, few-vars, arm-then, opens-did, in-block, step-block}
 
 -- ---- a cursor with several parts changed
 
@@ -466,7 +466,7 @@ module _ (l : Limits) {s m w : List ℕ} {c₀ c : Cur} (q : Branch) (h : In s m
         bare-yes {m3} {p} d =
             let k = rw i at bare-joined in
             let o = rw i at (g .ok) in
-            record { is = rw (← bare-went .is, ← k) (d .is); ok = after-then 1 1 s m3 w2 p (o .1) (omega arith) (d .ok) }
+            record { is = rw (← bare-went .is, ← k) (d .is); ok = after-step 1 1 s m3 w2 p (o .1) (omega arith) (d .ok) }
 
 -- ---- finish_else
 
@@ -487,5 +487,5 @@ module _ (l : Limits) {s m w : List ℕ} {c₀ c : Cur} (q : Branch) (b : BlockI
         let o = rw e at (g .ok) in
         record {
           is = λ left r. let k = rw e at (g .is left r) in rw (← k) (d .is);
-          ok = after-then 1 1 s m2 w1 (parsedOf p) (o .1) (omega arith) (d .ok);
+          ok = after-step 1 1 s m2 w1 (parsedOf p) (o .1) (omega arith) (d .ok);
         }

@@ -19,7 +19,7 @@ use Rattle.parser.specs.Promises.{Out, done, stop, outcome, After, Did, Moves, 
 use Rattle.parser.specs.declared.Cur.{Cur}
 use Rattle.parser.specs.declared.Matched.{Matched}
 use Rattle.parser.specs.declared.Matched.the-variants as Matched
-use Rattle.parser.proofs.Laws.{Went, got, moved-did, step-less, step-trans, step-none}
+use Rattle.parser.proofs.Laws.{in-counted, Went, got, moved-did, step-less, step-trans, step-none}
 use Rattle.parser.proofs.Wording.{spelt-else}
 use Rattle.statements.specs.declared.Branch.{Branch}
 use Rattle.statements.specs.declared.Opened.{Opened}
@@ -69,10 +69,6 @@ pub keeps-vars : {c₀ : Cur} {w w' : List ℕ} (s : List ℕ) → Keeps c₀ w 
 keeps-vars {c₀} {w} {w'} s a = ap envOf (made-move s w w' 0 0 (c₀ .vars) (λ i l. let z : 0 + i ≡ i = omega arith in rw z (a .old i l)))
 
 -- ---- after a step
-
-pub after-then : {A : Type 0} {k : ℕ} (j i : ℕ) {w w1 : List ℕ} (s m2 w2 : List ℕ) {c c1 : Cur} (o : Out A) → Step k c w c1 w1 → i ≤ k + j → After j s c1 w1 m2 w2 o → After i s c w m2 w2 o
-after-then j i s m2 w2 (done a c2) st l h = (h .0, step-less l (step-trans st (h .1)))
-after-then j i s m2 w2 (stop e) st l h = tt
 
 step-over : {k : ℕ} {c₀ c' : Cur} {w w1 w2 : List ℕ} → Keeps c₀ w w1 → Step k c₀ w1 c' w2 → Step k c₀ w c' w2
 step-over a b =
@@ -143,38 +139,6 @@ arm-then a b =
     }
 
 -- ---- a cursor with more rows in the tables
-
-module _ {s m w m' : List ℕ} {c : Cur} (h : In s m w c) where
-  pub in-counted : (n : Counts) → View.Ready m' n → n .functions ≡ c .counts .functions → n .classes ≡ c .counts .classes → c .counts .blocks ≤ n .blocks
-      → In s m' w (countCur n c) × Step 0 c w (countCur n c) w
-  in-counted n r f k b = (
-    record {
-      ready = record {
-        script = h .ready .script;
-        inside = h .ready .inside;
-        tables = r;
-        scratch = h .ready .scratch;
-        room = h .ready .room;
-        args = h .ready .args;
-      };
-      block = omega (arith, h .block);
-    },
-    record {
-      on = omega arith;
-      paid = omega arith;
-      more = omega arith;
-      aside = refl;
-      args = refl;
-      class = refl;
-      receiver = refl;
-      functions = omega arith;
-      classes = omega arith;
-      blocks = b;
-      old = λ i a. refl;
-      rows = λ i a b. refl;
-      stack = λ i a b. refl;
-    },
-  )
 
 opened-after : {s m w : List ℕ} (m' : List ℕ) {c : Cur} (o : Out ℕ) → Widened m' c o → In s m w c → After 0 s c w m' w o
 opened-after m' (done b c') v h = rw (v .0 .cur) (in-counted h (c' .counts) (v .0 .ready) (v .0 .functions) (v .0 .classes) (v .0 .blocks))
