@@ -2,11 +2,12 @@
 use Prim.Native.Nat.{ℕ, _≤_, _^_}
 use native.Mathlib.Omega.{arith}
 use native.Mathlib.Nat.{le-trans}
-use mathlib.Core.Path.{_≡_, refl}
+use mathlib.Core.Bool.{Bool as 𝔹, true, false}
+use mathlib.Core.Path.{_≡_, refl, sym, _∙_}
 use mathlib.Core.List.{List}
-use lib.Dec.{lit≤}
+use lib.Dec.{lit≤, leb}
 use lib.ListN.{length}
-use Rattle.rules.specs.Actions.{Answer, answered, refused, ifAnswered}
+use Rattle.rules.specs.Actions.{Answer, answered, refused}
 use Rattle.rules.specs.Program.{Limits, limits, Program}
 use Rattle.rules.specs.Reading.{parseProgram}
 use Rattle.rules.specs.Machine.{start, run}
@@ -17,7 +18,7 @@ use Rattle.rules.specs.Steps.{Demand, Told, Answers}
 use Rattle.rules.proofs.Wellformed.Laws.{Comes, done, andThen}
 use Rattle.rules.proofs.Wellformed.Operands.{Sane}
 use Rattle.rules.proofs.Wellformed.Wording.{Question}
-use Rattle.rules.proofs.Wellformed.Forward.{refusal}
+use Rattle.rules.proofs.Wellformed.Forward.{program-comes, too-long}
 use Rattle.rules.proofs.Wellformed.Whole.{finished}
 use Rattle.rules.proofs.Exactness.Theorem.{exact-of}
 use Rattle.rules.proofs.Questions.{Asked, Anything, start-fine, run-fine}
@@ -32,30 +33,36 @@ usable-sane L u = record { builtIns = u .builtIns; functions = u .functions; cla
 pub demand : Demand
 demand L u script a e = exact-of L (u .classes) script a (finished L (usable-sane L u) script) e
 
--- a question's number, of the reading or of the analysis
-abbrev Number : ℕ → Type 0
-Number n = (1 ≤ n) × (n ≤ 20) × (n ≡ 2 → ⊥)
+-- a question's number, of the reading after question 1 or of the analysis
+abbrev pub Number : ℕ → Type 0
+Number n = (3 ≤ n) × (n ≤ 20)
 
-of-analysis : (n : ℕ) → Asked n → Number n
-of-analysis n h = (omega (arith, h .0), h .1, λ e. omega (arith, h .0, e))
-
-numbers : (L : Limits) (script : List ℕ) → Comes Number Anything (analyze L script)
+pub numbers : (L : Limits) (script : List ℕ) → leb (length script) (L .script) ≡ true → Comes Number Anything (analyze L script)
 unfolding analyze
-numbers L script =
-    andThen (reading (parseProgram L script) (λ n e. refusal L script n e)) (λ p q.
+numbers L script h =
+    andThen (reading (program-comes L script h)) (λ p q.
     andThen (other (start-fine L p)) (λ s q.
     andThen (other (run-fine L p (bound p) s)) (λ e q. done tt)))
   where
     other : {A : Type 0} {a : Answer A} → Comes Asked Anything a → Comes Number Anything a
-    other c = record { answers = λ x e. tt; refuses = λ n e. of-analysis n (c .refuses n e) }
+    other c = record { answers = λ x e. tt; refuses = λ n e. let h = c .refuses n e in (omega (arith, h .0), h .1) }
 
-    reading : (a : Answer Program) → ((n : ℕ) → a ≡ refused n → Question n) → Comes Number Anything a
-    reading a h = record { answers = λ x e. tt; refuses = λ n e. let q = h n e in (q .least, omega (arith, q .most), q .reads) }
+    reading : {a : Answer Program} → Comes Question Anything a → Comes Number Anything a
+    reading c = record { answers = λ x e. tt; refuses = λ n e. let q = c .refuses n e in (q .least, omega (arith, q .most)) }
+
+-- question 1
+pub long-refused : (L : Limits) (script : List ℕ) → leb (length script) (L .script) ≡ false → analyze L script ≡ refused 1
+unfolding analyze
+long-refused L script e = rw (too-long L script e)
 
 -- every script is answered, or refused by a question
 pub answers : Answers
-answers L u script = go (analyze L script) refl
+answers L u script = go (analyze L script) refl (leb (length script) (L .script)) refl
   where
-    go : (r : Answer Analysis) → analyze L script ≡ r → Told r
-    go (answered a) e = demand L u script a e
-    go (refused n) e = numbers L script .refuses n e
+    go : (r : Answer Analysis) → analyze L script ≡ r → (b : 𝔹) → leb (length script) (L .script) ≡ b → Told r
+    go (answered a) e b f = demand L u script a e
+    go (refused n) e true f = let q = numbers L script f .refuses n e in (omega (arith, q .0), q .1, λ z. omega (arith, q .0))
+    go (refused n) e false f =
+        let q : _≡_ {A = Answer Analysis} (refused 1) (refused n) = sym (long-refused L script f) ∙ e in
+        let z : 1 ≡ n = cc in
+        (omega arith, omega arith, λ y. omega arith)

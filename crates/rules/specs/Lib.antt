@@ -6,6 +6,7 @@ pub mod Program
 pub mod Reading
 pub mod Uses
 pub mod Constructors
+pub mod Paths
 pub mod Machine
 pub mod Bound
 pub mod Frames

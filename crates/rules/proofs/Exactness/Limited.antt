@@ -6,7 +6,7 @@ use mathlib.Core.Path.{_≡_}
 use mathlib.Core.Bool.{Bool as 𝔹, true, false, _&&_}
 use mathlib.Core.List.{List, [], _∷_}
 use lib.ListN.{length}
-use lib.Dec.{leb, lit<}
+use lib.Dec.{leb, lit<, lit≤}
 use Rattle.rules.specs.Lists.{all, has, sum, consIf, placesFrom, places}
 use Rattle.rules.specs.Program.{Limits, limits, Op, Instruction, Class, Program, about, returned, listedCount}
 use Rattle.rules.specs.Uses.{uses}
@@ -108,19 +108,23 @@ module _ (p : Program) where
       three : (a b : ℕ) → a ≤ b → 3 * a ≤ 3 * b
       three a b h = omega arith
 
-  pub bound-fits : Finished limits p → bound p < 2 ^ 64
+  -- under limits that are none above the built-in ones it fits 63 bits
+  pub bound-small : (L : Limits) → Finished L p → L .functions ≤ 128 → L .classes ≤ 64 → L .instructions ≤ 2048 → L .ivars ≤ 64 → bound p < 2 ^ 63
   unfolding bound
-  bound-fits R =
-      let w = within limits p (R .limits) in
-      let i = w .instructions in
+  bound-small L R hf hc hi ha =
+      let w = within L p (R .limits) in
+      let i = le-trans (w .instructions) hi in
       let n : (t : Op → 𝔹) → number p t ≤ 2048 = λ t. le-trans (number-few t) i in
       let d : sum (λ (c : Class). length (c .ivars)) (p .classes) ≤ 64 * 64 =
-      le-trans (sum-bound (λ (c : Class). length (c .ivars)) (p .classes) 64 (λ c m. le-of (length (c .ivars)) 64 (all-in (λ (c : Class). leb (length (c .ivars)) 64) (p .classes) (w .ivars) m))) (mul-le-mul-right 64 (w .classes)) in
+      le-trans (sum-bound (λ (c : Class). length (c .ivars)) (p .classes) 64 (λ c m. le-trans (le-of (length (c .ivars)) (L .ivars) (all-in (λ (c : Class). leb (length (c .ivars)) (L .ivars)) (p .classes) (w .ivars) m)) ha)) (mul-le-mul-right 64 (le-trans (w .classes) hc)) in
       le-trans (below _ _ (bound-mono _ _ _ _ _ _ _ _ _ 2048 (2048 * 2048) 2048 2048 2048 (64 * 64) 2048 128 66
-      i (le-trans uses-few (mul-mono _ 2048 _ 2048 i i)) (n (λ o. has (about o .callee))) (n (λ o. has (returned o))) (n (λ o. has (about o .gets))) d (n (λ o. has (about o .place))) (w .functions) (two (w .classes)))) (lit< tt)
+      i (le-trans uses-few (mul-mono _ 2048 _ 2048 i i)) (n (λ o. has (about o .callee))) (n (λ o. has (returned o))) (n (λ o. has (about o .gets))) d (n (λ o. has (about o .place))) (le-trans (w .functions) hf) (two (le-trans (w .classes) hc)))) (lit< tt)
     where
       below : (a b : ℕ) → a ≤ b → suc a ≤ suc b
       below a b h = omega arith
 
       two : length (p .classes) ≤ 64 → length (p .classes) + 2 ≤ 66
       two h = omega arith
+
+  pub bound-fits : Finished limits p → bound p < 2 ^ 64
+  bound-fits R = le-trans (bound-small limits R (lit≤ tt) (lit≤ tt) (lit≤ tt) (lit≤ tt)) (lit≤ tt)
