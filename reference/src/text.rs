@@ -44,16 +44,18 @@ fn instruction(op: &Op) -> String {
     }
 }
 
-/// Outcome, then the program.
-pub fn dump(script: &[u8]) -> String {
+/// Outcome, that of the analysis if it is run, then the program.
+fn outcome(script: &[u8], analysed: bool) -> String {
     let prog = match read(script) {
         Err(number) => return format!("reading refused {number}\n"),
         Ok(prog) => prog,
     };
     let mut out = String::from("reading done\n");
-    match analyse(&prog) {
-        Err(number) => writeln!(out, "analysis refused {number}").unwrap(),
-        Ok(result) => writeln!(out, "analysis done {}", result.itr_count).unwrap(),
+    if analysed {
+        match analyse(&prog) {
+            Err(number) => writeln!(out, "analysis refused {number}").unwrap(),
+            Ok(result) => writeln!(out, "analysis done {}", result.itr_count).unwrap(),
+        }
     }
     writeln!(out, "main f{}", prog.main.0).unwrap();
     for (id, class) in prog.classes.iter().enumerate() {
@@ -79,6 +81,14 @@ pub fn dump(script: &[u8]) -> String {
         writeln!(out, "v{id} in b{}: {}", insn.block_id.0, instruction(&insn.op)).unwrap();
     }
     out
+}
+
+pub fn dump(script: &[u8]) -> String {
+    outcome(script, true)
+}
+
+pub fn program(script: &[u8]) -> String {
+    outcome(script, false)
 }
 
 /// One word a line, with its place in the script.

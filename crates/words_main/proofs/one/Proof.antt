@@ -19,14 +19,11 @@ same-length c = search needs
 returns-2 : tie.Need-returns-2
 returns-2 c = search needs
 
-write-length-requires : tie.Need-write-length-requires
-write-length-requires c κs = search needs
+slice-aggregate-write-part : tie.Need-slice-aggregate-write-part
+slice-aggregate-write-part c = search needs
 
-slice-aggregate-write-all : tie.Need-slice-aggregate-write-all
-slice-aggregate-write-all c = search needs
-
-write-all-requires : tie.Need-write-all-requires
-write-all-requires c κs = search needs
+write-part-requires : tie.Need-write-part-requires
+write-part-requires c κs = search needs
 
 same-length-2 : tie.Need-same-length-2
 same-length-2 c = search needs
@@ -61,9 +58,8 @@ one-spec =
     read-script-requires
     same-length
     returns-2
-    write-length-requires
-    slice-aggregate-write-all
-    write-all-requires
+    slice-aggregate-write-part
+    write-part-requires
     same-length-2
     returns-3
     slice-reshare-prefix-write-words

@@ -1,28 +1,28 @@
--- `words_main::put_bytes` meets its contract. Assumes nothing.
+-- `reader_main::put_operands` meets its contract. Assumes nothing.
 use mathlib.Core.Path.{_≡_}
 use lib.ListN.{length}
 use Prim.Native.Nat.{_-_, _≤_}
 use borrow.Author.Needs.{needs}
-use Rattle.words_main.proofs.put_bytes.Statement.{statement}
-use Rattle.words_main.proofs.put_bytes.Tie as tie
+use Rattle.reader_main.proofs.put_operands.Statement.{statement}
+use Rattle.reader_main.proofs.put_operands.Tie as tie
 
 abbrev Inv-loop : tie.InvT-loop
-Inv-loop out₀ at t to₀ i₀ out to i = (i ≤ length t) × (to ≤ length out) × (length out ≡ length out₀)
+Inv-loop out₀ at m c x from most to₀ j₀ out to j = (to ≤ length out) × (length out ≡ length out₀)
 
 abbrev μ-loop : tie.MeasureT-loop
-μ-loop out₀ at t to₀ i₀ out to i = length t - i
+μ-loop out₀ at m c x from most to₀ j₀ out to j = most - j
 
 loop-holds : tie.Need-loop-holds Inv-loop μ-loop
 loop-holds c = search needs
 
-shared-slice-read-put : tie.Need-shared-slice-read-put Inv-loop μ-loop
-shared-slice-read-put c = search needs
-
 put-requires : tie.Need-put-requires Inv-loop μ-loop
 put-requires c κs = search needs
 
-add-i : tie.Need-add-i Inv-loop μ-loop
-add-i c = search needs
+put-operand-requires : tie.Need-put-operand-requires Inv-loop μ-loop
+put-operand-requires c κs = search needs
+
+add-j : tie.Need-add-j Inv-loop μ-loop
+add-j c = search needs
 
 loop-less : tie.Need-loop-less Inv-loop μ-loop
 loop-less c = search needs
@@ -36,16 +36,16 @@ same-length c = search needs
 returns : tie.Need-returns Inv-loop μ-loop
 returns c = search needs
 
-pub put-bytes-spec : {M : Type 1} → statement M
-put-bytes-spec =
+pub put-operands-spec : {M : Type 1} → statement M
+put-operands-spec =
     tie.close
     (tie.spec
     Inv-loop
     μ-loop
     loop-holds
-    shared-slice-read-put
     put-requires
-    add-i
+    put-operand-requires
+    add-j
     loop-less
     loop-again
     same-length

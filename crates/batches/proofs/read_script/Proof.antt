@@ -1,8 +1,8 @@
--- `words_main::read_script` meets its contract. Assumes nothing.
+-- `batches::read_script` meets its contract. Assumes nothing.
 use lib.Seq.{length-take-le}
 use borrow.Author.Needs.{needs}
-use Rattle.words_main.proofs.read_script.Statement.{statement}
-use Rattle.words_main.proofs.read_script.Tie as tie
+use Rattle.batches.proofs.read_script.Statement.{statement}
+use Rattle.batches.proofs.read_script.Tie as tie
 
 slice-relend-prefix-read-full : tie.Need-slice-relend-prefix-read-full
 slice-relend-prefix-read-full c = search needs

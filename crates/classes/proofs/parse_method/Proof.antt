@@ -1,0 +1,86 @@
+-- `classes::parse_method` meets its contract. Assumes nothing.
+use Rattle.classes.proofs.Members.{method-no, method-tables, method-known, method-none, method-other, method-yes}
+use borrow.Author.Needs.{needs}
+use Rattle.classes.proofs.parse_method.Statement.{statement}
+use Rattle.classes.proofs.parse_method.Tie as tie
+
+parse-fun-requires : tie.Need-parse-fun-requires
+parse-fun-requires c κs = search needs
+
+enum-known-e : tie.Need-enum-known-e
+enum-known-e c = search needs
+
+enum-known-c1 : tie.Need-enum-known-c1
+enum-known-c1 c = search needs
+
+read-fun-requires : tie.Need-read-fun-requires
+read-fun-requires c κs = (method-tables (c .before .before .before .before .before .before .before .before .before .before .before .before .before .before .before .args .l) (c .before .before .before .before .before .before .before .before .before .before .before .before .before .before .before .args .k) (c .before .before .before .before .before .before .before .before .before .parse-fun .ensures) (c .before .before .before .c1 .given .1), method-known (c .before .before .before .before .before .before .before .before .before .before .before .before .before .before .before .args .l) (c .before .before .before .before .before .before .before .before .before .before .before .before .before .before .before .args .k) (c .before .before .before .before .before .before .before .before .before .parse-fun .ensures) (c .before .before .before .c1 .given .1))
+
+method-named-requires : tie.Need-method-named-requires
+method-named-requires c κs = method-tables (c .before .before .before .before .before .before .before .before .before .before .before .before .before .before .before .before .before .before .args .l) (c .before .before .before .before .before .before .before .before .before .before .before .before .before .before .before .before .before .before .args .k) (c .before .before .before .before .before .before .before .before .before .before .before .before .parse-fun .ensures) (c .before .before .before .before .before .before .c1 .given .1)
+
+enum-told : tie.Need-enum-told
+enum-told c = search needs
+
+enum-known-g : tie.Need-enum-known-g
+enum-known-g c = search needs
+
+same-length : tie.Need-same-length
+same-length c = search needs
+
+same-length-2 : tie.Need-same-length-2
+same-length-2 c = search needs
+
+returns : tie.Need-returns
+returns c = method-yes (c .before .before .before .before .before .before .before .before .before .before .before .before .before .before .before .before .before .before .before .before .before .before .before .before .before .args .l) (c .before .before .before .before .before .before .before .before .before .before .before .before .before .before .before .before .before .before .before .before .before .before .before .before .before .args .k) (c .before .before .before .before .before .before .before .before .before .before .before .before .before .before .before .before .before .before .before .parse-fun .ensures) (c .before .before .before .before .before .before .before .before .before .before .before .before .before .c1 .given .1) (c .before .before .before .before .before .before .before .before .before .read-fun .ensures) (c .before .before .before .before .before .before .method-named .ensures) (c .before .before .before .before .g .given .1) (c .if1 .taken)
+
+same-length-3 : tie.Need-same-length-3
+same-length-3 c = search needs
+
+same-length-4 : tie.Need-same-length-4
+same-length-4 c = search needs
+
+returns-2 : tie.Need-returns-2
+returns-2 c = method-no (c .before .before .before .before .before .before .before .before .before .before .before .before .before .args .l) (c .before .before .before .before .before .before .before .before .before .before .before .before .before .args .k) (c .before .before .before .before .before .before .before .parse-fun .ensures) (c .before .e .given .1)
+
+same-length-5 : tie.Need-same-length-5
+same-length-5 c = search needs
+
+same-length-6 : tie.Need-same-length-6
+same-length-6 c = search needs
+
+returns-3 : tie.Need-returns-3
+returns-3 c = method-none (c .before .before .before .before .before .before .before .before .before .before .before .before .before .before .before .before .before .before .before .before .before .args .l) (c .before .before .before .before .before .before .before .before .before .before .before .before .before .before .before .before .before .before .before .before .before .args .k) (c .before .before .before .before .before .before .before .before .before .before .before .before .before .before .before .parse-fun .ensures) (c .before .before .before .before .before .before .before .before .before .c1 .given .1) (c .before .before .before .before .before .read-fun .ensures) (c .before .before .method-named .ensures) (c .enum-told .given .1)
+
+same-length-7 : tie.Need-same-length-7
+same-length-7 c = search needs
+
+same-length-8 : tie.Need-same-length-8
+same-length-8 c = search needs
+
+returns-4 : tie.Need-returns-4
+returns-4 c = method-other (c .before .before .before .before .before .before .before .before .before .before .before .before .before .before .before .before .before .before .before .before .before .before .before .before .before .args .l) (c .before .before .before .before .before .before .before .before .before .before .before .before .before .before .before .before .before .before .before .before .before .before .before .before .before .args .k) (c .before .before .before .before .before .before .before .before .before .before .before .before .before .before .before .before .before .before .before .parse-fun .ensures) (c .before .before .before .before .before .before .before .before .before .before .before .before .before .c1 .given .1) (c .before .before .before .before .before .before .before .before .before .read-fun .ensures) (c .before .before .before .before .before .before .method-named .ensures) (c .before .before .before .before .g .given .1) (c .if1 .left)
+
+pub parse-method-spec : {M : Type 1} → statement M
+parse-method-spec =
+    tie.close
+    (tie.spec
+    parse-fun-requires
+    enum-known-e
+    enum-known-c1
+    read-fun-requires
+    method-named-requires
+    enum-told
+    enum-known-g
+    same-length
+    same-length-2
+    returns
+    same-length-3
+    same-length-4
+    returns-2
+    same-length-5
+    same-length-6
+    returns-3
+    same-length-7
+    same-length-8
+    returns-4)

@@ -1,0 +1,31 @@
+-- A script read: the rules' program or the number of a refusal. Assumes nothing.
+use mathlib.Core.Path.{_≡_}
+use mathlib.Core.List.{List}
+use Prim.Native.Nat.{ℕ}
+use Rattle.rules.specs.Actions.{Answer, answered, refused}
+use Rattle.rules.specs.Program as P
+use Rattle.rules.specs.Reading.{parseProgram}
+use Rattle.program.specs.View as View
+use Rattle.program.specs.declared.Counts.{Counts}
+use Rattle.program.specs.declared.Limits.{Limits}
+use Rattle.program.specs.declared.Owner.the-variants as Owner
+use Rattle.parser.specs.declared.Cur.{Cur}
+use Rattle.parser.specs.declared.Receiver.the-variants as Receiver
+use Rattle.reader.specs.declared.Outcome.{Outcome}
+use Rattle.reader.specs.declared.Outcome.the-variants.{Finished, Refused}
+
+-- before the first word
+abbrev pub startCur : Counts → Cur
+startCur n = record { at = 0; counts = n; class = Owner.Nobody; receiver = Receiver.Nobody; block = record { 0 = 0 }; vars = 0; aside = 8192; args = 0 }
+
+abbrev pub answerOf : List ℕ → List ℕ → Outcome → Answer P.Program
+answerOf s m (Finished c) = answered (View.view s m c)
+answerOf s m (Refused e) = refused e
+
+abbrev pub ReadyIf : List ℕ → Outcome → Type 0
+ReadyIf m (Finished c) = View.Ready m c
+ReadyIf m (Refused e) = Unit {0}
+
+pub record ReadsScript (l : Limits) (s m' : List ℕ) (r : Outcome) : Type 0 where
+  pub is : answerOf s m' r ≡ parseProgram (View.limitsOf l) s
+  pub ok : ReadyIf m' r
