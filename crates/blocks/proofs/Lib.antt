@@ -1,3 +1,4 @@
 pub mod Walk
+pub mod Coding
 pub mod Live
 pub mod Indexed

@@ -1,6 +1,5 @@
 // A block goes live by the chain of its instructions, and one entry of the block worklist is taken.
 use sets::BlockId;
-use sets::InsnId;
 use state::Regs;
 use state::Sizes;
 use state::Went;
@@ -21,8 +20,8 @@ fn push_code(m: &mut [usize], z: Sizes, q: Regs, x: &[usize], b: BlockId) -> Wen
     let n = z.insns;
     let mut at = q;
     let mut i = index::first_insn(x, b);
-    while i < n {
-        match state::push_insn(m, z, at, InsnId(i as u32)) {
+    while (i.0 as usize) < n {
+        match state::push_insn(m, z, at, i) {
             Went::On(next) => {
                 at = next;
             }

@@ -18,8 +18,8 @@ use Rattle.program.specs.declared.Row.{Row}
 use Rattle.program.specs.declared.Op.{Op}
 use Rattle.program.specs.declared.Op.the-variants as O
 use Rattle.sets.specs.declared.BlockId.{BlockId}
-use Rattle.index.specs.Chains.{pick, Chained, at, self, ChainIs, Index}
-use Rattle.index.proofs.Lists.{Starts, chained-below, chained-none, chained-some, chained-low}
+use Rattle.index.specs.Chains.{pick, Chained, at, self, ChainIs, Index, FitsId}
+use Rattle.index.proofs.Lists.{Starts, chained-below, chained-none, chained-some, chained-low, chained-high, chained-next}
 use Rattle.index.proofs.Whole.{code-is, insn-of}
 use Rattle.constructors.specs.declared.Ends.{Ends}
 use Rattle.constructors.specs.declared.Ends.the-variants.{Return, Jump, IfTrue, Open}
@@ -47,6 +47,13 @@ chain-of {m} {x} {c} ix b h =
     let e : 3072 * 0 + b ≡ b = omega arith in
     subst (λ (l : List ℕ). Chained self (at x 1024) (c .insns) 0 (getD x b 0) l) (code-is [] m c b)
     (subst (λ (k : ℕ). Chained self (at x 1024) (c .insns) 0 (getD x k 0) (code (view [] m c) b)) e (ix .codes [] b h))
+
+-- the words of a block's head and of a link fit
+pub code-word : {m x : List ℕ} {c : Counts} {b : ℕ} → Ready m c → Index m c x → b < c .blocks → FitsId x b
+code-word {m} {x} {c} {b} ok ix g = omega (arith, ok .insns, chained-high self (at x 1024) (c .insns) 0 _ _ (chain-of ix b (omega (arith, ok .blocks))))
+
+pub code-next : (x : List ℕ) {m : List ℕ} {c : Counts} {h : ℕ} (l : List ℕ) → Ready m c → Chained self (at x 1024) (c .insns) 0 h l → h < c .insns → FitsId x (1024 + h)
+code-next x {m} {c} {h} l ok d g = omega (arith, ok .insns, chained-next self (at x 1024) (c .insns) 0 h l d g)
 
 pub ends-jump : {o : Op} {b : BlockId} → o ≡ O.Jump b → Jump b ≡ endsFrom o
 ends-jump e = rw e

@@ -52,7 +52,7 @@ fn ends_from(op: Op) -> Ends
     }
 }
 
-// How block b ends: by its last instruction.
+// How block b ends: by its last instruction; `last` is the number of instructions until there is one.
 fn end_of(m: &[usize], c: Counts, x: &[usize], b: BlockId) -> Ends
     requires { ⌜ Ready (now m) c ⌝ }
     requires { ⌜ Index (now m) c (now x) ⌝ }
@@ -61,14 +61,14 @@ fn end_of(m: &[usize], c: Counts, x: &[usize], b: BlockId) -> Ends
 {
     let n = c.insns;
     let key = b.0 as usize;
-    let mut last = n;
+    let mut last = InsnId(n as u32);
     let mut h = index::first_insn(x, b);
-    while h < n {
+    while (h.0 as usize) < n {
         last = h;
         h = index::next_insn(x, h);
     }
-    if last < n {
-        let row = program::read_insn(m, c, InsnId(last as u32));
+    if (last.0 as usize) < n {
+        let row = program::read_insn(m, c, last);
         let op = row.op;
         return ends_from(op);
     }
@@ -267,8 +267,8 @@ fn sets_of(s: &[u8], m: &[usize], c: Counts, x: &[usize], k: ClassId, b: BlockId
     let key = b.0 as usize;
     let mut bits = 0;
     let mut h = index::first_insn(x, b);
-    while h < n {
-        let row = program::read_insn(m, c, InsnId(h as u32));
+    while (h.0 as usize) < n {
+        let row = program::read_insn(m, c, h);
         let op = row.op;
         let t = set_name(op);
         h = index::next_insn(x, h);

@@ -9,7 +9,10 @@ use Rattle.kinds.specs.Kinds.{kindsAt}
 use Rattle.kinds.specs.declared.Kind.{Kind}
 use Rattle.kinds.specs.declared.Kind.the-variants.{Empty, Nil}
 use Rattle.rules.specs.Actions.{Answer, answered, refused}
+use Rattle.rules.specs.Program.{Limits}
 use Rattle.rules.specs.Constructors.{firstKinds}
+use Rattle.rules.specs.Machine.{firstKindsFrom}
+use Rattle.tables.specs.Tables.{listed}
 use Rattle.program.specs.Tab.{tab}
 use Rattle.program.specs.Rows.{funAt, ivarsOf}
 use Rattle.program.specs.View.{view}
@@ -41,3 +44,11 @@ outcome r l = cond (eqb r 0) (answered l) (refused r)
 pub record FirstIs (s m : List ℕ) (c : Counts) (k tags payloads : ℕ) (u u' : List ℕ) (r : ℕ) : Type 0 where
   pub is : outcome r (kindsAt u' (tags + 64 * k) (payloads + 64 * k) (ivarsOf m k)) ≡ firstKinds (view s m c) k
   pub only : Only (tags + 64 * k) (payloads + 64 * k) 64 u u'
+
+-- the kinds in the tables of all classes
+abbrev pub allKindsAt : List ℕ → Counts → ℕ → ℕ → List ℕ → List (List Kind)
+allKindsAt m c tags payloads u = listed (c .classes) (λ k. kindsAt u (tags + 64 * k) (payloads + 64 * k) (ivarsOf m k))
+
+pub record FirstsAre (s m : List ℕ) (c : Counts) (tags payloads : ℕ) (u u' : List ℕ) (r : ℕ) : Type 0 where
+  pub is : (L : Limits) → outcome r (allKindsAt m c tags payloads u') ≡ firstKindsFrom L (view s m c) 0 (c .classes)
+  pub only : Only tags payloads 4096 u u'

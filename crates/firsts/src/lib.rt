@@ -9,7 +9,7 @@ ghost use lib.ListN.{length};
 ghost use Rattle.program.specs.View.{Ready};
 ghost use Rattle.index.specs.Chains.{Index};
 ghost use Rattle.constructors.specs.Walks.{work, Inside};
-ghost use Rattle.firsts.specs.Firsts.{PutsKinds, Entries, FirstIs};
+ghost use Rattle.firsts.specs.Firsts.{PutsKinds, Entries, FirstIs, FirstsAre};
 
 // The first kinds of n attributes: nothing for those in a set, else Nil. The bytes stand from one place on, the payloads from another.
 fn put_kinds(u: &mut [usize], tags: usize, payloads: usize, n: usize, bits: usize)
@@ -69,4 +69,36 @@ pub fn first_kinds(
             }
         }
     }
+}
+
+// The first kinds of all classes' attributes; 0, or 13.
+pub fn all_first_kinds(
+    s: &[u8],
+    m: &[usize],
+    c: Counts,
+    x: &[usize],
+    w: &mut [usize],
+    u: &mut [usize],
+    tags: usize,
+    payloads: usize,
+) -> u8
+    requires { ⌜ Ready (now m) c ⌝ }
+    requires { ⌜ Index (now m) c (now x) ⌝ }
+    requires { ⌜ Inside (now m) c ⌝ }
+    requires { ⌜ Entries (now m) c ⌝ }
+    requires { ⌜ work ≤ length (now w) ⌝ }
+    requires { ⌜ (tags + 4096 ≤ payloads) × (payloads + 4096 ≤ length (now u)) ⌝ }
+    ensures { λ r. ⌜ FirstsAre (now (s .entry)) (now (m .entry)) c tags payloads (now (u .entry)) (now (u .exit)) r ⌝ }
+{
+    let n = c.classes;
+    let mut k = 0;
+    while k < n {
+        let class = ClassId(k as u32);
+        let e = first_kinds(s, m, c, x, w, u, tags, payloads, class);
+        if e != 0 {
+            return e;
+        }
+        k += 1;
+    }
+    0
 }

@@ -10,7 +10,7 @@ use borrow.Author.Tests.{ltb-true, ltb-false}
 use mir.Syntax.{w32}
 use mir.Val.{Fits as FitsIn}
 use lib.Dec.{ltb}
-use lib.ListN.{length, getD, drop, length-map, drop-of-length-le, List·getD-eq-default}
+use lib.ListN.{length, getD, drop, drop-of-length-le, List·getD-eq-default}
 use lib.Seq.{drop-cons, getD-drop}
 use Rattle.sets.specs.declared.InsnId.{InsnId}
 use Rattle.sets.proofs.Bits.{Either, yes, no, either}
@@ -34,7 +34,7 @@ use Rattle.program.specs.declared.Opnd.the-variants.{Const, Insn}
 use Rattle.program.specs.declared.Counts.{Counts}
 use Rattle.program.specs.Rows.{opndOf, opndsAt, opndsIn, opIn, nth}
 use Rattle.program.specs.View.{view, ReadsInsn}
-use Rattle.program.proofs.Tables.{tab-length}
+use Rattle.program.proofs.Areas.{given-length}
 use Rattle.state.specs.declared.Sizes.{Sizes}
 use Rattle.state.specs.declared.NextInsn.{NextInsn}
 use Rattle.state.specs.declared.NextInsn.the-variants.{Place, Done}
@@ -48,7 +48,7 @@ use Rattle.flows.specs.declared.Tally.the-variants.{Nothing as None}
 use Rattle.flows.specs.Tally.{Nothing, least, takeAll, finish, unionOver, FitsAt, Fits}
 use Rattle.flows.specs.Flows.{tallyOf, Passed, skipOf, Argues, Sound, Known, PassedIn, ParamIs}
 use Rattle.flows.proofs.Whole.{union-over}
-use Rattle.flows.proofs.Tallied.{passed-none, passed-cons}
+use Rattle.flows.proofs.Tallied.{passed-none, passed-append}
 
 -- ---- arguments
 
@@ -75,10 +75,6 @@ module _ (m : List ℕ) (c : Counts) (i n : ℕ) {x : Row} (d : ReadsInsn m c i 
   abbrev given : List P.Opnd
   given = map opndOf (opndsIn m (opndsAt + 2 * x .first) (x .count))
 
-  given-length : length given ≡ x .count
-  unfolding opndsIn
-  given-length = length-map (opndsIn m (opndsAt + 2 * x .first) (x .count)) opndOf ∙ tab-length _ (x .count)
-
   argument-is : (L : Limits) (s : List ℕ) → has (about (opOf (view s m c) i) .callee) ≡ true → argument L (view s m c) n i ≡ getD given (a + n) (P.Const Empty)
   argument-is L s h =
       let e : opOf (view s m c) i ≡ opIn s (x .op) given = ap (λ (y : P.Instruction). y .op) (d .is s) in
@@ -89,15 +85,15 @@ module _ (m : List ℕ) (c : Counts) (i n : ℕ) {x : Row} (d : ReadsInsn m c i 
 
   pub argument-here : {j : ℕ} {r : Opnd} → j ≡ a + n → j < x .count → opndOf r ≡ nth given j → Argues m c i n r
   argument-here {j} {r} ej lt e = record {
-    is = λ L s h. e ∙ at-any given j (P.Const Nil) (P.Const Empty) (let k = given-length in omega arith) ∙ ap (λ (y : ℕ). getD given y (P.Const Empty)) ej ∙ sym (argument-is L s h);
+    is = λ L s h. e ∙ at-any given j (P.Const Nil) (P.Const Empty) (let k = given-length m (opndsAt + 2 * x .first) (x .count) in omega arith) ∙ ap (λ (y : ℕ). getD given y (P.Const Empty)) ej ∙ sym (argument-is L s h);
   }
 
   pub argument-none : x .count ≤ a + n → Argues m c i n (Const Empty)
   argument-none le = record {
-    is = λ L s h. sym (argument-is L s h ∙ List·getD-eq-default given (P.Const Empty) (let k = given-length in omega arith));
+    is = λ L s h. sym (argument-is L s h ∙ List·getD-eq-default given (P.Const Empty) (let k = given-length m (opndsAt + 2 * x .first) (x .count) in omega arith));
   }
 
-fits-inside : (z : Sizes) (r : Opnd) → FitsAt (z .insns) (opndOf r) → Inside z r
+pub fits-inside : (z : Sizes) (r : Opnd) → FitsAt (z .insns) (opndOf r) → Inside z r
 fits-inside z (Const k) f = tt
 fits-inside z (Insn j) f = f
 
@@ -156,7 +152,7 @@ module _ {m : List ℕ} {c : Counts} {z : Sizes} (w : List ℕ) {f k : ℕ} {s :
     passed = λ L u so.
         let b : opndOf o ≡ argument L (view u m c) n (i .0) = a .is L u (so .calls f (i .0) (mark-is (calledOf z w) f k (i .0) (next-is e .is))) in
         let t : marksFrom (calledOf z w) f k ≡ i .0 ∷ marksFrom (calledOf z w) f (i .0 + 1) = next-is e .is ∙ ap (λ (j : ℕ). i .0 ∷ marksFrom (calledOf z w) f j) (sym (add-one (i .0))) in
-        rw t (passed-cons (kindsOf z w) (argument L (view u m c) n (i .0)) (map (argument L (view u m c) n) (marksFrom (calledOf z w) f (i .0 + 1))) x x' y (rw b at p) (r .passed L u so));
+        rw t (passed-append (kindsOf z w) (argument L (view u m c) n (i .0) ∷ []) (map (argument L (view u m c) n) (marksFrom (calledOf z w) f (i .0 + 1))) x x' y (rw b at p) (r .passed L u so));
   })
 
 pub callers-start : (m : List ℕ) (c : Counts) (z : Sizes) (w : List ℕ) (f n : ℕ) (x : Pass) → Passing m c z w f n x x 0
@@ -181,7 +177,7 @@ unfolding rule joinAll flowsIn
 param-is L p i n s e =
     ap (λ (k : ℕ). lift (toAnswer (unionAll Empty (map (kindOf s) (opndSet (map (argument L p k) (callersOf L p s (functionOf p i))))))) s) (place-is L p i n e)
 
-kinds-of : (s : State) (l : List P.Opnd) → map (kindIn (s .kinds)) l ≡ map (kindOf s) l
+pub kinds-of : (s : State) (l : List P.Opnd) → map (kindIn (s .kinds)) l ≡ map (kindOf s) l
 kinds-of s [] = refl
 kinds-of s (o ∷ l) = rw (kind-of s o, kinds-of s l)
 
@@ -190,23 +186,30 @@ finish-same ks n a Nothing = refl
 finish-same ks n a (Rattle.flows.specs.Tally.One w j) = refl
 finish-same ks n a (Rattle.flows.specs.Tally.Many j) = refl
 
+-- two passes over the same operands come to the union of their set
+pub two-passes : (ks : List Kind) (n : ℕ) (l : List P.Opnd) {x y : Pass} {r : Joined} → Passed ks l (record { second = false; least = n; tally = None }) x
+    → Passed ks l (record { second = true; least = x .least; tally = None }) y → r ≡ finish [] n (x .least) (tallyOf (y .tally)) → Fits n l
+    → r ≡ unionAll Empty (map (kindIn ks) (opndSet l))
+unfolding unionOver
+two-passes ks n l {x} {y} {r} px py e f =
+    let a : x .least ≡ least ks n l = px .lowest in
+    let t : tallyOf (y .tally) ≡ takeAll ks (x .least) Nothing l = py .told in
+    let h : r ≡ unionOver ks n l = e ∙ finish-same ks n (x .least) (tallyOf (y .tally)) ∙ rw (t, a) in
+    h ∙ union-over ks n l f
+
 pub param-kind : (m : List ℕ) (c : Counts) (z : Sizes) (w : List ℕ) (f n : ℕ) {x y : Pass} {r : Joined}
     → PassedIn m c z w f n 0 (record { second = false; least = z .insns; tally = None }) x
     → PassedIn m c z w f n 0 (record { second = true; least = x .least; tally = None }) y
     → r ≡ finish [] (z .insns) (x .least) (tallyOf (y .tally))
     → (i : ℕ) → Reads z (ParamIs m c z (calledOf z w) i f n) (λ L p. rule L p i (Param n)) w r
-unfolding unionOver
 param-kind m c z w f n {x} {y} {r} px py e i = record {
   is = λ L p v g q.
       let u = view (g .script) m c in
       let s = stateView z v w q in
-      let ks = kindsOf z w in
       let l = map (argument L u n) (marksFrom (calledOf z w) f 0) in
-      let a : x .least ≡ least ks (z .insns) l = px .passed L (g .script) (g .sound) .lowest in
-      let t : tallyOf (y .tally) ≡ takeAll ks (x .least) Nothing l = py .passed L (g .script) (g .sound) .told in
-      let h : r ≡ unionOver ks (z .insns) l = e ∙ finish-same ks (z .insns) (x .least) (tallyOf (y .tally)) ∙ rw (t, a) in
-      let k : r ≡ unionAll Empty (map (kindOf s) (opndSet l)) = h ∙ union-over ks (z .insns) l (arguments-fit L u z (calledOf z w) n (marksFrom (calledOf z w) f 0) (g .sound))
-      ∙ ap (unionAll Empty) (kinds-of s (opndSet l)) in
+      let k : r ≡ unionAll Empty (map (kindOf s) (opndSet l)) =
+      two-passes (kindsOf z w) (z .insns) l (px .passed L (g .script) (g .sound)) (py .passed L (g .script) (g .sound)) e
+      (arguments-fit L u z (calledOf z w) n (marksFrom (calledOf z w) f 0) (g .sound)) ∙ ap (unionAll Empty) (kinds-of s (opndSet l)) in
       let b : l ≡ map (argument L u n) (callersOf L u s (functionOf u i)) = ap (map (argument L u n)) (all-callers (calledOf z w) L u s f refl ∙ ap (callersOf L u s) (sym (g .function))) in
       rw (g .program) (ap (λ (j : Joined). lift (toAnswer j) s) (k ∙ ap (λ (o : List P.Opnd). unionAll Empty (map (kindOf s) (opndSet o))) b) ∙ sym (param-is L u i n s (g .op)));
 }

@@ -44,7 +44,7 @@ good-opnd : (p : Program) (n i : ℕ) (o : Opnd) → i < n → goodOpnd p i o �
 good-opnd p n i (Const k) lt h = good-constant p k h
 good-opnd p n i (Insn j) lt h = let g = ltb-true j i h in omega arith
 
-good-at : (p : Program) (n i : ℕ) (l : List Opnd) (k : ℕ) → i < n → all (goodOpnd p i) l ≡ true → FitsAt n (getD l k (Const Empty))
+pub good-at : (p : Program) (n i : ℕ) (l : List Opnd) (k : ℕ) → i < n → all (goodOpnd p i) l ≡ true → FitsAt n (getD l k (Const Empty))
 good-at p n i [] k lt h = refl
 good-at p n i (o ∷ l) zero lt h = good-opnd p n i o lt (and-l (goodOpnd p i o) (all (goodOpnd p i) l) h)
 good-at p n i (o ∷ l) (suc k) lt h = good-at p n i l k lt (and-r (goodOpnd p i o) (all (goodOpnd p i) l) h)
@@ -61,7 +61,7 @@ good-listed p n i (New c) k lt h = refl
 good-listed p n i (GetIvar m r) k lt h = refl
 good-listed p n i (SetIvar m r v) k lt h = refl
 
-operands-good : (p : Program) (i : ℕ) → goodInstruction p i ≡ true → all (goodOpnd p i) (about (opOf p i) .operands) ≡ true
+pub operands-good : (p : Program) (i : ℕ) → goodInstruction p i ≡ true → all (goodOpnd p i) (about (opOf p i) .operands) ≡ true
 unfolding goodInstruction
 operands-good p i h = go (ltb (blockOf p i) (length (p .blocks))) (all (goodOpnd p i) (about (opOf p i) .operands)) (goodOp p i (functionOf p i) (opOf p i)) h
   where
@@ -75,12 +75,16 @@ beyond : (p : Program) (n i k : ℕ) → length (p .instructions) ≤ i → Fits
 beyond p n i k le =
     subst (λ (x : Instruction). FitsAt n (getD (about (x .op) .listed) k (Const Empty))) (sym (List·getD-eq-default (p .instructions) (record { block = 0; op = New 0 }) {n = i} le)) refl
 
-pub sound-of : (L : Limits) (p : Program) (t : List (List 𝔹)) → Finished L p → ((f i : ℕ) → marked t f i ≡ true → has (about (opOf p i) .callee) ≡ true)
-    → Sound p (length (p .instructions)) t
-sound-of L p t r c = record { calls = c; listed = λ i k. go i k (either (ltb i (length (p .instructions)))) }
+-- no argument of a finished program is Any or a result beyond the program's
+pub listed-fits : (L : Limits) (p : Program) → Finished L p → (i k : ℕ) → FitsAt (length (p .instructions)) (getD (about (opOf p i) .listed) k (Const Empty))
+listed-fits L p r i k = go (either (ltb i (length (p .instructions))))
   where
-    go : (i k : ℕ) → Either (ltb i (length (p .instructions))) → FitsAt (length (p .instructions)) (getD (about (opOf p i) .listed) k (Const Empty))
-    go i k (yes h) =
+    go : Either (ltb i (length (p .instructions))) → FitsAt (length (p .instructions)) (getD (about (opOf p i) .listed) k (Const Empty))
+    go (yes h) =
         let lt = ltb-true i (length (p .instructions)) h in
         good-listed p (length (p .instructions)) i (opOf p i) k lt (operands-good p i (r .instructions i lt))
-    go i k (no h) = beyond p (length (p .instructions)) i k (ltb-false i (length (p .instructions)) h)
+    go (no h) = beyond p (length (p .instructions)) i k (ltb-false i (length (p .instructions)) h)
+
+pub sound-of : (L : Limits) (p : Program) (t : List (List 𝔹)) → Finished L p → ((f i : ℕ) → marked t f i ≡ true → has (about (opOf p i) .callee) ≡ true)
+    → Sound p (length (p .instructions)) t
+sound-of L p t r c = record { calls = c; listed = listed-fits L p r }

@@ -1,7 +1,7 @@
 -- The steps of a pass, over the code's tallies. Assumes nothing.
 use mathlib.Core.Bool.{Bool as 𝔹, true, false, not, cond, _&&_}
 use mathlib.Core.Path.{_≡_, refl, sym, ap, _∙_}
-use mathlib.Core.List.{List, [], _∷_}
+use mathlib.Core.List.{List, [], _∷_, _++_}
 use Prim.Native.Nat.{ℕ, _≤_, _<_}
 use borrow.Author.Tests.{lt-ltb, le-ltb}
 use lib.Dec.{ltb}
@@ -111,27 +111,36 @@ passed-none ks x = go (x .second) refl
     go true e = record { same = refl; lowest = rw e; told = rw e }
     go false e = record { same = refl; lowest = rw e; told = rw e }
 
-pub passed-cons : (ks : List Kind) (o : P.Opnd) (l : List P.Opnd) (x y w : Pass) → Passed ks (o ∷ []) x y → Passed ks l y w → Passed ks (o ∷ l) x w
-unfolding least takeAll
-passed-cons ks o l x y w p r = go (x .second) refl
+least-append : (ks : List Kind) (a : ℕ) (l k : List P.Opnd) → least ks a (l ++ k) ≡ least ks (least ks a l) k
+unfolding least
+least-append ks a [] k = refl
+least-append ks a (o ∷ l) k = least-append ks (lower ks a o) l k
+
+take-append : (ks : List Kind) (a : ℕ) (t : Tally) (l k : List P.Opnd) → takeAll ks a t (l ++ k) ≡ takeAll ks a (takeAll ks a t l) k
+unfolding takeAll
+take-append ks a t [] k = refl
+take-append ks a t (o ∷ l) k = take-append ks a (take ks a t o) l k
+
+pub passed-append : (ks : List Kind) (l k : List P.Opnd) (x y w : Pass) → Passed ks l x y → Passed ks k y w → Passed ks (l ++ k) x w
+passed-append ks l k x y w p r = go (x .second) refl
   where
-    go : (b : 𝔹) → x .second ≡ b → Passed ks (o ∷ l) x w
+    go : (b : 𝔹) → x .second ≡ b → Passed ks (l ++ k) x w
     go true e =
         let f : y .second ≡ true = p .same ∙ e in
         let a : y .least ≡ x .least = rw e at (p .lowest) in
-        let t : tallyOf (y .tally) ≡ take ks (x .least) (tallyOf (x .tally)) o = rw e at (p .told) in
+        let t : tallyOf (y .tally) ≡ takeAll ks (x .least) (tallyOf (x .tally)) l = rw e at (p .told) in
         record {
           same = r .same ∙ p .same;
           lowest = rw e ((rw f at (r .lowest)) ∙ a);
-          told = rw e ((rw f at (r .told)) ∙ rw (a, t));
+          told = rw (e, take-append ks (x .least) (tallyOf (x .tally)) l k) ((rw f at (r .told)) ∙ rw (a, t));
         }
     go false e =
         let f : y .second ≡ false = p .same ∙ e in
-        let a : y .least ≡ lower ks (x .least) o = rw e at (p .lowest) in
+        let a : y .least ≡ least ks (x .least) l = rw e at (p .lowest) in
         let t : tallyOf (y .tally) ≡ tallyOf (x .tally) = rw e at (p .told) in
         record {
           same = r .same ∙ p .same;
-          lowest = rw e ((rw f at (r .lowest)) ∙ rw a);
+          lowest = rw (e, least-append ks (x .least) l k) ((rw f at (r .lowest)) ∙ rw a);
           told = rw e ((rw f at (r .told)) ∙ t);
         }
 

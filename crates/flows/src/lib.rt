@@ -1,4 +1,4 @@
-// What has flowed to a Param: the union of a set of operands in the reference's order, by two passes over the operands as they come.
+// The union of a set of operands in the reference's order, by two passes over the operands as they come; and what has flowed to a Param.
 use kinds::Joined;
 use kinds::Kind;
 use program::Counts;
@@ -97,7 +97,7 @@ fn take(m: &[usize], z: Sizes, a: usize, t: Tally, o: Opnd) -> Tally
 }
 
 // One operand in a pass.
-fn pass_one(m: &[usize], z: Sizes, x: Pass, o: Opnd) -> Pass
+pub fn pass_one(m: &[usize], z: Sizes, x: Pass, o: Opnd) -> Pass
     requires { ⌜ Held z (now m) ⌝ }
     requires { ⌜ Inside z o ⌝ }
     ensures { λ r. ⌜ Passed (kindsOf z (now (m .entry))) (opndOf o ∷ []) x r ⌝ }
@@ -199,7 +199,7 @@ fn close_tally(t: Tally) -> Joined
     }
 }
 
-fn finish_pass(n: usize, a: usize, t: Tally) -> Joined
+pub fn finish_pass(n: usize, a: usize, t: Tally) -> Joined
     ensures { λ r. ⌜ r ≡ finish [] n a (tallyOf t) ⌝ }
 {
     let j = close_tally(t);

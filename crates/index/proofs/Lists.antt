@@ -106,6 +106,9 @@ module _ (item link : ℕ → ℕ) (n : ℕ) where
   chained-high k h [] d = omega arith
   chained-high k h (x ∷ l) d = omega (arith, d .1)
 
+  pub chained-next : (k h : ℕ) (l : List ℕ) → Chained item link n k h l → h < n → link h ≤ n
+  chained-next k h l d g = let s = chained-some k h l d g in chained-high (suc h) (link h) (s .rest) (s .onward)
+
 -- the cells from k on stay
 pub chained-same : (item link item' link' : ℕ → ℕ) (n a k h : ℕ) (l : List ℕ) → a ≤ k
     → ((i : ℕ) → a ≤ i → i < n → (item' i ≡ item i) × (link' i ≡ link i)) → Chained item link n k h l → Chained item' link' n k h l

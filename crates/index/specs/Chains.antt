@@ -66,6 +66,10 @@ Chained item link n k h (x ∷ l) = (k ≤ h) × (h < n) × (x ≡ item h) × Ch
 abbrev pub at : List ℕ → ℕ → ℕ → ℕ
 at w a i = getD w (a + i) 0
 
+-- the word at a place fits an InsnId
+abbrev pub FitsId : List ℕ → ℕ → Type 0
+FitsId w a = getD w a 0 < 4294967296
+
 abbrev pub self : ℕ → ℕ
 self i = i
 

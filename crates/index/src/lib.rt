@@ -8,7 +8,7 @@ ghost use mathlib.Core.Path.{_≡_};
 ghost use Prim.Native.Nat.{ℕ, _+_, _*_, _≤_, _<_};
 ghost use lib.ListN.{length, getD};
 ghost use Rattle.program.specs.View.{Ready};
-ghost use Rattle.index.specs.Chains.{size, isParam, isReturn, keyOf, Filled, Chains, Index};
+ghost use Rattle.index.specs.Chains.{size, isParam, isReturn, keyOf, FitsId, Filled, Chains, Index};
 
 // Where a sort's heads start, how many there are, and how many words a sort takes; the three sorts are the code, the Params and the Returns.
 const HEADS: usize = 1024;
@@ -123,48 +123,65 @@ pub fn build_index(m: &[usize], c: Counts, w: &mut [usize])
     chain(m, c, w, 2);
 }
 
-// The first of a block's instructions, and the one after an instruction; the number of instructions where there is none.
-pub fn first_insn(w: &[usize], b: BlockId) -> usize
+// A word of the index as the number of an instruction.
+fn insn_at(w: &[usize], at: usize) -> InsnId
+    requires { ⌜ (at < length (now w)) × (FitsId (now w) at) ⌝ }
+    ensures { λ r. ⌜ r .0 ≡ getD (now (w .entry)) at 0 ⌝ }
+{
+    InsnId(w[at] as u32)
+}
+
+// The first of a block's instructions, and the one after an instruction. Where there is none it is the number of instructions: an InsnId that is not below the count, and so stands for no instruction.
+pub fn first_insn(w: &[usize], b: BlockId) -> InsnId
     requires { ⌜ (size ≤ length (now w)) × (b .0 < 1024) ⌝ }
-    ensures { λ r. ⌜ r ≡ getD (now (w .entry)) (b .0) 0 ⌝ }
+    requires { ⌜ FitsId (now w) (b .0) ⌝ }
+    ensures { λ r. ⌜ r .0 ≡ getD (now (w .entry)) (b .0) 0 ⌝ }
 {
     let at = b.0 as usize;
-    w[at]
+    insn_at(w, at)
 }
 
-pub fn next_insn(w: &[usize], i: usize) -> usize
-    requires { ⌜ (size ≤ length (now w)) × (i < 2048) ⌝ }
-    ensures { λ r. ⌜ r ≡ getD (now (w .entry)) (1024 + i) 0 ⌝ }
+pub fn next_insn(w: &[usize], i: InsnId) -> InsnId
+    requires { ⌜ (size ≤ length (now w)) × (i .0 < 2048) ⌝ }
+    requires { ⌜ FitsId (now w) (1024 + i .0) ⌝ }
+    ensures { λ r. ⌜ r .0 ≡ getD (now (w .entry)) (1024 + i .0) 0 ⌝ }
 {
-    w[HEADS + i]
+    let at = i.0 as usize;
+    insn_at(w, HEADS + at)
 }
 
-pub fn first_param(w: &[usize], b: BlockId) -> usize
+pub fn first_param(w: &[usize], b: BlockId) -> InsnId
     requires { ⌜ (size ≤ length (now w)) × (b .0 < 1024) ⌝ }
-    ensures { λ r. ⌜ r ≡ getD (now (w .entry)) (3072 + b .0) 0 ⌝ }
+    requires { ⌜ FitsId (now w) (3072 + b .0) ⌝ }
+    ensures { λ r. ⌜ r .0 ≡ getD (now (w .entry)) (3072 + b .0) 0 ⌝ }
 {
     let at = b.0 as usize;
-    w[SORT + at]
+    insn_at(w, SORT + at)
 }
 
-pub fn next_param(w: &[usize], i: usize) -> usize
-    requires { ⌜ (size ≤ length (now w)) × (i < 2048) ⌝ }
-    ensures { λ r. ⌜ r ≡ getD (now (w .entry)) (4096 + i) 0 ⌝ }
+pub fn next_param(w: &[usize], i: InsnId) -> InsnId
+    requires { ⌜ (size ≤ length (now w)) × (i .0 < 2048) ⌝ }
+    requires { ⌜ FitsId (now w) (4096 + i .0) ⌝ }
+    ensures { λ r. ⌜ r .0 ≡ getD (now (w .entry)) (4096 + i .0) 0 ⌝ }
 {
-    w[SORT + HEADS + i]
+    let at = i.0 as usize;
+    insn_at(w, SORT + HEADS + at)
 }
 
-pub fn first_return(w: &[usize], f: FunId) -> usize
+pub fn first_return(w: &[usize], f: FunId) -> InsnId
     requires { ⌜ (size ≤ length (now w)) × (f .0 < 1024) ⌝ }
-    ensures { λ r. ⌜ r ≡ getD (now (w .entry)) (6144 + f .0) 0 ⌝ }
+    requires { ⌜ FitsId (now w) (6144 + f .0) ⌝ }
+    ensures { λ r. ⌜ r .0 ≡ getD (now (w .entry)) (6144 + f .0) 0 ⌝ }
 {
     let at = f.0 as usize;
-    w[SORT + SORT + at]
+    insn_at(w, SORT + SORT + at)
 }
 
-pub fn next_return(w: &[usize], i: usize) -> usize
-    requires { ⌜ (size ≤ length (now w)) × (i < 2048) ⌝ }
-    ensures { λ r. ⌜ r ≡ getD (now (w .entry)) (7168 + i) 0 ⌝ }
+pub fn next_return(w: &[usize], i: InsnId) -> InsnId
+    requires { ⌜ (size ≤ length (now w)) × (i .0 < 2048) ⌝ }
+    requires { ⌜ FitsId (now w) (7168 + i .0) ⌝ }
+    ensures { λ r. ⌜ r .0 ≡ getD (now (w .entry)) (7168 + i .0) 0 ⌝ }
 {
-    w[SORT + SORT + HEADS + i]
+    let at = i.0 as usize;
+    insn_at(w, SORT + SORT + HEADS + at)
 }

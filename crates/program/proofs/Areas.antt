@@ -1,12 +1,12 @@
 -- Stores in an area of memory. Assumes nothing.
 use mathlib.Core.Path.{_≡_, refl, ap, ap₂, _∙_}
-use mathlib.Core.List.{List, [], _∷_, _++_}
+use mathlib.Core.List.{List, [], _∷_, _++_, map}
 use Prim.Native.Nat.{ℕ, _+_, _*_, _≤_, _<_}
 use native.Mathlib.Omega.{arith}
-use lib.ListN.{length, getD, set, length-set, length-append}
+use lib.ListN.{length, getD, set, length-set, length-append, length-map}
 use lib.Seq.{getD-set-same, getD-set-other}
 use Rattle.program.specs.Tab.{tab}
-use Rattle.program.specs.Rows.{opndFrom, opndAt, opndsIn}
+use Rattle.program.specs.Rows.{opndFrom, opndAt, opndsIn, opndOf}
 use Rattle.program.specs.View.{Only, Puts}
 use Rattle.program.specs.declared.Opnd.{Opnd}
 use Rattle.program.proofs.Tables.{tab-ext, tab-add, tab-length}
@@ -69,6 +69,9 @@ opnds-one m at = let e : at + 2 * 0 ≡ at = omega arith in ap (λ (k : ℕ). op
 pub opnds-length : (m : List ℕ) (at n : ℕ) → length (opndsIn m at n) ≡ n
 unfolding opndsIn
 opnds-length m at n = tab-length (λ j. opndAt m (at + 2 * j)) n
+
+pub given-length : (m : List ℕ) (at n : ℕ) → length (map opndOf (opndsIn m at n)) ≡ n
+given-length m at n = length-map (opndsIn m at n) opndOf ∙ opnds-length m at n
 
 pub puts-none : (at : ℕ) (m : List ℕ) → Puts at [] m m
 unfolding opndsIn tab

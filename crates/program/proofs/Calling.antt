@@ -3,7 +3,7 @@ use mathlib.Core.Path.{_≡_, ap, _∙_}
 use mathlib.Core.List.{List, _∷_, _++_, map}
 use Prim.Native.Nat.{ℕ, suc, _+_, _*_, _<_}
 use native.Mathlib.Omega.{arith}
-use lib.ListN.{length, length-map, length-append}
+use lib.ListN.{length, length-append}
 use Rattle.sets.specs.declared.FunId.{FunId}
 use Rattle.rules.specs.Program as P
 use Rattle.program.specs.Rows.{opndsIn, opndOf, nameIn, given}
@@ -18,7 +18,7 @@ use Rattle.program.specs.declared.Given.{Given}
 use Rattle.program.specs.declared.Given.the-variants.{Zero}
 use Rattle.program.specs.declared.Callee.{Callee}
 use Rattle.program.specs.declared.Callee.the-variants.{Static, Dynamic}
-use Rattle.program.proofs.Areas.{puts-then, opnds-length}
+use Rattle.program.proofs.Areas.{puts-then, opnds-length, given-length}
 use Rattle.program.proofs.Pushing.{room-of, ready-puts, adds-is, stop-is, grew-is}
 
 -- the operands given, then those copied
@@ -47,7 +47,7 @@ module _ {m m1 m2 : List ℕ} {c : Counts} {b : ℕ} (o : Op) (k a n : ℕ) (g :
 -- both sorts of calls
 module _ {m : List ℕ} {c : Counts} {l : Limits} {b e : ℕ} (a n : ℕ) (args : List ℕ) (asks : Asks l m c b n e) where
   arguments : length (map opndOf (opndsIn args a n)) ≡ n
-  arguments = length-map (opndsIn args a n) opndOf ∙ opnds-length args a n
+  arguments = given-length args a n
 
   pub static-room : (f : FunId) → Ready m c → Small l → b < c .blocks → e ≡ 0 → Room b (SendStatic f) (0 + n) c
   static-room f r small h z = room-of (SendStatic f) (0 + n) r small h asks z (omega arith) (omega arith)

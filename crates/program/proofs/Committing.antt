@@ -6,7 +6,7 @@ use Prim.Native.Nat.{ℕ, _+_, _*_, _≤_, _<_}
 use native.Mathlib.Omega.{arith}
 use native.Mathlib.Decide.{ℕ-discrete}
 use lib.Dec.{eqb}
-use lib.ListN.{length, set, length-set, length-map, length-drop}
+use lib.ListN.{length, set, length-set, length-drop}
 use lib.Seq.{getD-set-same, getD-set-other}
 use borrow.Author.Tests.{eq-eqb, ne-eqb}
 use Rattle.kinds.specs.Kinds.{bitOf}
@@ -19,7 +19,7 @@ use Rattle.program.specs.View.{view, Ready, PutsRow, Room, Commits, more
 use Rattle.program.specs.declared.Counts.{Counts}
 use Rattle.program.specs.declared.Op.{Op}
 use Rattle.program.specs.declared.Op.the-variants.{Jump, IfTrue, Return, SendStatic, SendDynamic, Compute, Phi, Param, SelfParam, New, GetIvar, SetIvar}
-use Rattle.program.proofs.Areas.{Same, opnds-same, opnds-length, same-above}
+use Rattle.program.proofs.Areas.{Same, opnds-same, given-length, same-above}
 use Rattle.program.proofs.Viewing.{Keeps, keeps-then, insn-keep, ivars-keep, instructions-keep, functions-keep, classes-keep, blocks-keep, free-insns, opnds-end, flags-same, instructions-more}
 
 -- ---- what the rules ask of one instruction more
@@ -141,7 +141,7 @@ module _ {m : List ℕ} {c : Counts} (b : BlockId) (o : Op) (n : ℕ) (r : Ready
   new-listed : (s : List ℕ) → length (about (new s .op) .listed) ≡ listedIn o n
   new-listed s =
       listed-is s o (map opndOf (opndsIn m (opndsAt + 2 * c .opnds) n))
-      ∙ ap (listedIn o) (length-map (opndsIn m (opndsAt + 2 * c .opnds) n) opndOf ∙ opnds-length m (opndsAt + 2 * c .opnds) n)
+      ∙ ap (listedIn o) (given-length m (opndsAt + 2 * c .opnds) n)
 
   module _ {m' : List ℕ} (K : Keeps c m m') (operands : Same opndsAt blocksAt m m')
       (here : insnAt m' (c .insns) ≡ record { block = b; op = o; first = c .opnds; count = n }) where

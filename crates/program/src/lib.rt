@@ -298,7 +298,7 @@ fn op_words(op: Op) -> OpWords
 }
 
 // How many of n operands are call arguments or join operands.
-fn listed_in(op: Op, n: usize) -> usize
+pub fn listed_in(op: Op, n: usize) -> usize
     ensures { λ r. ⌜ r ≡ listedIn op n ⌝ }
 {
     match op {

@@ -24,7 +24,7 @@ pub record Laying (m : List ℕ) (n a b : ℕ) (u₀ u : List ℕ) (pos j : ℕ)
   pub pos-is : pos ≡ usersTo m n j
   pub starts : (k : ℕ) → k < j → getD u (a + k) 0 ≡ usersTo m n k
   pub parts : (k : ℕ) → k < j → words u (b + usersTo m n k) (length (usersOf m n k)) ≡ usersOf m n k
-  pub others : (k : ℕ) → (a ≤ k → k < a + 2049 → ⊥) → (b ≤ k → k < b + 12288 → ⊥) → getD u k 0 ≡ getD u₀ k 0
+  pub others : (k : ℕ) → (a ≤ k → k < a + j → ⊥) → (b ≤ k → k < b + pos → ⊥) → getD u k 0 ≡ getD u₀ k 0
 
 -- and of j those in front
 pub record Copying (m : List ℕ) (n a b : ℕ) (w v u : List ℕ) (j pos h : ℕ) : Type 0 where
@@ -38,7 +38,7 @@ pub record Copying (m : List ℕ) (n a b : ℕ) (w v u : List ℕ) (j pos h : �
   pub starts : (k : ℕ) → k < j + 1 → getD u (a + k) 0 ≡ usersTo m n k
   pub parts : (k : ℕ) → k < j → words u (b + usersTo m n k) (length (usersOf m n k)) ≡ usersOf m n k
   pub own : words u (b + usersTo m n j) (length front) ≡ front
-  pub others : (k : ℕ) → (a ≤ k → k < a + 2049 → ⊥) → (b ≤ k → k < b + 12288 → ⊥) → getD u k 0 ≡ getD v k 0
+  pub others : (k : ℕ) → (b ≤ k → k < b + pos → ⊥) → getD u k 0 ≡ getD v k 0
 
 sum-none : (g : ℕ → ℕ) → sumTo g 0 ≡ 0
 unfolding sumTo
@@ -84,8 +84,8 @@ module _ {m : List ℕ} {c : Counts} (ok : Ready m c) (a b : ℕ) (u₀ : List �
     parts-on k h =
         words-same u (b + usersTo m N k) (length (usersOf m N k)) (a + j) pos (mathlib.Core.Logic.inl (omega (arith, ok .insns, z .high))) ∙ z .parts k h
 
-    others-on : (k : ℕ) → (a ≤ k → k < a + 2049 → ⊥) → (b ≤ k → k < b + 12288 → ⊥) → getD (set u (a + j) pos) k 0 ≡ getD u₀ k 0
-    others-on k g h = getD-set-other u (a + j) k pos 0 (λ x. g (omega arith) (omega (arith, ok .insns, z .high))) ∙ z .others k g h
+    others-on : (k : ℕ) → (a ≤ k → k < a + (j + 1) → ⊥) → (b ≤ k → k < b + pos → ⊥) → getD (set u (a + j) pos) k 0 ≡ getD u₀ k 0
+    others-on k g h = getD-set-other u (a + j) k pos 0 (λ x. g (omega arith) (omega arith)) ∙ z .others k (λ p q. g p (omega arith)) h
 
     pub copy-start : {w : List ℕ} {e : ℕ} → Linked m (c .insns) 0 e w → j < c .insns → Copying m (c .insns) a b w (set u (a + j) pos) (set u (a + j) pos) j pos (getD w j 0)
     unfolding tab
@@ -102,7 +102,7 @@ module _ {m : List ℕ} {c : Counts} (ok : Ready m c) (a b : ℕ) (u₀ : List �
           starts = starts-on;
           parts = parts-on;
           own = refl;
-          others = λ k g h. refl;
+          others = λ k h. refl;
         }
 
     pub on-room : b + 12288 ≤ length (set u (a + j) pos)
@@ -122,7 +122,7 @@ module _ {m : List ℕ} {c : Counts} (ok : Ready m c) (a b : ℕ) (u₀ : List �
                 | yes q ↦ rw q (ap (λ (l : List ℕ). words u' (b + usersTo m N j) (length l)) (sym f) ∙ (y .own ∙ f))
                 | no q ↦ y .parts k (omega arith)
               ];
-          others = λ k p q. y .others k p q ∙ others-on k p q;
+          others = λ k p q. y .others k q ∙ others-on k p (λ x l. q x (omega (arith, y .pos-is, z .pos-is)));
         }
 
     pub lay-done : c .insns ≤ j → Uses m c a b u₀ (set u (a + c .insns) pos)
@@ -139,7 +139,9 @@ module _ {m : List ℕ} {c : Counts} (ok : Ready m c) (a b : ℕ) (u₀ : List �
               let n = s (k + 1) (omega arith) in
               let len : getD (set u (a + N) pos) (a + (k + 1)) 0 - getD (set u (a + N) pos) (a + k) 0 ≡ length (usersOf m N k) = omega (arith, p, n, sum-more (λ x. length (usersOf m N x)) k) in
               ap₂ {C = List ℕ} (λ x y. words (set u (a + N) pos) (b + x) y) p len ∙ ((rw e at (parts-on k (omega arith))) ∙ sym (uses-is ok t k));
-          others = λ k g h. rw e at (others-on k g h);
+          others = λ k g h.
+              let p : getD (set u (a + N) pos) (a + N) 0 ≡ pos = s N (omega arith) ∙ sym (z .pos-is ∙ ap (usersTo m N) e) in
+              rw e at (others-on k (λ x l. g x (omega arith)) (λ x l. h x (omega (arith, p))));
         }
 
 module _ {m : List ℕ} {c : Counts} (ok : Ready m c) (a b : ℕ) (order : a + 2049 ≤ b) {w v u : List ℕ} {j pos h : ℕ} (z : Copying m (c .insns) a b w v u j pos h) (g : h < 12288) where
@@ -186,5 +188,5 @@ module _ {m : List ℕ} {c : Counts} (ok : Ready m c) (a b : ℕ) (order : a + 2
             ∙ ap₂ {C = List ℕ} (λ l y. l ++ y ∷ [])
             (words-same u (b + usersTo m M j) (length (z .front)) (b + pos) x (mathlib.Core.Logic.inr (omega (arith, z .pos-is))) ∙ z .own)
             (ap (λ k. getD (set u (b + pos) x) k 0) here ∙ getD-set-same u (b + pos) x 0 (omega (arith, z .len-same, copy-room))));
-        others = λ k p q. getD-set-other u (b + pos) k x 0 (λ y. q (omega arith) (omega (arith, copy-room))) ∙ z .others k p q;
+        others = λ k q. getD-set-other u (b + pos) k x 0 (λ y. q (omega arith) (omega arith)) ∙ z .others k (λ p l. q p (omega arith));
       }

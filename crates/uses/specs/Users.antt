@@ -103,4 +103,4 @@ pub record Uses (m : List ℕ) (c : Counts) (starts users : ℕ) (u u' : List �
   pub total : getD u' (starts + c .insns) 0 ≤ 12288
   pub part : (s : List ℕ) (j : ℕ) → j < c .insns
       → words u' (users + getD u' (starts + j) 0) (getD u' (starts + (j + 1)) 0 - getD u' (starts + j) 0) ≡ uses (view s m c) j
-  pub others : (k : ℕ) → (starts ≤ k → k < starts + 2049 → ⊥) → (users ≤ k → k < users + 12288 → ⊥) → getD u' k 0 ≡ getD u k 0
+  pub others : (k : ℕ) → (starts ≤ k → k < starts + (c .insns + 1) → ⊥) → (users ≤ k → k < users + getD u' (starts + c .insns) 0 → ⊥) → getD u' k 0 ≡ getD u k 0

@@ -7,19 +7,19 @@ use Rattle.blocks.proofs.step_block.Lts as lts
 use Rattle.blocks.proofs.go_live.Reads as go-live-reads
 use Rattle.state.proofs.take_block.Reads as take-block-reads
 
--- src/lib.rt:58:9
+-- src/lib.rt:57:9
 take-block-requires : tie.Need-take-block-requires
 take-block-requires c κs = search needs
 
--- src/lib.rt:61:5
+-- src/lib.rt:60:5
 go-live-requires : tie.Need-go-live-requires
 go-live-requires c κs = (c .before .before .before .take-block .ensures .ready, (c .before .before .before .before .before .before .before .pre .1 .0, c .before .before .before .take-block .ensures .below))
 
--- src/lib.rt:52:1
+-- src/lib.rt:51:1
 same-length : tie.Need-same-length
 same-length c = search needs
 
--- src/lib.rt:52:1
+-- src/lib.rt:51:1
 returns : tie.Need-returns
 returns c = block-stepped (c .before .before .before .before .before .before .before .before .before .before .args .z) (c .before .before .before .before .before .before .before .before .before .before .args .m .now) (c .before .before .before .before .before .before .before .before .before .before .args .q) (c .before .before .before .before .before .before .before .before .before .before .args .x .now) (c .before .before .before .before .before .before .take-block .ensures) (c .before .before .go-live .ensures)
 

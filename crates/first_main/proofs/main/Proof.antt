@@ -1,0 +1,73 @@
+-- `first_main::main` meets its contract. Assumes nothing.
+use mathlib.Core.Path.{_≡_}
+use lib.ListN.{length, length-replicate}
+use Prim.Native.Nat.{ℕ, _-_, _≤_}
+use native.Mathlib.Omega.{arith}
+use borrow.Author.Needs.{needs}
+use Rattle.first_main.proofs.main.Statement.{statement}
+use Rattle.first_main.proofs.main.Tie as tie
+
+abbrev Inv-loop : tie.InvT-loop
+Inv-loop script₀ out₀ m₀ x₀ w₀ u₀ k₀ script out m x w u k = (k ≤ 16777216) × (length script ≡ 65535) × (length out ≡ 1048576) × (length m ≡ 47872) × (length x ≡ 9216) × (length w ≡ 49152) × (length u ≡ 14337)
+
+abbrev μ-loop : tie.MeasureT-loop
+μ-loop script₀ out₀ m₀ x₀ w₀ u₀ k₀ script out m x w u k = 16777216 - k
+
+loop-holds : tie.Need-loop-holds Inv-loop μ-loop
+loop-holds c = (omega arith, length-replicate {A = ℕ} 65535 0, length-replicate {A = ℕ} 1048576 0, length-replicate {A = ℕ} 47872 0, length-replicate {A = ℕ} 9216 0, length-replicate {A = ℕ} 49152 0, length-replicate {A = ℕ} 14337 0)
+
+slice-aggregate-one : tie.Need-slice-aggregate-one Inv-loop μ-loop
+slice-aggregate-one c = search needs
+
+slice-aggregate-one-2 : tie.Need-slice-aggregate-one-2 Inv-loop μ-loop
+slice-aggregate-one-2 c = search needs
+
+slice-aggregate-one-3 : tie.Need-slice-aggregate-one-3 Inv-loop μ-loop
+slice-aggregate-one-3 c = search needs
+
+slice-aggregate-one-4 : tie.Need-slice-aggregate-one-4 Inv-loop μ-loop
+slice-aggregate-one-4 c = search needs
+
+slice-aggregate-one-5 : tie.Need-slice-aggregate-one-5 Inv-loop μ-loop
+slice-aggregate-one-5 c = search needs
+
+slice-aggregate-one-6 : tie.Need-slice-aggregate-one-6 Inv-loop μ-loop
+slice-aggregate-one-6 c = search needs
+
+one-requires : tie.Need-one-requires Inv-loop μ-loop
+one-requires c κs = search needs
+
+add-k : tie.Need-add-k Inv-loop μ-loop
+add-k c = search needs
+
+loop-less : tie.Need-loop-less Inv-loop μ-loop
+loop-less c = search needs
+
+loop-again : tie.Need-loop-again Inv-loop μ-loop
+loop-again c = search needs
+
+returns : tie.Need-returns Inv-loop μ-loop
+returns c = search needs
+
+returns-2 : tie.Need-returns-2 Inv-loop μ-loop
+returns-2 c = search needs
+
+pub main-spec : {M : Type 1} → statement M
+main-spec =
+    tie.close
+    (tie.spec
+    Inv-loop
+    μ-loop
+    loop-holds
+    slice-aggregate-one
+    slice-aggregate-one-2
+    slice-aggregate-one-3
+    slice-aggregate-one-4
+    slice-aggregate-one-5
+    slice-aggregate-one-6
+    one-requires
+    add-k
+    loop-less
+    loop-again
+    returns
+    returns-2)

@@ -1,0 +1,175 @@
+-- One Param, the loop of pass_arguments, and that of count_params. Assumes nothing.
+use mathlib.Core.Path.{_≡_, refl, sym, ap, _∙_}
+use mathlib.Core.Option.{none, some}
+use mathlib.Core.List.{List}
+use Prim.Native.Nat.{ℕ, suc, _+_, _-_, _≤_, _<_}
+use native.Mathlib.Omega.{arith}
+use mir.Syntax.{w64}
+use mir.Val.{Fits}
+use lib.ListN.{length, getD}
+use Rattle.kinds.specs.declared.Kind.{Kind}
+use Rattle.rules.specs.Program as P
+use Rattle.rules.specs.Program.{Limits, Program, about, parameters}
+use Rattle.rules.specs.Machine.{State, kindOf, wakeIfWider, placeOf, argument, passArguments}
+use Rattle.program.specs.declared.Op.{Op}
+use Rattle.program.specs.declared.Op.the-variants.{Jump, IfTrue, Return, SendStatic, SendDynamic, Compute, Phi, Param, SelfParam, New, GetIvar, SetIvar}
+use Rattle.program.specs.declared.Row.{Row}
+use Rattle.program.specs.declared.Opnd.{Opnd}
+use Rattle.program.specs.declared.Counts.{Counts}
+use Rattle.program.specs.Rows.{opndOf, opIn}
+use Rattle.program.specs.View.{view, ReadsInsn}
+use Rattle.state.specs.declared.Sizes.{Sizes}
+use Rattle.state.specs.declared.Regs.{Regs}
+use Rattle.state.specs.declared.Went.{Went}
+use Rattle.state.specs.declared.Went.the-variants.{On, No}
+use Rattle.state.specs.View.{Attrs, kindsOf}
+use Rattle.state.specs.View.{view as stateView}
+use Rattle.state.specs.Changes.{Did, Every}
+use Rattle.index.specs.Chains.{Chained, at, self, ChainIs, FitsId}
+use Rattle.index.proofs.Lists.{Starts, chained-below, chained-none, chained-some, chained-low, chained-high, chained-next}
+use Rattle.opnds.specs.Reads.{Inside, kindIn}
+use Rattle.opnds.proofs.Given.{kind-of}
+use Rattle.flows.specs.Flows.{Argues}
+use Rattle.flows.proofs.Callers.{fits-inside}
+use Rattle.blocks.proofs.Walk.{From, Walking, walk-falls, walk-word, walk-stop, walk-done}
+use Rattle.passing.specs.Passing.{placeIn, passTo, HasParams, Caller, CallIn, PassIn}
+
+-- ---- one Param
+
+place-in : (L : Limits) (s : List ℕ) (o : Op) (l : List P.Opnd) → elim (about (opIn s o l) .place) [ none ↦ 0 | some n ↦ n ] ≡ placeIn o
+place-in L s (Jump b) l = refl
+place-in L s (IfTrue b e) l = refl
+place-in L s Return l = refl
+place-in L s (SendStatic f) l = refl
+place-in L s (SendDynamic m) l = refl
+place-in L s (Compute o) l = refl
+place-in L s (Phi b e) l = refl
+place-in L s (Param n) l = refl
+place-in L s (SelfParam c) l = refl
+place-in L s (New c) l = refl
+place-in L s (GetIvar m) l = refl
+place-in L s (SetIvar m) l = refl
+
+place-is : (L : Limits) (s m : List ℕ) (c : Counts) (j : ℕ) {x : Row} {n : ℕ} → ReadsInsn m c j x → n ≡ placeIn (x .op) → placeOf L (view s m c) j ≡ n
+place-is L s m c j {x} d e = ap (λ (y : P.Instruction). elim (about (y .op) .place) [ none ↦ 0 | some n ↦ n ]) (d .is s) ∙ place-in L s (x .op) _ ∙ sym e
+
+pub param-below : {m : List ℕ} {c : Counts} {z : Sizes} {i j : ℕ} → Caller m c z i → j < z .insns → j < c .insns
+param-below g lt = let e = g .sizes in omega arith
+
+pub argument-inside : {m : List ℕ} {c : Counts} {z : Sizes} {i : ℕ} (n : ℕ) {o : Opnd} → Caller m c z i → Argues m c i n o → Inside z o
+argument-inside {z = z} n {o} g a = fits-inside z o (rw (a .is P.limits (g .script) (g .call)) (g .listed n))
+
+pass-is : (L : Limits) (p : Program) (i j : ℕ) (s : State) → wakeIfWider L p (kindOf s (argument L p (placeOf L p j) i)) j s ≡ passTo L p i j s
+unfolding passTo
+pass-is L p i j s = refl
+
+pub passed-to : {m : List ℕ} {c : Counts} {z : Sizes} (w : List ℕ) (q : Regs) (i j : ℕ) {x : Row} {n : ℕ} {o : Opnd} {k : Kind} {w' : List ℕ} {r : Went} → ReadsInsn m c j x
+    → n ≡ placeIn (x .op) → Argues m c i n o → k ≡ kindIn (kindsOf z w) (opndOf o) → Did z Every (λ L p. wakeIfWider L p k j) w q w' r
+    → Did z (CallIn m c i) (λ L p. passTo L p i j) w q w' r
+passed-to {m} {c} {z} w q i j {n = n} {o} {k} d en a ek g = record {
+  is = λ L room p v u.
+      let s = stateView z v w q in
+      let y = view (u .script) m c in
+      let e : k ≡ kindOf s (argument L y (placeOf L y j) i) =
+      ek ∙ ap (kindIn (kindsOf z w)) (a .is L (u .script) (u .call)) ∙ sym (kind-of s (argument L y n i)) ∙ ap (λ (t : ℕ). kindOf s (argument L y t i)) (sym (place-is L (u .script) m c j d en)) in
+      g .is L room p v tt ∙ rw (u .program) (ap (λ (t : Kind). wakeIfWider L y t j s) e ∙ pass-is L y i j s);
+  ok = g .ok;
+}
+
+-- the head's word fits
+pub params-word : {n : ℕ} {x : List ℕ} {e : ℕ} → HasParams n x e → FitsId x (3072 + e)
+params-word {n} {x} {e} u =
+    let k = u .few in
+    let r : getD x (3072 + e) 0 ≤ n = chained-high self (at x 4096) n 0 (getD x (3072 + e) 0) (u .list) (u .held) in
+    omega arith
+
+-- ---- pass_arguments at its loop's head
+
+module _ {m : List ℕ} {c : Counts} {z : Sizes} {x : List ℕ} {h : ℕ} {m₀ : List ℕ} {q₀ : Regs} {w : List ℕ} {q : Regs} {i j : ℕ}
+    (g : Walking z x 4096 (λ L p. passTo L p i) (CallIn m c i) h m₀ q₀ w q j) (e : ℕ) (eh : h ≡ getD x (3072 + e) 0) where
+  from-head : (l : List ℕ) → ChainIs x (z .insns) 1 e l → From (z .insns) x 4096 h l
+  from-head l d = rw eh d
+
+  held : (f : ℕ) (p : Program) (v : Attrs) → PassIn m c z x i f e p v → CallIn m c i p v × From (z .insns) x 4096 h (parameters p f)
+  held f p v u = (u .call, from-head (parameters p f) (u .params))
+
+  pub params-fall : {k : ℕ} → HasParams (z .insns) x e → j < z .insns → k ≡ getD x (4096 + j) 0 → z .insns - k < z .insns - j
+  params-fall u lt ek = walk-falls g (u .list) (from-head (u .list) (u .held)) lt ek
+
+  pub params-next : HasParams (z .insns) x e → j < z .insns → FitsId x (4096 + j)
+  params-next u lt = walk-word g (u .list) (from-head (u .list) (u .held)) lt
+
+  pub params-stop : {w' : List ℕ} {r : Went} {n : ℕ} → j < z .insns → Did z (CallIn m c i) (λ L p. passTo L p i j) w q w' r → r ≡ No n
+      → (f : ℕ) → Did z (PassIn m c z x i f e) (λ L p. passArguments L p i f) m₀ q₀ w' (No n)
+  unfolding passArguments passTo
+  params-stop lt d er f = walk-stop g (λ p. parameters p f) (held f) lt d er
+
+  pub params-done : z .insns ≤ j → (f : ℕ) → Did z (PassIn m c z x i f e) (λ L p. passArguments L p i f) m₀ q₀ w (On q)
+  unfolding passArguments passTo
+  params-done le f = walk-done g (λ p. parameters p f) (held f) le
+
+-- ---- count_params at its loop's head: what is left of a chain's list, and how many were counted
+
+pub record Rest (N : ℕ) (x l : List ℕ) (n j : ℕ) : Type 0 where
+  pub list : List ℕ
+  pub chained : Chained self (at x 4096) N n j list
+  pub same : length list + n ≡ length l
+
+-- h is where the chain starts
+pub record Counting (N : ℕ) (x : List ℕ) (h n j : ℕ) : Type 0 where
+  pub few : n ≤ N
+  pub left : (l : List ℕ) → From N x 4096 h l → Rest N x l n j
+
+pub count-start : (N : ℕ) (x : List ℕ) (h : ℕ) → Counting N x h 0 h
+count-start N x h = record { few = omega arith; left = λ l d. record { list = l; chained = d; same = omega arith } }
+
+module _ {N : ℕ} {x : List ℕ} {e : ℕ} (u : HasParams N x e) {h n j : ℕ} (g : Counting N x h n j) (eh : h ≡ getD x (3072 + e) 0) where
+  chain-from : (l : List ℕ) → ChainIs x (N) 1 e l → From N x 4096 h l
+  chain-from l d = rw eh d
+
+  here : (l : List ℕ) (d : From N x 4096 h l) → j < N → Starts self (at x 4096) N j (g .left l d .list)
+  here l d lt = chained-some self (at x 4096) N n j (g .left l d .list) (g .left l d .chained) lt
+
+  counted : n ≤ j
+  counted =
+      let r = g .left (u .list) (chain-from (u .list) (u .held)) in
+      chained-low self (at x 4096) N n j (r .list) (r .chained) (g .few)
+
+  pub count-fits : j < N → Fits w64 (n + 1)
+  count-fits lt = let a = counted in let b = u .few in record { fits = omega arith }
+
+  pub count-below : j < N → j < 2048
+  count-below lt = let b = u .few in omega arith
+
+  pub count-next : j < N → FitsId x (4096 + j)
+  count-next lt =
+      let a = g .left (u .list) (chain-from (u .list) (u .held)) in
+      let b = u .few in
+      let r : getD x (4096 + j) 0 ≤ N = chained-next self (at x 4096) N n j (a .list) (a .chained) lt in
+      omega arith
+
+  pub count-falls : {k : ℕ} → j < N → k ≡ getD x (4096 + j) 0 → N - k < N - j
+  count-falls {k} lt ek =
+      let s = here (u .list) (chain-from (u .list) (u .held)) lt in
+      let r : suc j ≤ getD x (4096 + j) 0 = chained-low self (at x 4096) N (suc j) (getD x (4096 + j) 0) (s .rest) (s .onward) (omega arith) in
+      omega arith
+
+  pub count-more : {k : ℕ} → j < N → k ≡ getD x (4096 + j) 0 → Counting N x h (n + 1) k
+  count-more {k} lt ek = record {
+    few = let a = counted in omega arith;
+    left = λ l d.
+        let s = here l d lt in
+        let r = g .left l d in
+        record {
+          list = s .rest;
+          chained = rw ek (chained-below self (at x 4096) N (suc j) (n + 1) (getD x (4096 + j) 0) (s .rest) (let a = counted in omega arith) (s .onward));
+          same = let a : length (r .list) ≡ suc (length (s .rest)) = ap length (s .is) in let b = r .same in omega arith;
+        };
+  }
+
+  pub count-done : N ≤ j → (l : List ℕ) → ChainIs x (N) 1 e l → length l ≡ n
+  count-done le l d =
+      let r = g .left l (chain-from l d) in
+      let a : length (r .list) ≡ 0 = ap length (chained-none self (at x 4096) N n j (r .list) (r .chained) le) in
+      let b = r .same in
+      omega arith

@@ -1,0 +1,69 @@
+-- What passing arguments relies on. Assumes nothing.
+use mathlib.Core.Bool.{true}
+use mathlib.Core.Path.{_≡_}
+use mathlib.Core.List.{List}
+use Prim.Native.Nat.{ℕ, _≤_, _<_}
+use lib.ListN.{length, getD}
+use Rattle.kinds.specs.declared.Kind.the-variants.{Empty}
+use Rattle.rules.specs.Actions.{_>>=_, the}
+use Rattle.rules.specs.Lists.{has}
+use Rattle.rules.specs.Program as P
+use Rattle.rules.specs.Program.{Limits, Program, about, opOf, parameters}
+use Rattle.rules.specs.Machine.{Acts, kindOf, wakeIfWider, placeOf, argument}
+use Rattle.program.specs.declared.Op.{Op}
+use Rattle.program.specs.declared.Op.the-variants.{Jump, IfTrue, Return, SendStatic, SendDynamic, Compute, Phi, Param, SelfParam, New, GetIvar, SetIvar}
+use Rattle.program.specs.declared.Counts.{Counts}
+use Rattle.program.specs.View.{view, Ready}
+use Rattle.state.specs.declared.Sizes.{Sizes}
+use Rattle.state.specs.View.{Attrs}
+use Rattle.index.specs.Chains.{size, ChainIs}
+use Rattle.flows.specs.Tally.{FitsAt}
+
+-- a Param's place
+abbrev pub placeIn : Op → ℕ
+placeIn (Jump b) = 0
+placeIn (IfTrue b e) = 0
+placeIn Return = 0
+placeIn (SendStatic f) = 0
+placeIn (SendDynamic m) = 0
+placeIn (Compute o) = 0
+placeIn (Phi b e) = 0
+placeIn (Param n) = n
+placeIn (SelfParam c) = 0
+placeIn (New c) = 0
+placeIn (GetIvar m) = 0
+placeIn (SetIvar m) = 0
+
+-- what passArguments does for one Param
+unfoldable pub passTo : Limits → Program → ℕ → ℕ → Acts (Unit {0})
+passTo L p i x = do
+  k ← the (λ s. kindOf s (argument L p (placeOf L p x) i))
+  wakeIfWider L p k x
+
+-- there is a chain of Params for entry block e, in a program of n instructions
+pub record HasParams (n : ℕ) (x : List ℕ) (e : ℕ) : Type 0 where
+  pub long : size ≤ length x
+  pub below : e < 1024
+  pub few : n ≤ 2048
+  pub list : List ℕ
+  pub held : ChainIs x n 1 e list
+
+-- instruction i is a call, and none of its arguments is Any or a result beyond the program's
+pub record Caller (m : List ℕ) (c : Counts) (z : Sizes) (i : ℕ) : Type 0 where
+  pub script : List ℕ
+  pub ready : Ready m c
+  pub sizes : z .insns ≡ c .insns
+  pub below : i < c .insns
+  pub call : has (about (opOf (view script m c) i) .callee) ≡ true
+  pub listed : (k : ℕ) → FitsAt (z .insns) (getD (about (opOf (view script m c) i) .listed) k (P.Const Empty))
+
+-- the program is the one in memory, and instruction i a call
+pub record CallIn (m : List ℕ) (c : Counts) (i : ℕ) (p : Program) (v : Attrs) : Type 0 where
+  pub script : List ℕ
+  pub program : p ≡ view script m c
+  pub call : has (about (opOf (view script m c) i) .callee) ≡ true
+
+-- and the chain for entry block e holds the Params of function f
+pub record PassIn (m : List ℕ) (c : Counts) (z : Sizes) (x : List ℕ) (i f e : ℕ) (p : Program) (v : Attrs) : Type 0 where
+  pub call : CallIn m c i p v
+  pub params : ChainIs x (z .insns) 1 e (parameters p f)

@@ -1,0 +1,3 @@
+pub mod Opnds
+pub mod Passes
+pub mod Given

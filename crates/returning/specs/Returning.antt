@@ -1,0 +1,77 @@
+-- What the passes over returned operands promise, and what they rely on. Assumes nothing.
+use mathlib.Core.Bool.{Bool as 𝔹, true, false, cond}
+use mathlib.Core.Option.{some}
+use mathlib.Core.Path.{_≡_}
+use mathlib.Core.List.{List, [], _∷_, map}
+use Prim.Native.Nat.{ℕ, _+_, _≤_, _<_}
+use lib.ListN.{getD, drop}
+use Rattle.kinds.specs.declared.Kind.{Kind}
+use Rattle.rules.specs.Actions.{_>>=_, the}
+use Rattle.rules.specs.Lists.{placesFrom, concat}
+use Rattle.rules.specs.Program as P
+use Rattle.rules.specs.Program.{Limits, Program, opOf, returned, returns}
+use Rattle.rules.specs.Machine.{Acts, marked, joinAll, flowsBack}
+use Rattle.program.specs.declared.Opnd.{Opnd}
+use Rattle.program.specs.declared.Counts.{Counts}
+use Rattle.program.specs.Rows.{opndOf}
+use Rattle.program.specs.View.{view, Ready}
+use Rattle.state.specs.declared.Sizes.{Sizes}
+use Rattle.state.specs.View.{Attrs, kindsOf, calledOf}
+use Rattle.index.specs.Chains.{Index}
+use Rattle.flows.specs.declared.Pass.{Pass}
+use Rattle.flows.specs.Tally.{FitsAt}
+use Rattle.flows.specs.Flows.{Passed}
+
+-- the end of a call's rule: the kind of what has flowed back to it
+unfoldable pub callKind : Limits → Program → ℕ → Acts Kind
+callKind L p i = do
+  vs ← the (λ s. flowsBack L p s i)
+  joinAll vs
+
+-- r is the operand of instruction j, if that is a Return
+pub record Returns (m : List ℕ) (c : Counts) (j : ℕ) (r : Opnd) : Type 0 where
+  pub is : (s : List ℕ) (o : P.Opnd) → returned (opOf (view s m c) j) ≡ some o → opndOf r ≡ o
+
+-- these instructions are Returns, and these are their operands
+unfoldable pub Gives : Program → List ℕ → List P.Opnd → Type 0
+Gives p [] [] = Unit {0}
+Gives p [] (o ∷ os) = ⊥
+Gives p (j ∷ l) [] = ⊥
+Gives p (j ∷ l) (o ∷ os) = (returned (opOf p j) ≡ some o) × Gives p l os
+
+-- the returned operands of the functions from k on that i has called
+unfoldable pub backFrom : Program → List (List 𝔹) → ℕ → ℕ → List P.Opnd
+backFrom p t i k = concat (map (returns p) (placesFrom k (λ row. getD row i false) (drop k t)))
+
+-- no returned operand is Any or a result beyond the program's
+pub record Sound (p : Program) (n : ℕ) : Type 0 where
+  pub fits : (j : ℕ) (o : P.Opnd) → returned (opOf p j) ≡ some o → FitsAt n o
+
+-- the program in memory and its index
+pub record Backs (m : List ℕ) (c : Counts) (z : Sizes) (x : List ℕ) : Type 0 where
+  pub script : List ℕ
+  pub ready : Ready m c
+  pub sizes : z .insns ≡ c .insns
+  pub index : Index m c x
+  pub sound : Sound (view script m c) (z .insns)
+
+-- i has called none but the n functions from f on
+pub record Among (t : List (List 𝔹)) (i f n : ℕ) : Type 0 where
+  pub only : (g : ℕ) → marked t g i ≡ true → (f ≤ g) × (g < f + n)
+
+-- the program is the one in memory
+pub record BackIn (m : List ℕ) (c : Counts) (z : Sizes) (t : List (List 𝔹)) (i f n : ℕ) (p : Program) (v : Attrs) : Type 0 where
+  pub script : List ℕ
+  pub program : p ≡ view script m c
+  pub sound : Sound (view script m c) (z .insns)
+  pub among : Among t i f n
+
+-- a pass over the operands of the Returns of f; the same where i has called f; over those of all functions that i has called, if they are among n from f on
+pub record PassedBack (m : List ℕ) (c : Counts) (z : Sizes) (w : List ℕ) (f : ℕ) (x y : Pass) : Type 0 where
+  pub passed : (s : List ℕ) → Passed (kindsOf z w) (returns (view s m c) f) x y
+
+pub record PassedIf (m : List ℕ) (c : Counts) (z : Sizes) (w : List ℕ) (i f : ℕ) (x y : Pass) : Type 0 where
+  pub passed : (s : List ℕ) → Passed (kindsOf z w) (cond (marked (calledOf z w) f i) (returns (view s m c) f) []) x y
+
+pub record PassedAll (m : List ℕ) (c : Counts) (z : Sizes) (w : List ℕ) (i f n : ℕ) (x y : Pass) : Type 0 where
+  pub passed : Among (calledOf z w) i f n → (s : List ℕ) → Passed (kindsOf z w) (backFrom (view s m c) (calledOf z w) i 0) x y
