@@ -38,11 +38,11 @@ of-set Any h = absurd (omega arith)
 of-other : (k : Kind) → (tagOf k ≡ 8 → ⊥) → classesIn k ≡ none
 of-other k h = rw (ne-eqb (tagOf k) 8 h)
 
-asked-yes : (o : P.Opnd) (s : State) (c : ℕ) → classesIn (kindIn (s .kinds) o) ≡ some c → classesOf o s ≡ answered (membersOf c, s)
+pub asked-yes : (o : P.Opnd) (s : State) (c : ℕ) → classesIn (kindIn (s .kinds) o) ≡ some c → classesOf o s ≡ answered (membersOf c, s)
 unfolding classesOf
 asked-yes o s c e = let g = ap classesIn (kind-of s o) ∙ e in rw g
 
-asked-no : (o : P.Opnd) (s : State) → classesIn (kindIn (s .kinds) o) ≡ none → classesOf o s ≡ refused 14
+pub asked-no : (o : P.Opnd) (s : State) → classesIn (kindIn (s .kinds) o) ≡ none → classesOf o s ≡ refused 14
 unfolding classesOf
 asked-no o s e = let g = ap classesIn (kind-of s o) ∙ e in rw g
 

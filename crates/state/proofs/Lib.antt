@@ -4,6 +4,5 @@ pub mod Pushes
 pub mod Wakes
 pub mod Lists
 pub mod Callers
-pub mod Ivars
 pub mod Blank
 pub mod Sized

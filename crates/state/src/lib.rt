@@ -10,12 +10,11 @@ ghost use mathlib.Core.Bool.{false};
 ghost use mathlib.Core.Path.{_≡_};
 ghost use mathlib.Core.List.{List, []};
 ghost use Prim.Native.Nat.{ℕ, _≤_, _<_, _^_};
-ghost use lib.ListN.{length, getD};
-ghost use lib.Seq.{slice};
-ghost use Rattle.rules.specs.Program.{Name};
-ghost use Rattle.rules.specs.Machine.{setKind, setLive, marked, addRead, setIvarKind, atRest, pushInsn, pushBlock, wakeIfWider, store as stored, setIvar, goLive};
+ghost use lib.ListN.{getD};
+ghost use Rattle.rules.specs.Machine.{setKind, setLive, marked, addRead, setIvarKind, atRest, pushInsn, pushBlock, wakeIfWider};
+ghost use Rattle.tables.specs.Bits.{RowWord};
 ghost use Rattle.state.specs.View.{Attrs, kindsOf, liveOf, ivarsOf, calledOf, readsOf, view, Held, Ready, noEntries};
-ghost use Rattle.state.specs.Changes.{Put, Added, Following, Did, Every, TookInsn, TookBlock, Listing, Homes, HomesOf, CodeOf, UsersOf, pushAll, pushIf, pushWhere, pushLive, wakeCallers, wakeReads, GetsOf, IvarOf};
+ghost use Rattle.state.specs.Changes.{Put, Added, Following, Did, Every, TookInsn, TookBlock, pushWhere, wakeCallers};
 
 // How many things the program has.
 pub struct Sizes {
@@ -163,15 +162,6 @@ pub fn add_caller(m: &mut [usize], z: Sizes, f: FunId, i: InsnId) -> bool
     true
 }
 
-// Instruction i is a read that met class c.
-pub fn has_read(m: &[usize], z: Sizes, c: ClassId, i: InsnId) -> bool
-    requires { ⌜ Held z (now m) ⌝ }
-    requires { ⌜ (c .0 < z .classes) × (i .0 < z .insns) ⌝ }
-    ensures { λ r. ⌜ r ≡ marked (readsOf z (now (m .entry))) (c .0) (i .0) ⌝ }
-{
-    tables::test_bit(m, READS + c.0 as usize * 32, i.0 as usize)
-}
-
 pub fn add_read(m: &mut [usize], z: Sizes, c: ClassId, i: InsnId)
     requires { ⌜ Held z (now m) ⌝ }
     requires { ⌜ (c .0 < z .classes) × (i .0 < z .insns) ⌝ }
@@ -190,6 +180,15 @@ pub fn next_caller(m: &[usize], z: Sizes, f: FunId, from: InsnId) -> NextInsn
         Found::At(j) => NextInsn::Place(InsnId(j as u32)),
         Found::Nothing => NextInsn::Done,
     }
+}
+
+// Word k of the callers of f: a bit for each instruction.
+pub fn caller_word(m: &[usize], z: Sizes, f: FunId, k: usize) -> usize
+    requires { ⌜ Held z (now m) ⌝ }
+    requires { ⌜ (f .0 < z .functions) × (k < 32) ⌝ }
+    ensures { λ r. ⌜ RowWord (getD (calledOf z (now (m .entry))) (f .0) []) k r ⌝ }
+{
+    tables::row_word(m, CALLERS + f.0 as usize * 32, z.insns, k)
 }
 
 // The first read that met class c and is not below `from`.
@@ -338,53 +337,8 @@ pub fn wake_if_wider(m: &mut [usize], z: Sizes, q: Regs, k: Kind, i: InsnId) -> 
     }
 }
 
-// The instructions of a part of a list wait, or 20.
-pub fn push_all(m: &mut [usize], z: Sizes, q: Regs, list: &[usize], from: usize, to: usize) -> Went
-    requires { ⌜ Ready z (now m) q ⌝ }
-    requires { ⌜ Listing z (now list) from to ⌝ }
-    ensures { λ r. ⌜ Did z Every (λ L p. pushAll L p (slice from to (now (list .entry)))) (now (m .entry)) q (now (m .exit)) r ⌝ }
-{
-    let mut at = q;
-    let mut k = from;
-    while k < to {
-        let i = InsnId(list[k] as u32);
-        match push_insn(m, z, at, i) {
-            Went::On(next) => {
-                at = next;
-            }
-            Went::No(n) => {
-                return Went::No(n);
-            }
-        }
-        k += 1;
-    }
-    Went::On(at)
-}
-
-// Block b goes live, and its instructions, which `list` has from `from` to `to`, wait.
-pub fn go_live(
-    m: &mut [usize],
-    z: Sizes,
-    q: Regs,
-    b: BlockId,
-    list: &[usize],
-    from: usize,
-    to: usize,
-) -> Went
-    requires { ⌜ Ready z (now m) q ⌝ }
-    requires { ⌜ b .0 < z .blocks ⌝ }
-    requires { ⌜ Listing z (now list) from to ⌝ }
-    ensures { λ r. ⌜ Did z (CodeOf (now (list .entry)) from to (b .0)) (λ L p. goLive L p (b .0)) (now (m .entry)) q (now (m .exit)) r ⌝ }
-{
-    if is_live(m, z, b) {
-        return Went::On(q);
-    }
-    set_live(m, z, b);
-    push_all(m, z, q, list, from, to)
-}
-
 // Instruction j waits where block b is live.
-fn push_live(m: &mut [usize], z: Sizes, q: Regs, b: BlockId, j: InsnId) -> Went
+pub fn push_live(m: &mut [usize], z: Sizes, q: Regs, b: BlockId, j: InsnId) -> Went
     requires { ⌜ Ready z (now m) q ⌝ }
     requires { ⌜ (b .0 < z .blocks) × (j .0 < z .insns) ⌝ }
     ensures { λ r. ⌜ Did z Every (λ L p. pushWhere L p (b .0) (j .0)) (now (m .entry)) q (now (m .exit)) r ⌝ }
@@ -393,71 +347,6 @@ fn push_live(m: &mut [usize], z: Sizes, q: Regs, b: BlockId, j: InsnId) -> Went
         return push_insn(m, z, q, j);
     }
     Went::On(q)
-}
-
-// The instructions of a part of a list wait whose blocks, which `homes` has, are live; or 20.
-pub fn push_users(
-    m: &mut [usize],
-    z: Sizes,
-    q: Regs,
-    list: &[usize],
-    from: usize,
-    to: usize,
-    homes: &[usize],
-) -> Went
-    requires { ⌜ Ready z (now m) q ⌝ }
-    requires { ⌜ Listing z (now list) from to ⌝ }
-    requires { ⌜ Homes z (now homes) ⌝ }
-    ensures { λ r. ⌜ Did z (HomesOf z (now (homes .entry))) (λ L p. pushLive L p (slice from to (now (list .entry)))) (now (m .entry)) q (now (m .exit)) r ⌝ }
-{
-    let mut at = q;
-    let mut k = from;
-    while k < to {
-        let j = list[k];
-        let b = BlockId(homes[j] as u32);
-        let i = InsnId(j as u32);
-        match push_live(m, z, at, b, i) {
-            Went::On(next) => {
-                at = next;
-            }
-            Went::No(n) => {
-                return Went::No(n);
-            }
-        }
-        k += 1;
-    }
-    Went::On(at)
-}
-
-// Kind k is stored for instruction i, and its users in live blocks wait, if the union with the old kind is another.
-pub fn store(
-    m: &mut [usize],
-    z: Sizes,
-    q: Regs,
-    i: InsnId,
-    k: Kind,
-    list: &[usize],
-    from: usize,
-    to: usize,
-    homes: &[usize],
-) -> Went
-    requires { ⌜ Ready z (now m) q ⌝ }
-    requires { ⌜ i .0 < z .insns ⌝ }
-    requires { ⌜ Listing z (now list) from to ⌝ }
-    requires { ⌜ Homes z (now homes) ⌝ }
-    ensures { λ r. ⌜ Did z (UsersOf z (now (list .entry)) from to (now (homes .entry)) (i .0)) (λ L p. stored L p (i .0) k) (now (m .entry)) q (now (m .exit)) r ⌝ }
-{
-    let old = kind_at(m, z, i);
-    match kinds::union(old, k) {
-        Joined::Of(u) => {
-            if u.same(old) {
-                return Went::On(q);
-            }
-            set_kind(m, z, i, k);
-            push_users(m, z, q, list, from, to, homes)
-        }
-        Joined::Refused(n) => Went::No(n),
-    }
 }
 
 // The callers of f wait whose kinds k would change.
@@ -483,76 +372,5 @@ pub fn wake_callers(m: &mut [usize], z: Sizes, q: Regs, f: FunId, k: Kind) -> We
                 return Went::On(at);
             }
         }
-    }
-}
-
-// Instruction i waits where `yes` says so.
-fn push_if(m: &mut [usize], z: Sizes, q: Regs, yes: bool, i: InsnId) -> Went
-    requires { ⌜ Ready z (now m) q ⌝ }
-    requires { ⌜ i .0 < z .insns ⌝ }
-    ensures { λ r. ⌜ Did z Every (λ L p. pushIf L p yes (i .0)) (now (m .entry)) q (now (m .exit)) r ⌝ }
-{
-    if yes {
-        return push_insn(m, z, q, i);
-    }
-    Went::On(q)
-}
-
-// The reads that met class c wait whose words in the list are x.
-pub fn wake_reads(m: &mut [usize], z: Sizes, q: Regs, c: ClassId, list: &[usize], x: usize) -> Went
-    requires { ⌜ Ready z (now m) q ⌝ }
-    requires { ⌜ (c .0 < z .classes) × (z .insns ≤ length (now list)) ⌝ }
-    ensures { λ r. ⌜ ((n : Name) → Did z (GetsOf z (now (list .entry)) x n) (λ L p. wakeReads L p (c .0) n) (now (m .entry)) q (now (m .exit)) r) ⌝ }
-{
-    let mut at = q;
-    let mut from = InsnId(0);
-    loop {
-        match next_read(m, z, c, from) {
-            NextInsn::Place(i) => {
-                let place = i.0 as usize;
-                let yes = list[place] == x;
-                match push_if(m, z, at, yes, i) {
-                    Went::On(next) => {
-                        at = next;
-                        from = InsnId(i.0 + 1);
-                    }
-                    Went::No(n) => {
-                        return Went::No(n);
-                    }
-                }
-            }
-            NextInsn::Done => {
-                return Went::On(at);
-            }
-        }
-    }
-}
-
-// The attribute at place a of class c is widened by k, and its reads that met the class, whose words in the list are x, wait if this changes it.
-pub fn widen_ivar(
-    m: &mut [usize],
-    z: Sizes,
-    q: Regs,
-    c: ClassId,
-    a: usize,
-    k: Kind,
-    list: &[usize],
-    x: usize,
-) -> Went
-    requires { ⌜ Ready z (now m) q ⌝ }
-    requires { ⌜ (c .0 < z .classes) × (a < 64) ⌝ }
-    requires { ⌜ z .insns ≤ length (now list) ⌝ }
-    ensures { λ r. ⌜ ((n : Name) → Did z (IvarOf z (now (list .entry)) x n (c .0) a) (λ L p. setIvar L p n k (c .0)) (now (m .entry)) q (now (m .exit)) r) ⌝ }
-{
-    let old = ivar_at(m, z, c, a);
-    match kinds::union(old, k) {
-        Joined::Of(u) => {
-            if u.same(old) {
-                return Went::On(q);
-            }
-            set_ivar(m, z, c, a, u);
-            wake_reads(m, z, q, c, list, x)
-        }
-        Joined::Refused(n) => Went::No(n),
     }
 }

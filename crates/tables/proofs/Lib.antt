@@ -2,3 +2,4 @@ pub mod Listed
 pub mod Ring
 pub mod Bit
 pub mod Walk
+pub mod Word

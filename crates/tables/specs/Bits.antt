@@ -1,11 +1,12 @@
 -- Rows of bits in a memory of 64-bit words, the lowest bit of a row's first word first. Assumes nothing.
-use mathlib.Core.Bool.{Bool as 𝔹, not}
+use mathlib.Core.Bool.{Bool as 𝔹, false, not}
 use mathlib.Core.Path.{_≡_}
 use mathlib.Core.List.{List, [], _∷_}
-use Prim.Native.Nat.{ℕ, suc, _+_, _/_, _%_, _^_, _≤_, _<_}
+use Prim.Native.Nat.{ℕ, suc, _+_, _*_, _/_, _%_, _^_, _≤_, _<_}
 use lib.Dec.{eqb}
 use lib.Bits.{bitOr}
 use lib.ListN.{getD, set, drop}
+use Rattle.kinds.specs.Kinds.{bitOf}
 use Rattle.rules.specs.Lists.{placesFrom}
 use Rattle.tables.specs.Tables.{listed}
 use Rattle.tables.specs.declared.Found.{Found}
@@ -36,3 +37,8 @@ Within k n Nothing = Unit
 pub record Next (b : ℕ → 𝔹) (n k : ℕ) (r : Found) : Type 0 where
   pub is : after b n k ≡ goesOn b n r
   pub ok : Within k n r
+
+-- w is word k of a row of bits; there are none behind the row's end
+pub record RowWord (row : List 𝔹) (k w : ℕ) : Type 0 where
+  pub small : w < 2 ^ 64
+  pub bits : (j : ℕ) → j < 64 → w / 2 ^ j % 2 ≡ bitOf (getD row (k * 64 + j) false)

@@ -2,7 +2,8 @@
 ghost use mathlib.Core.Path.{_≡_};
 ghost use Prim.Native.Nat.{_+_, _/_, _≤_, _<_};
 ghost use lib.ListN.{length};
-ghost use Rattle.tables.specs.Bits.{bitAt, withBit, Next};
+ghost use Rattle.tables.specs.Tables.{listed};
+ghost use Rattle.tables.specs.Bits.{bitAt, withBit, Next, RowWord};
 
 // The next set bit of a row.
 pub enum Found {
@@ -47,4 +48,21 @@ pub fn next_bit(m: &[usize], base: usize, from: usize, n: usize) -> Found
         i = i - passed + 64;
     }
     Found::Nothing
+}
+
+// Word k of a row of n bits; what stands behind them in memory is left out.
+pub fn row_word(m: &[usize], base: usize, n: usize, k: usize) -> usize
+    requires { ⌜ (k < 32) × (base + 32 ≤ length (now m)) ⌝ }
+    ensures { λ r. ⌜ RowWord (listed n (bitAt (now (m .entry)) base)) k r ⌝ }
+{
+    let from = k * 64;
+    if n <= from {
+        return 0;
+    }
+    let word = m[base + k];
+    let left = n - from;
+    if left < 64 {
+        return word % (1 << left);
+    }
+    word
 }

@@ -1,0 +1,5 @@
+pub mod Marks
+pub mod Found
+pub mod Woken
+pub mod Widened
+pub mod Rules
