@@ -26,13 +26,6 @@ pub totals-set : (a : List ℕ) (f b i c : ℕ) → length a ≡ answerLen → s
 unfolding over
 totals-set a f b i c h = sets-eq (f ∷ b ∷ i ∷ c ∷ []) a 0 (omega arith)
 
-module _ (a a₁ a₂ l t : List ℕ) (i j : ℕ) (e : a₁ ≡ over i l a) (f : a₂ ≡ over j t a₁) where
-  pub two-placed : a₂ ≡ over j t (over i l a)
-  two-placed = f ∙ ap (over j t) e
-
-  pub three-placed : (a₃ p : List ℕ) (k : ℕ) → a₃ ≡ over k p a₂ → a₃ ≡ over k p (over j t (over i l a))
-  three-placed a₃ p k g = g ∙ ap (over k p) two-placed
-
 -- ---- lists
 
 -- the number i of table k, of tables that stand one behind the other
@@ -106,7 +99,7 @@ words-bit (suc k) row n h = go (decLt n 64) (words-bit k (drop 64 row))
         rw (d, r, rest m (omega arith), getD-drop 64 row m false) (ap (λ (x : ℕ). bitOf (getD row x false)) (sym e))
 
 -- a number is known by its bits
-word-known : (m x : ℕ) (l : List 𝔹) → x < 2 ^ m → ((n : ℕ) → n < m → x / 2 ^ n % 2 ≡ bitOf (getD l n false)) → x ≡ wordOf (take m l)
+pub word-known : (m x : ℕ) (l : List 𝔹) → x < 2 ^ m → ((n : ℕ) → n < m → x / 2 ^ n % 2 ≡ bitOf (getD l n false)) → x ≡ wordOf (take m l)
 unfolding wordOf
 word-known zero x l h bits = omega arith
 word-known (suc m) x l h bits = go l lowest (word-known m (x / 2) (drop 1 l) half shifted)

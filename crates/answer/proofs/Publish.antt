@@ -7,7 +7,7 @@ use lib.ListN.{length, getD, take, length-append, length-map}
 use Rattle.kinds.specs.Kinds.{bitOf, tagOf, payloadOf}
 use Rattle.rules.specs.Lists.{concat}
 use Rattle.memory.specs.Memory.{zeros, Blank, over, filled}
-use Rattle.memory.proofs.Laws.{zeros-length, filled-length, filled-full, grow-table}
+use Rattle.memory.proofs.Laws.{zeros-length, filled-length, filled-full, grow-table, over-length, over-apart}
 use Rattle.answer.specs.Layout.{functionsMost, blocksMost, instructionsMost, usesMost, rowWords, liveAt, tagsAt, payloadsAt, startsAt, usersAt, callersAt, answerLen}
 use Rattle.answer.specs.Record.{Record, Legal}
 use Rattle.answer.specs.Image.{startsFrom, wordsOf, tablesOf, imageOf, Standing}
@@ -73,21 +73,36 @@ module _ (r : Record) (ok : Legal r) where
         stand-next 6 callersAt (functionsMost * rowWords) (concat (map (wordsOf rowWords) (r .callers))) (omega arith) (at-callers r ok) refl
         (rw (all-rows r ok) (omega (arith, ok .functions))) (omega arith)
 
-  -- all seven, in the order in which `write_totals`, `publish_kinds`, `publish_uses` and `publish_callers` place them
-  pub published : (a₀ a₁ a₂ a₃ a₄ : List ℕ) {live tags payloads starts users callers : List ℕ} → Blank a₀ answerLen
-      → live ≡ map bitOf (r .live) → tags ≡ map tagOf (r .kinds) → payloads ≡ map payloadOf (r .kinds)
-      → starts ≡ startsFrom 0 (r .users) → users ≡ concat (r .users) → callers ≡ concat (map (wordsOf rowWords) (r .callers))
-      → a₁ ≡ over 0 (length (r .callers) ∷ length (r .live) ∷ length (r .kinds) ∷ r .count ∷ []) a₀
-      → a₂ ≡ over payloadsAt payloads (over tagsAt tags (over liveAt live a₁))
-      → a₃ ≡ over usersAt users (over startsAt starts a₂)
-      → a₄ ≡ over callersAt callers a₃
-      → a₄ ≡ imageOf r
-  published a₀ a₁ a₂ a₃ a₄ {live} {tags} {payloads} {starts} {users} {callers} b l t p s u c e₁ e₂ e₃ e₄ =
-      let g₁ = stand-totals (stand-none b) e₁ in
-      let g₂ = stand-live g₁ (ap (λ (x : List ℕ). over liveAt x a₁) l) in
-      let g₃ = stand-tags g₂ (ap (λ (x : List ℕ). over tagsAt x (over liveAt live a₁)) t) in
-      let g₄ = stand-payloads g₃ (e₂ ∙ ap (λ (x : List ℕ). over payloadsAt x (over tagsAt tags (over liveAt live a₁))) p) in
-      let g₅ = stand-starts g₄ (ap (λ (x : List ℕ). over startsAt x a₂) s) in
-      let g₆ = stand-users g₅ (e₃ ∙ ap (λ (x : List ℕ). over usersAt x (over startsAt starts a₂)) u) in
-      let g₇ = stand-callers g₆ (e₄ ∙ ap (λ (x : List ℕ). over callersAt x a₃) c) in
-      stand-all g₇
+  -- ---- the uses are written first, then the rest
+
+  module _ (a₀ : List ℕ) (b : Blank a₀ answerLen) where
+    abbrev totals : List ℕ
+    totals = length (r .callers) ∷ length (r .live) ∷ length (r .kinds) ∷ r .count ∷ []
+
+    abbrev withUses : List ℕ → List ℕ
+    withUses a = over usersAt (concat (r .users)) (over startsAt (startsFrom 0 (r .users)) a)
+
+    -- a table in front of them
+    past : (i : ℕ) (l a : List ℕ) → i + length l ≤ startsAt → length a ≡ answerLen → over i l (withUses a) ≡ withUses (over i l a)
+    past i l a h e =
+        let s : startsAt + length (startsFrom 0 (r .users)) ≤ usersAt = rw starts-length (omega (arith, ok .lists, ok .instructions)) in
+        let n : length (over startsAt (startsFrom 0 (r .users)) a) ≡ answerLen = over-length startsAt (startsFrom 0 (r .users)) a (omega arith) ∙ e in
+        over-apart i usersAt l (concat (r .users)) (over startsAt (startsFrom 0 (r .users)) a) (omega arith) (omega (arith, ok .uses, n))
+        ∙ ap (over usersAt (concat (r .users))) (over-apart i startsAt l (startsFrom 0 (r .users)) a h (omega arith))
+
+    pub published : {a₁ a₂ : List ℕ} → a₁ ≡ over usersAt (concat (r .users)) (over startsAt (startsFrom 0 (r .users)) a₀)
+        → a₂ ≡ over callersAt (concat (map (wordsOf rowWords) (r .callers))) (over payloadsAt (map payloadOf (r .kinds)) (over tagsAt (map tagOf (r .kinds))
+        (over liveAt (map bitOf (r .live)) (over 0 (length (r .callers) ∷ length (r .live) ∷ length (r .kinds) ∷ r .count ∷ []) a₁))))
+        → a₂ ≡ imageOf r
+    published {a₁} {a₂} e₁ e₂ =
+        let kinds : length (r .kinds) ≤ instructionsMost = ok .instructions in
+        let g₁ = stand-totals (stand-none b) refl in
+        let g₂ = stand-live g₁ refl in
+        let g₃ = stand-tags g₂ refl in
+        let g₄ = stand-payloads g₃ refl in
+        let g₆ = stand-users (stand-starts g₄ refl) refl in
+        let p₁ : over 0 totals a₁ ≡ withUses (over 0 totals a₀) = ap (over 0 totals) e₁ ∙ past 0 totals a₀ (omega arith) (b .len) in
+        let p₂ = ap (over liveAt (map bitOf (r .live))) p₁ ∙ past liveAt (map bitOf (r .live)) _ (rw length-map (omega (arith, ok .blocks))) (g₁ .len) in
+        let p₃ = ap (over tagsAt (map tagOf (r .kinds))) p₂ ∙ past tagsAt (map tagOf (r .kinds)) _ (rw length-map (omega arith)) (g₂ .len) in
+        let p₄ = ap (over payloadsAt (map payloadOf (r .kinds))) p₃ ∙ past payloadsAt (map payloadOf (r .kinds)) _ (rw length-map (omega arith)) (g₃ .len) in
+        stand-all (stand-callers g₆ (e₂ ∙ ap (over callersAt (concat (map (wordsOf rowWords) (r .callers)))) p₄))

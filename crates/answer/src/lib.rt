@@ -10,7 +10,7 @@ ghost use Prim.Native.Nat.{_+_, _*_, _/_, _≤_, _<_, min};
 ghost use lib.Dec.{eqb};
 ghost use lib.ListN.{length};
 ghost use Rattle.kinds.specs.Kinds.{kindFrom};
-ghost use Rattle.memory.specs.Memory.{over, part};
+ghost use Rattle.memory.specs.Memory.{over};
 ghost use Rattle.answer.specs.Layout.{answerLen, functionsMost, blocksMost, instructionsMost, usesMost, rowWords, liveAt, tagsAt, payloadsAt, startsAt, usersAt, callersAt};
 ghost use Rattle.answer.specs.Image.{functionsIn, blocksIn, instructionsIn, countIn, liveIn, tagIn, payloadIn, startIn, userIn, bitsIn, callsIn};
 
@@ -44,105 +44,57 @@ pub const ANSWER_LEN: usize = CALLERS + FUNCTIONS_MOST * ROW_WORDS;
 
 // Stores the four totals.
 pub fn write_totals(
-    answer: &mut [u64],
+    answer: &mut [usize],
     functions: usize,
     blocks: usize,
     instructions: usize,
-    count: u64,
+    count: usize,
 )
     requires { ⌜ length (now answer) ≡ answerLen ⌝ }
     ensures { λ _. ⌜ now (answer .exit) ≡ over 0 (functions ∷ blocks ∷ instructions ∷ count ∷ []) (now (answer .entry)) ⌝ }
 {
-    answer[0] = functions as u64;
-    answer[1] = blocks as u64;
-    answer[2] = instructions as u64;
+    answer[0] = functions;
+    answer[1] = blocks;
+    answer[2] = instructions;
     answer[3] = count;
 }
 
-// Publishes the live flags and the kinds: tables of work memory that start at these places.
-pub fn publish_kinds(
-    state: &[usize],
-    live: usize,
-    blocks: usize,
-    tags: usize,
-    payloads: usize,
-    instructions: usize,
-    answer: &mut [u64],
-)
-    requires { ⌜ length (now answer) ≡ answerLen ⌝ }
-    requires { ⌜ (blocks ≤ blocksMost) × (live + blocks ≤ length (now state)) ⌝ }
-    requires { ⌜ (instructions ≤ instructionsMost) × (tags + instructions ≤ length (now state)) × (payloads + instructions ≤ length (now state)) ⌝ }
-    ensures { λ _. ⌜ now (answer .exit) ≡ over payloadsAt (part payloads instructions (now (state .entry))) (over tagsAt (part tags instructions (now (state .entry))) (over liveAt (part live blocks (now (state .entry))) (now (answer .entry)))) ⌝ }
-{
-    memory::place(state, live, blocks, answer, LIVE);
-    memory::place(state, tags, instructions, answer, TAGS);
-    memory::place(state, payloads, instructions, answer, PAYLOADS);
-}
-
-// Publishes the uses: where each instruction's users start, and the users.
-pub fn publish_uses(
-    program: &[usize],
-    starts: usize,
-    instructions: usize,
-    users: usize,
-    uses: usize,
-    answer: &mut [u64],
-)
-    requires { ⌜ length (now answer) ≡ answerLen ⌝ }
-    requires { ⌜ (instructions ≤ instructionsMost) × (starts + (instructions + 1) ≤ length (now program)) ⌝ }
-    requires { ⌜ (uses ≤ usesMost) × (users + uses ≤ length (now program)) ⌝ }
-    ensures { λ _. ⌜ now (answer .exit) ≡ over usersAt (part users uses (now (program .entry))) (over startsAt (part starts (instructions + 1) (now (program .entry))) (now (answer .entry))) ⌝ }
-{
-    memory::place(program, starts, instructions + 1, answer, STARTS);
-    memory::place(program, users, uses, answer, USERS);
-}
-
-// Publishes the callers: rows of bits, as in the answer.
-pub fn publish_callers(state: &[usize], callers: usize, functions: usize, answer: &mut [u64])
-    requires { ⌜ length (now answer) ≡ answerLen ⌝ }
-    requires { ⌜ (functions ≤ functionsMost) × (callers + functions * rowWords ≤ length (now state)) ⌝ }
-    ensures { λ _. ⌜ now (answer .exit) ≡ over callersAt (part callers (functions * rowWords) (now (state .entry))) (now (answer .entry)) ⌝ }
-{
-    memory::place(state, callers, functions * ROW_WORDS, answer, CALLERS);
-}
-
 // A word, or the limit if it is larger.
-fn at_most(word: u64, limit: usize) -> usize
+fn at_most(word: usize, limit: usize) -> usize
     ensures { λ r. ⌜ r ≡ min word limit ⌝ }
 {
-    let n = word as usize;
-    if n < limit { n } else { limit }
+    if word < limit { word } else { limit }
 }
 
-pub fn functions(answer: &[u64]) -> usize
+pub fn functions(answer: &[usize]) -> usize
     requires { ⌜ length (now answer) ≡ answerLen ⌝ }
     ensures { λ r. ⌜ (r ≡ functionsIn (now (answer .entry))) × (r ≤ functionsMost) ⌝ }
 {
     at_most(answer[0], FUNCTIONS_MOST)
 }
 
-pub fn blocks(answer: &[u64]) -> usize
+pub fn blocks(answer: &[usize]) -> usize
     requires { ⌜ length (now answer) ≡ answerLen ⌝ }
     ensures { λ r. ⌜ (r ≡ blocksIn (now (answer .entry))) × (r ≤ blocksMost) ⌝ }
 {
     at_most(answer[1], BLOCKS_MOST)
 }
 
-pub fn instructions(answer: &[u64]) -> usize
+pub fn instructions(answer: &[usize]) -> usize
     requires { ⌜ length (now answer) ≡ answerLen ⌝ }
     ensures { λ r. ⌜ (r ≡ instructionsIn (now (answer .entry))) × (r ≤ instructionsMost) ⌝ }
 {
     at_most(answer[2], INSTRUCTIONS_MOST)
 }
 
-pub fn count(answer: &[u64]) -> u64
+pub fn count(answer: &[usize]) -> usize
     requires { ⌜ length (now answer) ≡ answerLen ⌝ }
     ensures { λ r. ⌜ r ≡ countIn (now (answer .entry)) ⌝ }
 {
     answer[3]
 }
 
-pub fn live(answer: &[u64], b: BlockId) -> bool
+pub fn live(answer: &[usize], b: BlockId) -> bool
     requires { ⌜ length (now answer) ≡ answerLen ⌝ }
     requires { ⌜ b .0 < blocksMost ⌝ }
     ensures { λ r. ⌜ r ≡ liveIn (now (answer .entry)) (b .0) ⌝ }
@@ -151,7 +103,7 @@ pub fn live(answer: &[u64], b: BlockId) -> bool
     answer[LIVE + n] != 0
 }
 
-pub fn tag(answer: &[u64], i: InsnId) -> u64
+pub fn tag(answer: &[usize], i: InsnId) -> usize
     requires { ⌜ length (now answer) ≡ answerLen ⌝ }
     requires { ⌜ i .0 < instructionsMost ⌝ }
     ensures { λ r. ⌜ r ≡ tagIn (now (answer .entry)) (i .0) ⌝ }
@@ -160,7 +112,7 @@ pub fn tag(answer: &[u64], i: InsnId) -> u64
     answer[TAGS + n]
 }
 
-pub fn payload(answer: &[u64], i: InsnId) -> u64
+pub fn payload(answer: &[usize], i: InsnId) -> usize
     requires { ⌜ length (now answer) ≡ answerLen ⌝ }
     requires { ⌜ i .0 < instructionsMost ⌝ }
     ensures { λ r. ⌜ r ≡ payloadIn (now (answer .entry)) (i .0) ⌝ }
@@ -169,16 +121,16 @@ pub fn payload(answer: &[u64], i: InsnId) -> u64
     answer[PAYLOADS + n]
 }
 
-pub fn kind(answer: &[u64], i: InsnId) -> Kind
+pub fn kind(answer: &[usize], i: InsnId) -> Kind
     requires { ⌜ length (now answer) ≡ answerLen ⌝ }
     requires { ⌜ i .0 < instructionsMost ⌝ }
     ensures { λ r. ⌜ r ≡ kindFrom (tagIn (now (answer .entry)) (i .0)) (payloadIn (now (answer .entry)) (i .0)) ⌝ }
 {
-    kinds::kind_from(tag(answer, i) as usize, payload(answer, i) as usize)
+    kinds::kind_from(tag(answer, i), payload(answer, i))
 }
 
 // Where the users of an instruction start and end.
-pub fn users_start(answer: &[u64], i: InsnId) -> usize
+pub fn users_start(answer: &[usize], i: InsnId) -> usize
     requires { ⌜ length (now answer) ≡ answerLen ⌝ }
     requires { ⌜ i .0 < instructionsMost ⌝ }
     ensures { λ r. ⌜ (r ≡ startIn (now (answer .entry)) (i .0)) × (r ≤ usesMost) ⌝ }
@@ -187,7 +139,7 @@ pub fn users_start(answer: &[u64], i: InsnId) -> usize
     at_most(answer[STARTS + n], USES_MOST)
 }
 
-pub fn users_end(answer: &[u64], i: InsnId) -> usize
+pub fn users_end(answer: &[usize], i: InsnId) -> usize
     requires { ⌜ length (now answer) ≡ answerLen ⌝ }
     requires { ⌜ i .0 < instructionsMost ⌝ }
     ensures { λ r. ⌜ (r ≡ startIn (now (answer .entry)) (i .0 + 1)) × (r ≤ usesMost) ⌝ }
@@ -197,7 +149,7 @@ pub fn users_end(answer: &[u64], i: InsnId) -> usize
 }
 
 // The user at a place of their table.
-pub fn user(answer: &[u64], j: usize) -> InsnId
+pub fn user(answer: &[usize], j: usize) -> InsnId
     requires { ⌜ length (now answer) ≡ answerLen ⌝ }
     requires { ⌜ j < usesMost ⌝ }
     ensures { λ r. ⌜ r .0 ≡ userIn (now (answer .entry)) j ⌝ }
@@ -207,7 +159,7 @@ pub fn user(answer: &[u64], j: usize) -> InsnId
 }
 
 // The callers of a function from an instruction on, as bits of one word.
-pub fn callers_from(answer: &[u64], f: FunId, i: InsnId) -> u64
+pub fn callers_from(answer: &[usize], f: FunId, i: InsnId) -> usize
     requires { ⌜ length (now answer) ≡ answerLen ⌝ }
     requires { ⌜ f .0 < functionsMost ⌝ }
     requires { ⌜ i .0 < instructionsMost ⌝ }
@@ -218,7 +170,7 @@ pub fn callers_from(answer: &[u64], f: FunId, i: InsnId) -> u64
     answer[CALLERS + (g * ROW_WORDS + n / 64)] >> (n % 64)
 }
 
-pub fn calls(answer: &[u64], f: FunId, i: InsnId) -> bool
+pub fn calls(answer: &[usize], f: FunId, i: InsnId) -> bool
     requires { ⌜ length (now answer) ≡ answerLen ⌝ }
     requires { ⌜ f .0 < functionsMost ⌝ }
     requires { ⌜ i .0 < instructionsMost ⌝ }

@@ -31,7 +31,7 @@ pub struct Reach {
 }
 
 // A hexadecimal digit.
-fn digit(n: u64) -> u8
+fn digit(n: usize) -> u8
     requires { ⌜ n < 16 ⌝ }
     ensures { λ r. ⌜ r ≡ digitOf n ⌝ }
 {
@@ -43,7 +43,7 @@ fn digit(n: u64) -> u8
 }
 
 // The lowest k digits of n, from a place on.
-fn put(n: u64, k: usize, out: &mut [u8], at: usize)
+fn put(n: usize, k: usize, out: &mut [u8], at: usize)
     requires { ⌜ at + k ≤ length (now out) ⌝ }
     ensures { λ _. ⌜ now (out .exit) ≡ over at (digits k n []) (now (out .entry)) ⌝ }
 {
@@ -57,7 +57,7 @@ fn put(n: u64, k: usize, out: &mut [u8], at: usize)
 }
 
 // A line: numbers of these widths in bytes, and the line's end.
-fn write_line(widths: &[usize], numbers: &[u64], out: &mut [u8]) -> usize
+fn write_line(widths: &[usize], numbers: &[usize], out: &mut [u8]) -> usize
     requires { ⌜ length (now widths) ≡ length (now numbers) ⌝ }
     requires { ⌜ roomFor (now widths) ≤ length (now out) ⌝ }
     ensures { λ r. ⌜ Wrote (lineOf (now (widths .entry)) (now (numbers .entry))) (now (out .entry)) r (now (out .exit)) ⌝ }
@@ -79,17 +79,17 @@ pub fn write_refusal(n: u8, out: &mut [u8]) -> usize
     requires { ⌜ lineMost ≤ length (now out) ⌝ }
     ensures { λ r. ⌜ Wrote (refusalFrame n) (now (out .entry)) r (now (out .exit)) ⌝ }
 {
-    write_line(&[1, 1], &[127, n as u64], out)
+    write_line(&[1, 1], &[127, n as usize], out)
 }
 
-fn step_totals(answer: &[u64], out: &mut [u8]) -> Reach
+fn step_totals(answer: &[usize], out: &mut [u8]) -> Reach
     requires { ⌜ length (now answer) ≡ answerLen ⌝ }
     requires { ⌜ lineMost ≤ length (now out) ⌝ }
     ensures { λ r. ⌜ Piece (now (answer .entry)) Cursor.Totals (now (out .entry)) (r .next) (r .len) (now (out .exit)) ⌝ }
 {
-    let f = answer::functions(answer) as u64;
-    let b = answer::blocks(answer) as u64;
-    let i = answer::instructions(answer) as u64;
+    let f = answer::functions(answer);
+    let b = answer::blocks(answer);
+    let i = answer::instructions(answer);
     let count = answer::count(answer);
     let len = write_line(&[1, 1, 1, 2, 8], &[1, f, b, i, count], out);
     Reach {
@@ -98,7 +98,7 @@ fn step_totals(answer: &[u64], out: &mut [u8]) -> Reach
     }
 }
 
-fn step_block(answer: &[u64], b: BlockId, out: &mut [u8]) -> Reach
+fn step_block(answer: &[usize], b: BlockId, out: &mut [u8]) -> Reach
     requires { ⌜ length (now answer) ≡ answerLen ⌝ }
     requires { ⌜ lineMost ≤ length (now out) ⌝ }
     ensures { λ r. ⌜ Piece (now (answer .entry)) (Cursor.Block b) (now (out .entry)) (r .next) (r .len) (now (out .exit)) ⌝ }
@@ -110,15 +110,15 @@ fn step_block(answer: &[u64], b: BlockId, out: &mut [u8]) -> Reach
             len: 0,
         };
     }
-    let live = answer::live(answer, b) as u64;
-    let len = write_line(&[1, 1, 1], &[2, n as u64, live], out);
+    let live = answer::live(answer, b) as usize;
+    let len = write_line(&[1, 1, 1], &[2, n, live], out);
     Reach {
         next: Cursor::Block(BlockId(b.0 + 1)),
         len,
     }
 }
 
-fn step_instruction(answer: &[u64], i: InsnId, out: &mut [u8]) -> Reach
+fn step_instruction(answer: &[usize], i: InsnId, out: &mut [u8]) -> Reach
     requires { ⌜ length (now answer) ≡ answerLen ⌝ }
     requires { ⌜ lineMost ≤ length (now out) ⌝ }
     ensures { λ r. ⌜ Piece (now (answer .entry)) (Cursor.Instruction i) (now (out .entry)) (r .next) (r .len) (now (out .exit)) ⌝ }
@@ -132,14 +132,14 @@ fn step_instruction(answer: &[u64], i: InsnId, out: &mut [u8]) -> Reach
     }
     let tag = answer::tag(answer, i);
     let payload = answer::payload(answer, i);
-    let len = write_line(&[1, 2, 1, 8], &[3, n as u64, tag, payload], out);
+    let len = write_line(&[1, 2, 1, 8], &[3, n, tag, payload], out);
     Reach {
         next: Cursor::Instruction(InsnId(i.0 + 1)),
         len,
     }
 }
 
-fn step_use(answer: &[u64], i: InsnId, j: usize, out: &mut [u8]) -> Reach
+fn step_use(answer: &[usize], i: InsnId, j: usize, out: &mut [u8]) -> Reach
     requires { ⌜ length (now answer) ≡ answerLen ⌝ }
     requires { ⌜ lineMost ≤ length (now out) ⌝ }
     ensures { λ r. ⌜ Piece (now (answer .entry)) (Cursor.Use i j) (now (out .entry)) (r .next) (r .len) (now (out .exit)) ⌝ }
@@ -159,14 +159,14 @@ fn step_use(answer: &[u64], i: InsnId, j: usize, out: &mut [u8]) -> Reach
         };
     }
     let user = answer::user(answer, j);
-    let len = write_line(&[1, 2, 2], &[4, n as u64, user.0 as u64], out);
+    let len = write_line(&[1, 2, 2], &[4, n, user.0 as usize], out);
     Reach {
         next: Cursor::Use(i, j + 1),
         len,
     }
 }
 
-fn step_caller(answer: &[u64], f: FunId, i: InsnId, out: &mut [u8]) -> Reach
+fn step_caller(answer: &[usize], f: FunId, i: InsnId, out: &mut [u8]) -> Reach
     requires { ⌜ length (now answer) ≡ answerLen ⌝ }
     requires { ⌜ lineMost ≤ length (now out) ⌝ }
     ensures { λ r. ⌜ Piece (now (answer .entry)) (Cursor.Caller f i) (now (out .entry)) (r .next) (r .len) (now (out .exit)) ⌝ }
@@ -199,7 +199,7 @@ fn step_caller(answer: &[u64], f: FunId, i: InsnId, out: &mut [u8]) -> Reach
             len: 0,
         };
     }
-    let len = write_line(&[1, 1, 2], &[5, g as u64, n as u64], out);
+    let len = write_line(&[1, 1, 2], &[5, g, n], out);
     Reach {
         next: Cursor::Caller(f, InsnId(i.0 + 1)),
         len,
@@ -207,7 +207,7 @@ fn step_caller(answer: &[u64], f: FunId, i: InsnId, out: &mut [u8]) -> Reach
 }
 
 // At most one line.
-fn step(answer: &[u64], at: Cursor, out: &mut [u8]) -> Reach
+fn step(answer: &[usize], at: Cursor, out: &mut [u8]) -> Reach
     requires { ⌜ length (now answer) ≡ answerLen ⌝ }
     requires { ⌜ lineMost ≤ length (now out) ⌝ }
     ensures { λ r. ⌜ Piece (now (answer .entry)) at (now (out .entry)) (r .next) (r .len) (now (out .exit)) ⌝ }
@@ -240,7 +240,7 @@ pub fn more(at: Cursor) -> bool
 }
 
 // Writes the frames from a cursor on, as far as the buffer has room for a line.
-pub fn write_from(answer: &[u64], from: Cursor, out: &mut [u8]) -> Reach
+pub fn write_from(answer: &[usize], from: Cursor, out: &mut [u8]) -> Reach
     requires { ⌜ length (now answer) ≡ answerLen ⌝ }
     requires { ⌜ lineMost ≤ length (now out) ⌝ }
     ensures { λ r. ⌜ Piece (now (answer .entry)) from (now (out .entry)) (r .next) (r .len) (now (out .exit)) ⌝ }

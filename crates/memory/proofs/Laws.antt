@@ -2,14 +2,12 @@
 use Prim.Native.Nat.{ℕ, zero, suc, _+_, _-_, _≤_, _<_}
 use mathlib.Core.Path.{_≡_, refl, sym, ap, _∙_}
 use mathlib.Core.List.{List, [], _∷_, _++_, append-assoc, append-nil}
-use native.Mathlib.Nat.{not-suc-le-zero, le-of-suc-le-suc}
-use native.Mathlib.Numerals.{add-one}
+use native.Mathlib.Decide.{ℕ-discrete, decLt}
 use native.Mathlib.Omega.{arith}
-use lib.ListN.{length, getD, set, take, drop, length-set, length-replicate, length-append, length-take, length-drop, replicate-append-replicate, drop-of-length-le, List·getD-append}
-use lib.Seq.{take-all, take-at, drop-at, drop-drop, drop-length, getD-drop, getD-take, getD-append-add}
+use lib.ListN.{length, getD, set, take, drop, length-set, length-replicate, length-append, length-take, length-drop, replicate-append-replicate, take-append-drop, List·getD-append}
+use lib.Seq.{getD-set-same, getD-set-other, take-all, take-at, drop-at, drop-drop, drop-length, getD-drop, getD-take, getD-append-add, length-take-le, ext-getD}
 use borrow.Author.Fill.{fill-none, fill-more}
-use borrow.Rule.Slice.PartMut.{putMid}
-use Rattle.memory.specs.Memory.{zeros, Blank, over, part, filled}
+use Rattle.memory.specs.Memory.{zeros, Blank, over, filled}
 
 -- ---- cleared places
 
@@ -51,14 +49,6 @@ filled-at n (x ∷ t) (suc i) = behind t (zeros (n - suc (length t))) i (zeros-a
     behind [] z i h = h i
     behind (x ∷ t) z zero h = refl
     behind (x ∷ t) z (suc i) h = behind t z i h
-
-pub part-length : (b k : ℕ) (d : List ℕ) → b + k ≤ length d → length (part b k d) ≡ k
-unfolding part
-part-length b k d h = simp (length-take, length-drop) (omega arith)
-
-pub part-at : (b k : ℕ) (d : List ℕ) (i : ℕ) → i < k → getD (part b k d) i 0 ≡ getD d (b + i) 0
-unfolding part
-part-at b k d i h = rw (getD-take, getD-drop)
 
 -- the number i of the table that stands behind the places t
 pub table-at : (t u z : List ℕ) (at i : ℕ) → length t ≡ at → i < length u → getD (t ++ (u ++ z)) (at + i) 0 ≡ getD u i 0
@@ -106,41 +96,132 @@ module _ {d₀ d : List ℕ} {i : ℕ} (g : Clearing d₀ d i) where
       let e : i ≡ length d₀ = omega arith in
       g .is ∙ rw (e, drop-length) (append-nil (zeros (length d₀)))
 
--- ---- copy and place
+-- ---- tables that lie apart
 
--- at its loop's head the first i places are copied
-pub record Copying (s d₀ d : List ℕ) (i : ℕ) : Type 0 where
-  pub in-range : i ≤ length s
-  pub len-src : length s ≡ length d₀
+-- the table, and the rest of memory
+pub over-length : (at : ℕ) (t d : List ℕ) → at + length t ≤ length d → length (over at t d) ≡ length d
+unfolding over
+over-length at t d h = simp (length-append, length-take, length-drop) (omega arith)
+
+pub over-in : (at : ℕ) (t d : List ℕ) (i : ℕ) → at ≤ length d → i < length t → getD (over at t d) (at + i) 0 ≡ getD t i 0
+unfolding over
+over-in at t d i h lt = table-at (take at d) t (drop (at + length t) d) at i (length-take-le at d h) lt
+
+pub over-out : (at : ℕ) (t d : List ℕ) (i : ℕ) → at ≤ length d → (at ≤ i → i < at + length t → ⊥) → getD (over at t d) i 0 ≡ getD d i 0
+unfolding over
+over-out at t d i h out = go (decLt i at)
+  where
+    p : length (take at d) ≡ at
+    p = length-take-le at d h
+
+    go : Dec (i < at) → getD (take at d ++ (t ++ drop (at + length t) d)) i 0 ≡ getD d i 0
+    go (yes lt) = List·getD-append (take at d) (t ++ drop (at + length t) d) 0 i (omega (arith, p)) ∙ getD-take at d i 0 lt
+    go (no ge) =
+        let k = i - (at + length t) in
+        let o : at + length t ≤ i = elim (decLt i (at + length t)) [ yes z ↦ absurd (out (omega arith) z) | no z ↦ omega arith ] in
+        let e : i ≡ length (take at d) + (length t + k) = omega (arith, p) in
+        let f : i ≡ at + length t + k = omega arith in
+        ap (λ (x : ℕ). getD (take at d ++ (t ++ drop (at + length t) d)) x 0) e
+        ∙ getD-append-add (take at d) (t ++ drop (at + length t) d) (length t + k) 0
+        ∙ getD-append-add t (drop (at + length t) d) k 0
+        ∙ getD-drop (at + length t) d k 0
+        ∙ ap (λ (x : ℕ). getD d x 0) (sym f)
+
+-- memory is known by the table in it and by the rest
+pub over-known : (at : ℕ) (t d d' : List ℕ) → at + length t ≤ length d → length d' ≡ length d → ((i : ℕ) → i < length t → getD d' (at + i) 0 ≡ getD t i 0)
+    → ((i : ℕ) → (at ≤ i → i < at + length t → ⊥) → getD d' i 0 ≡ getD d i 0) → d' ≡ over at t d
+over-known at t d d' room l in' out =
+    ext-getD 0 d' (over at t d) (l ∙ sym (over-length at t d room)) (λ i lt. go i (decLt i at) (decLt i (at + length t)))
+  where
+    at-in : at ≤ length d
+    at-in = omega arith
+
+    go : (i : ℕ) → Dec (i < at) → Dec (i < at + length t) → getD d' i 0 ≡ getD (over at t d) i 0
+    go i (yes lt) m = let o : at ≤ i → i < at + length t → ⊥ = λ a b. omega arith in out i o ∙ sym (over-out at t d i at-in o)
+    go i (no ge) (yes lt) =
+        let k = i - at in
+        let e : i ≡ at + k = omega arith in
+        ap (λ (x : ℕ). getD d' x 0) e ∙ in' k (omega arith) ∙ sym (over-in at t d k at-in (omega arith)) ∙ ap (λ (x : ℕ). getD (over at t d) x 0) (sym e)
+    go i (no ge) (no gt) = let o : at ≤ i → i < at + length t → ⊥ = λ a b. omega arith in out i o ∙ sym (over-out at t d i at-in o)
+
+-- two tables that lie apart can be written in either order
+pub over-apart : (i j : ℕ) (l t d : List ℕ) → i + length l ≤ j → j + length t ≤ length d → over i l (over j t d) ≡ over j t (over i l d)
+over-apart i j l t d h k =
+    let m : length (over i l d) ≡ length d = over-length i l d (omega arith) in
+    let n : length (over j t d) ≡ length d = over-length j t d k in
+    over-known j t (over i l d) (over i l (over j t d)) (omega arith) (over-length i l (over j t d) (omega arith) ∙ n ∙ sym m)
+    (λ q lt. over-out i l (over j t d) (j + q) (omega arith) (λ a b. omega arith) ∙ over-in j t d q (omega arith) lt)
+    (λ q out. go q out (decLt q i) (decLt q (i + length l)))
+  where
+    n : length (over j t d) ≡ length d
+    n = over-length j t d k
+
+    same : (q : ℕ) → (j ≤ q → q < j + length t → ⊥) → (i ≤ q → q < i + length l → ⊥) → getD (over i l (over j t d)) q 0 ≡ getD (over i l d) q 0
+    same q out o = over-out i l (over j t d) q (omega (arith, n)) o ∙ over-out j t d q (omega arith) out ∙ sym (over-out i l d q (omega arith) o)
+
+    go : (q : ℕ) → (j ≤ q → q < j + length t → ⊥) → Dec (q < i) → Dec (q < i + length l) → getD (over i l (over j t d)) q 0 ≡ getD (over i l d) q 0
+    go q out (yes a) b = same q out (λ x y. omega arith)
+    go q out (no a) (no b) = same q out (λ x y. omega arith)
+    go q out (no a) (yes b) =
+        let r = q - i in
+        let e : q ≡ i + r = omega arith in
+        ap (λ (x : ℕ). getD (over i l (over j t d)) x 0) e ∙ over-in i l (over j t d) r (omega (arith, n)) (omega arith)
+        ∙ sym (ap (λ (x : ℕ). getD (over i l d) x 0) e ∙ over-in i l d r (omega arith) (omega arith))
+
+-- ---- tables written place by place
+
+-- at a loop's head the first i numbers of the table t stand in the places from `at` on
+pub record Writing (t d₀ d : List ℕ) (at i : ℕ) : Type 0 where
+  pub in-range : i ≤ length t
+  pub room : at + length t ≤ length d₀
   pub len-same : length d ≡ length d₀
-  pub is : d ≡ take i s ++ drop i d₀
+  pub is : d ≡ over at (take i t) d₀
 
-copy-suc : (n : ℕ) (s d : List ℕ) → n < length s → n < length d → set (take n s ++ drop n d) n (getD s n 0) ≡ take (suc n) s ++ drop (suc n) d
-copy-suc n [] d h l = absurd (not-suc-le-zero h)
-copy-suc n (a ∷ s) [] h l = absurd (not-suc-le-zero l)
-copy-suc zero (a ∷ s) (x ∷ d) h l = refl
-copy-suc (suc n) (a ∷ s) (x ∷ d) h l = ap (λ (t : List ℕ). a ∷ t) (copy-suc n s d (le-of-suc-le-suc h) (le-of-suc-le-suc l))
+pub writing-start : (t d : List ℕ) (at : ℕ) → at + length t ≤ length d → Writing t d d at 0
+unfolding over
+writing-start t d at h = record { in-range = omega arith; room = h; len-same = refl; is = let e : at + 0 ≡ at = omega arith in rw e (sym (take-append-drop at d)) }
 
-pub copying-start : (s d : List ℕ) → length s ≡ length d → Copying s d d 0
-copying-start s d e = record { in-range = omega arith; len-src = e; len-same = refl; is = refl }
+module _ {t d₀ d : List ℕ} {at i : ℕ} (g : Writing t d₀ d at i) where
+  pub writing-more : {x : ℕ} → i < length t → x ≡ getD t i 0 → Writing t d₀ (set d (at + i) x) at (i + 1)
+  writing-more {x} lt e =
+      let q : length (take i t) ≡ i = length-take-le i t (omega arith) in
+      let r : length (take (i + 1) t) ≡ i + 1 = length-take-le (i + 1) t (omega arith) in
+      let l : length (set d (at + i) x) ≡ length d₀ = length-set d (at + i) x ∙ g .len-same in
+      record {
+        in-range = omega arith;
+        room = g .room;
+        len-same = l;
+        is =
+            over-known at (take (i + 1) t) d₀ (set d (at + i) x) (omega (arith, g .room)) l
+            (λ j h. elim (ℕ-discrete j i) [
+              | yes z ↦ rw z (getD-set-same d (at + i) x 0 (omega (arith, g .room, g .len-same)) ∙ e ∙ sym (getD-take (i + 1) t i 0 (omega arith)))
+              | no z ↦
+                  getD-set-other d (at + i) (at + j) x 0 (λ y. z (omega arith))
+                  ∙ ap (λ (y : List ℕ). getD y (at + j) 0) (g .is)
+                  ∙ over-in at (take i t) d₀ j (omega (arith, g .room)) (omega (arith, z))
+                  ∙ getD-take i t j 0 (omega (arith, z))
+                  ∙ sym (getD-take (i + 1) t j 0 (omega arith))
+            ])
+            (λ j out. let o : at ≤ j → j < at + length (take i t) → ⊥ = λ a b. out a (omega (arith, q, r)) in
+            getD-set-other d (at + i) j x 0 (λ y. out (omega arith) (omega (arith, r)))
+            ∙ ap (λ (y : List ℕ). getD y j 0) (g .is)
+            ∙ over-out at (take i t) d₀ j (omega (arith, g .room)) o);
+      }
 
-module _ {s d₀ d : List ℕ} {i : ℕ} (g : Copying s d₀ d i) where
-  pub copying-more : i < length s → Copying s d₀ (set d i (getD s i 0)) (i + 1)
-  copying-more lt = record {
-    in-range = omega arith;
-    len-src = g .len-src;
-    len-same = length-set d i (getD s i 0) ∙ g .len-same;
-    is = rw (g .is, add-one) (copy-suc i s d₀ lt (omega arith));
-  }
+  pub writing-done : length t ≤ i → d ≡ over at t d₀
+  writing-done le = g .is ∙ rw (take-all i t le)
 
-  pub copying-done : length s ≤ i → d ≡ s
-  copying-done le = g .is ∙ rw (take-all i s le, drop-of-length-le d₀ (let h : length d₀ ≤ i = omega arith in h)) (append-nil s)
+  pub writing-next : i < length t → Writing t d₀ (set d (at + i) (getD t i 0)) at (i + 1)
+  writing-next lt = writing-more lt refl
 
--- the part that came back
-pub placed : (at from n : ℕ) (s a u : List ℕ) → from + n ≤ length s → u ≡ take (from + n - from) (drop from s) → putMid at (at + n - at) a u ≡ over at (part from n s) a
-unfolding over part
-placed at from n s a u h e =
-    let k : at + n - at ≡ n = omega arith in
-    let l : from + n - from ≡ n = omega arith in
-    let m : length (take n (drop from s)) ≡ n = simp (length-take, length-drop) (omega arith) in
-    rw (k, e, l, m, drop-drop n at a)
+-- ---- the places before a table, and the table at the end
+
+pub over-take : (at : ℕ) (t d : List ℕ) → at ≤ length d → take at (over at t d) ≡ take at d
+unfolding over
+over-take at t d h = take-at (take at d) (t ++ drop (at + length t) d) at (length-take-le at d h)
+
+pub over-drop : (at : ℕ) (t d : List ℕ) → at + length t ≡ length d → drop at (over at t d) ≡ t
+unfolding over
+over-drop at t d h =
+    drop-at (take at d) (t ++ drop (at + length t) d) at (length-take-le at d (omega arith))
+    ∙ ap (λ (n : ℕ). t ++ drop n d) h ∙ ap (λ (l : List ℕ). t ++ l) (drop-length d) ∙ append-nil t

@@ -1,4 +1,4 @@
--- Lent memory as a list of numbers: cleared places, parts, and tables in it (01, "The call": what a call clears and what it leaves). Assumes nothing.
+-- Lent memory as a list of numbers: cleared places, and tables in it (01, "The call": what a call clears and what it leaves). Assumes nothing.
 use mathlib.Core.Path.{_≡_}
 use mathlib.Core.List.{List, _++_}
 use Prim.Native.Nat.{ℕ, _+_, _-_}
@@ -16,10 +16,6 @@ pub record Blank (d : List ℕ) (n : ℕ) : Type 0 where
 -- memory d with the table t in the places from `at` on
 unfoldable pub over : ℕ → List ℕ → List ℕ → List ℕ
 over at t d = take at d ++ (t ++ drop (at + length t) d)
-
--- n places of d from `from` on
-unfoldable pub part : ℕ → ℕ → List ℕ → List ℕ
-part from n d = take n (drop from d)
 
 -- a table in n places: those that it does not use are cleared
 unfoldable pub filled : ℕ → List ℕ → List ℕ

@@ -27,8 +27,8 @@ slice-aggregate-write-line-2 c = search needs
 write-line-requires : tie.Need-write-line-requires
 write-line-requires c κs = search needs
 
-add-t20 : tie.Need-add-t20
-add-t20 c = search needs
+add-t19 : tie.Need-add-t19
+add-t19 c = search needs
 
 same-length : tie.Need-same-length
 same-length c = search needs
@@ -48,6 +48,6 @@ step-block-spec =
     slice-aggregate-write-line
     slice-aggregate-write-line-2
     write-line-requires
-    add-t20
+    add-t19
     same-length
     returns-2)

@@ -36,8 +36,8 @@ mul-t19 c = search needs
 returns-3 : tie.Need-returns-3
 returns-3 c = search caller-skip
 
-add-t23 : tie.Need-add-t23
-add-t23 c = search needs
+add-t22 : tie.Need-add-t22
+add-t22 c = search needs
 
 returns-4 : tie.Need-returns-4
 returns-4 c = search caller-none
@@ -51,8 +51,8 @@ slice-aggregate-write-line-2 c = search needs
 write-line-requires : tie.Need-write-line-requires
 write-line-requires c κs = search needs
 
-add-t34 : tie.Need-add-t34
-add-t34 c = search needs
+add-t32 : tie.Need-add-t32
+add-t32 c = search needs
 
 same-length : tie.Need-same-length
 same-length c = search needs
@@ -75,11 +75,11 @@ step-caller-spec =
     add-t18
     mul-t19
     returns-3
-    add-t23
+    add-t22
     returns-4
     slice-aggregate-write-line
     slice-aggregate-write-line-2
     write-line-requires
-    add-t34
+    add-t32
     same-length
     returns-5)

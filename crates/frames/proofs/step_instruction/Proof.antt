@@ -30,8 +30,8 @@ slice-aggregate-write-line-2 c = search needs
 write-line-requires : tie.Need-write-line-requires
 write-line-requires c κs = search needs
 
-add-t23 : tie.Need-add-t23
-add-t23 c = search needs
+add-t22 : tie.Need-add-t22
+add-t22 c = search needs
 
 same-length : tie.Need-same-length
 same-length c = search needs
@@ -52,6 +52,6 @@ step-instruction-spec =
     slice-aggregate-write-line
     slice-aggregate-write-line-2
     write-line-requires
-    add-t23
+    add-t22
     same-length
     returns-2)

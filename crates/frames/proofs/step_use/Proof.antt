@@ -27,8 +27,8 @@ user-requires c κs = search needs
 slice-aggregate-write-line : tie.Need-slice-aggregate-write-line
 slice-aggregate-write-line c = search needs
 
-cast-t22 : tie.Need-cast-t22
-cast-t22 c = search needs
+cast-t10 : tie.Need-cast-t10
+cast-t10 c = search needs
 
 slice-aggregate-write-line-2 : tie.Need-slice-aggregate-write-line-2
 slice-aggregate-write-line-2 c = search needs
@@ -57,7 +57,7 @@ step-use-spec =
     returns-2
     user-requires
     slice-aggregate-write-line
-    cast-t22
+    cast-t10
     slice-aggregate-write-line-2
     write-line-requires
     add-t10

@@ -1,61 +1,63 @@
-use Rattle.memory.proofs.Laws.{placed}
+use Prim.Native.Nat.{_-_}
+use lib.ListN.{length}
+use Rattle.memory.proofs.Laws.{Writing, writing-start, writing-next, writing-done}
 use borrow.Author.Needs.{needs}
 use Rattle.memory.proofs.place.Statement.{statement}
 use Rattle.memory.proofs.place.Tie as tie
 
-add-end : tie.Need-add-end
-add-end c = search needs
+abbrev Inv-loop : tie.InvT-loop
+Inv-loop table words₀ at i₀ words i = Writing table words₀ words at i
 
-add-stop : tie.Need-add-stop
-add-stop c = search needs
+abbrev μ-loop : tie.MeasureT-loop
+μ-loop table words₀ at i₀ words i = length table - i
 
-mul-copy : tie.Need-mul-copy
-mul-copy c = search needs
+loop-holds : tie.Need-loop-holds Inv-loop μ-loop
+loop-holds c = search writing-start
 
-sub-copy : tie.Need-sub-copy
-sub-copy c = search needs
+mul-words : tie.Need-mul-words Inv-loop μ-loop
+mul-words c = search needs
 
-part-copy-start : tie.Need-part-copy-start
-part-copy-start c = search needs
+shared-slice-read-words : tie.Need-shared-slice-read-words Inv-loop μ-loop
+shared-slice-read-words c = search needs
 
-part-copy-end : tie.Need-part-copy-end
-part-copy-end c = search needs
+add-words : tie.Need-add-words Inv-loop μ-loop
+add-words c = search needs
 
-mul-copy-2 : tie.Need-mul-copy-2
-mul-copy-2 c = search needs
+mul-words-2 : tie.Need-mul-words-2 Inv-loop μ-loop
+mul-words-2 c = search needs
 
-sub-copy-2 : tie.Need-sub-copy-2
-sub-copy-2 c = search needs
+slice-write-words : tie.Need-slice-write-words Inv-loop μ-loop
+slice-write-words c = search needs
 
-part-copy-start-2 : tie.Need-part-copy-start-2
-part-copy-start-2 c = search needs
+add-i : tie.Need-add-i Inv-loop μ-loop
+add-i c = search needs
 
-part-copy-end-2 : tie.Need-part-copy-end-2
-part-copy-end-2 c = search needs
+loop-less : tie.Need-loop-less Inv-loop μ-loop
+loop-less c = search needs
 
-copy-requires : tie.Need-copy-requires
-copy-requires c κs = search needs
+loop-again : tie.Need-loop-again Inv-loop μ-loop
+loop-again c = search writing-next
 
-same-length : tie.Need-same-length
+same-length : tie.Need-same-length Inv-loop μ-loop
 same-length c = search needs
 
-returns : tie.Need-returns
-returns c = search placed
+returns : tie.Need-returns Inv-loop μ-loop
+returns c = search writing-done
 
 pub place-spec : {M : Type 1} → statement M
 place-spec =
     tie.close
     (tie.spec
-    add-end
-    add-stop
-    mul-copy
-    sub-copy
-    part-copy-start
-    part-copy-end
-    mul-copy-2
-    sub-copy-2
-    part-copy-start-2
-    part-copy-end-2
-    copy-requires
+    Inv-loop
+    μ-loop
+    loop-holds
+    mul-words
+    shared-slice-read-words
+    add-words
+    mul-words-2
+    slice-write-words
+    add-i
+    loop-less
+    loop-again
     same-length
     returns)

@@ -1,0 +1,3 @@
+pub mod Fitting
+pub mod Storing
+pub mod States

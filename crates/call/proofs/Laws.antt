@@ -1,0 +1,231 @@
+-- The ways through the call. Assumes nothing.
+use mathlib.Core.Path.{_≡_, refl, sym, ap, _∙_, subst}
+use mathlib.Core.Option.{some}
+use mathlib.Core.List.{List, _++_}
+use Prim.Native.Nat.{ℕ, _+_, _≤_, _<_}
+use native.Mathlib.Omega.{arith}
+use lib.ListN.{length, getD, take, drop}
+use lib.Seq.{take-at, length-take-le}
+use lib.Dec.{leb}
+use borrow.Author.Tests.{le-leb, lt-leb}
+use native.Mathlib.Decide.{decLt}
+use Rattle.rules.specs.Actions.{Answer, answered, refused, ifAnswered}
+use Rattle.rules.specs.Program.{limits, Program}
+use Rattle.rules.specs.Reading.{parseProgram}
+use Rattle.rules.specs.Machine.{State, stateOf, start, run}
+use Rattle.rules.specs.Bound.{bound}
+use Rattle.rules.specs.Finished.{Finished}
+use Rattle.rules.specs.Frames.{Analysis, analyze}
+use Rattle.rules.proofs.Wellformed.Whole.{finished}
+use Rattle.rules.proofs.Exactness.Answers as Answers
+use Rattle.rules.proofs.Demand.{limits-usable, usable-sane}
+use Rattle.memory.specs.Memory.{zeros, Blank}
+use Rattle.memory.proofs.Laws.{zeros-at, blank}
+use Rattle.program.specs.View.{view as Program·view, Ready, Small, limitsOf}
+use Rattle.program.specs.declared.Counts.{Counts}
+use Rattle.program.specs.declared.Limits.{Limits}
+use Rattle.state.specs.declared.Regs.{Regs}
+use Rattle.state.specs.declared.Went.{Went}
+use Rattle.state.specs.declared.Went.the-variants.{On, No}
+use Rattle.state.specs.declared.Sizes.{Sizes}
+use Rattle.state.specs.View.{Attrs, view, Held}
+use Rattle.state.specs.Changes.{went}
+use Rattle.answer.specs.Layout.{answerLen, blocksMost, callersAt}
+use Rattle.answer.specs.Record.{Legal, recordOf}
+use Rattle.answer.specs.Image.{imageOf}
+use Rattle.answer.proofs.Answered.{run-published}
+use Rattle.analysed.specs.Analysed.{Suited, sizesOf}
+use Rattle.analysed.proofs.States.{attrs, attrs-fit}
+use Rattle.publish.specs.Final.{withState}
+use Rattle.publish.proofs.Tables.{live-length}
+use Rattle.publish.proofs.Uses.{Outside}
+use Rattle.publish.proofs.Whole.{image-written}
+use Rattle.steps.specs.Runs.{Rested}
+use Rattle.sctp.specs.Sctp.{tablesOf, Given, Analyses}
+use Rattle.reader.specs.Outcomes.{ReadsScript}
+use Rattle.reader.specs.declared.Outcome.{Outcome as Readout}
+use Rattle.reader.specs.declared.Outcome.the-variants as R
+use Rattle.call.specs.declared.Outcome.{Outcome}
+use Rattle.call.specs.declared.Outcome.the-variants.{Answered, Refused}
+use Rattle.call.specs.Call.{programLen, stateLen, numberOf, Lent, lent, left, answerOf, ended, after}
+use Rattle.call.specs.Parts.{frontOf, imaged, analyzed, found, Reads, Parsed, Sized, Fresh, Analyzed, keptOf, Cleared, Ran}
+
+-- ---- publish_state
+
+module _ (c : Counts) (m a : List ℕ) {z : Sizes} (e : z ≡ sizesOf c) where
+  pub sizes-held : Held (sizesOf c) m → Held z m
+  sizes-held h = rw e h
+
+  pub sizes-blocks : c .blocks ≤ blocksMost → z .blocks ≤ blocksMost
+  sizes-blocks h = rw e h
+
+  pub sizes-written : (count : ℕ) {a' : List ℕ} → a' ≡ withState z m count a → a' ≡ withState (sizesOf c) m count a
+  sizes-written count h = h ∙ ap (λ (x : Sizes). withState x m count a) e
+
+-- ---- analyze_program
+
+pub given : (s p : List ℕ) (c : Counts) (u m : List ℕ) → Parsed s (frontOf p) c → Fresh u p m → Given s p c u m
+unfolding frontOf
+given s p c u m h z = record { limits = limits; suited = h .suited; ready = h .ready; program = z .program; answer = z .answer .len; state = z .state }
+
+front-tables : (p : List ℕ) → tablesOf p ≡ frontOf p
+unfolding frontOf
+front-tables p = refl
+
+module _ (s p : List ℕ) (c : Counts) (u u₁ m : List ℕ) {r : Went} (h : Parsed s (frontOf p) c) (analyses : Analyses s (tablesOf p) c u u₁ m r) where
+  abbrev t : List ℕ
+  t = frontOf p
+
+  g : Analyses s t c u u₁ m r
+  g = subst (λ (x : List ℕ). Analyses s x c u u₁ m r) (front-tables p) analyses
+
+  abbrev P : Program
+  P = Program·view s t c
+
+  abbrev v : Attrs
+  v = attrs s t c limits (h .suited)
+
+  -- the rules' outcome
+  ends : stateOf limits P (went (sizesOf c) v m r) ≡ ifAnswered (start limits P) (run limits P (bound P))
+  ends = g .outcome .is limits (h .suited) v (attrs-fit s t c limits (h .suited))
+
+  image : Answer State → Answer (List ℕ)
+  image y = ifAnswered y (λ e. answered (imageOf (recordOf P e)))
+
+  pub program-refused : {n : ℕ} (a : List ℕ) → r ≡ No n → found (Refused n) a ≡ analyzed P
+  unfolding analyzed image
+  program-refused {n} a e = ap image (rw e at ends)
+
+  module _ {q : Regs} (e : r ≡ On q) where
+    rested : Rested s t c (sizesOf c) m q
+    rested = (rw e at g) .outcome .ok
+
+    ends-in : answered (view (sizesOf c) v m q) ≡ ifAnswered (start limits P) (run limits P (bound P))
+    ends-in = rw e at ends
+
+    legal : Legal (recordOf P (view (sizesOf c) v m q))
+    legal = let y = Answers.after (start limits P) _ (sym ends-in) in run-published P (h .suited .finished) (y .0) _ (y .1) (y .2) .legal
+
+    pub held-after : Held (sizesOf c) m
+    held-after = rested .ready .held
+
+    pub blocks-few : c .blocks ≤ blocksMost
+    blocks-few = omega (arith, live-length (sizesOf c) m, legal .blocks)
+
+    -- the answer memory was cleared before
+    others : (k : ℕ) → Blank u answerLen → Outside c u₁ k → Dec (k < callersAt) → getD u₁ k 0 ≡ getD u k 0
+    others k b o (yes lt) = g .left .others k lt (o .0) (o .1)
+    others k b o (no ge) = g .left .clear k (omega arith) ∙ sym (ap (λ (d : List ℕ). getD d k 0) (b .is) ∙ zeros-at answerLen k)
+
+    pub program-answered : {a p' w : List ℕ} → Fresh u p' w → length u₁ ≡ length u → a ≡ withState (sizesOf c) m (q .count) u₁ → found Answered a ≡ analyzed P
+    unfolding analyzed image
+    program-answered {a} f l ea =
+        ap answered (image-written s t c (sizesOf c) v m q (h .ready) refl legal (f .answer) l (g .left .users) (λ k o. others k (f .answer) o (decLt k callersAt)) ea)
+        ∙ ap image ends-in
+
+-- ---- analyze_script
+
+pub script-small : {l : Limits} → (limitsOf l ≡ limits) × Small l → l .script ≤ 16384
+script-small e = let h = ap (λ (x : Rattle.rules.specs.Program.Limits). x .script) (e .0) in omega arith
+
+tables-back : (t d : List ℕ) → length t ≡ 47872 → frontOf (t ++ d) ≡ t
+unfolding frontOf
+tables-back t d e = take-at t d 47872 e
+
+-- the analysis goes on from what was read
+imaged-on : (s : List ℕ) (p : Program) → parseProgram limits s ≡ answered p → imaged (analyze limits s) ≡ analyzed p
+unfolding analyze analyzed
+imaged-on s p e = rw e (go (start limits p))
+  where
+    last : (x : Answer State) → ifAnswered (ifAnswered x (λ e. answered (record { program = p; state = e }))) (λ (a : Analysis). answered (answerOf a)) ≡ ifAnswered x (λ e. answered (imageOf (recordOf p e)))
+    last (answered e) = refl
+    last (refused n) = refl
+
+    go : (x : Answer State) → ifAnswered (ifAnswered x (λ s. ifAnswered (run limits p (bound p) s) (λ e. answered (record { program = p; state = e })))) (λ (a : Analysis). answered (answerOf a))
+        ≡ ifAnswered (ifAnswered x (run limits p (bound p))) (λ e. answered (imageOf (recordOf p e)))
+    go (answered s) = last (run limits p (bound p) s)
+    go (refused n) = refl
+
+imaged-no : (s : List ℕ) (n : ℕ) → parseProgram limits s ≡ refused n → imaged (analyze limits s) ≡ refused n
+unfolding analyze
+imaged-no s n e = rw e
+
+pub reads-limited : {s t : List ℕ} {l : Limits} {r : Readout} → (limitsOf l ≡ limits) × Small l → ReadsScript l s t r → Reads s t r
+reads-limited {s} e g = record { is = g .is ∙ ap (λ L. parseProgram L s) (e .0); ok = g .ok }
+
+-- the tables that were lent and came back
+pub reads-tables : (s t p : List ℕ) {r : Readout} → Reads s t r → length t ≡ length (take 47872 p) → 47872 ≤ length p → Reads s (frontOf (t ++ drop 47872 p)) r
+reads-tables s t p {r} g e h = subst (λ x. Reads s x r) (sym (tables-back t (drop 47872 p) (e ∙ length-take-le 47872 p h))) g
+
+module _ (s t : List ℕ) {r : Readout} (g : Reads s t r) where
+  pub reading-refused : {n : ℕ} (a : List ℕ) → r ≡ R.Refused n → found (Refused n) a ≡ imaged (analyze limits s)
+  reading-refused {n} a e = sym (imaged-no s n (sym ((rw e at g) .is)))
+
+  module _ {c : Counts} (e : r ≡ R.Finished c) where
+    pub parsed : Parsed s t c
+    parsed =
+        record {
+          suited = record {
+            room = record { functions = omega arith; classes = omega arith; blocks = omega arith; instructions = omega arith; ivars = omega arith; worklist = refl };
+            finished = finished limits (usable-sane limits limits-usable) s (Program·view s t c) (sym ((rw e at g) .is));
+          };
+          ready = (rw e at g) .ok;
+        }
+
+    pub reading-finished : (o : Outcome) (a : List ℕ) → found o a ≡ analyzed (Program·view s t c) → found o a ≡ imaged (analyze limits s)
+    reading-finished o a f = f ∙ sym (imaged-on s (Program·view s t c) (sym ((rw e at g) .is)))
+
+pub answer-kept : (u u₁ : List ℕ) {p w : List ℕ} → Fresh u p w → length u₁ ≡ length u → length u₁ ≡ answerLen
+answer-kept u u₁ f l = l ∙ f .answer .len
+
+-- lengths are kept
+pub fresh-kept : {a p p' w w' : List ℕ} → Fresh a p w → length p' ≡ length p → length w' ≡ length w → Fresh a p' w'
+fresh-kept f k l = record { answer = f .answer; program = k ∙ f .program; state = l ∙ f .state }
+
+pub sized-kept : {a a' p p' w w' : List ℕ} → Fresh a p w → length a' ≡ length a → length p' ≡ length p → length w' ≡ length w → Sized a' p' w'
+sized-kept f j k l = record { answer = j ∙ f .answer .len; program = k ∙ f .program; state = l ∙ f .state }
+
+-- ---- analyze_parts
+
+pub cleared-is : (n : ℕ) (a p w : List ℕ) {r : Outcome} {a' p' w' : List ℕ} → r ≡ Refused n → a' ≡ zeros (length a) → p' ≡ zeros (length p) → w' ≡ zeros (length w) → Cleared r a p w a' p' w'
+cleared-is n a p w e ea ep ew = record { answer = rw e ea; program = ep; state = ew }
+
+pub fresh : {a a' p w : List ℕ} → Sized a p w → a' ≡ zeros (length a) → Fresh a' p w
+fresh {a} {a'} z e = record { answer = blank a' (length a) answerLen e (z .answer); program = z .program; state = z .state }
+
+-- what stands in the parts is what the call leaves
+left-of : (x : Answer Analysis) (r : Outcome) (a p w : List ℕ) (l : Lent) → found r a ≡ imaged x → length a ≡ answerLen
+    → ended x l ≡ left (numberOf r) (lent (keptOf r a ++ drop answerLen (l .answer)) (zeros programLen ++ drop programLen (l .program)) (zeros stateLen ++ drop stateLen (l .state)))
+left-of (answered y) Answered a p w l e h = rw (Answers.answer e)
+left-of (answered y) (Refused n) a p w l e h = let z : _≡_ {A = ℕ} 0 1 = cc in absurd (omega arith)
+left-of (refused m) Answered a p w l e h = let z : _≡_ {A = ℕ} 0 1 = cc in absurd (omega arith)
+left-of (refused m) (Refused n) a p w l e h = let z : n ≡ m = cc in rw (z, h)
+
+pub ran-is : (s a₁ p₁ w₁ : List ℕ) {a p w : List ℕ} {r : Outcome} → Analyzed s r a₁ p₁ w₁ → Cleared r a₁ p₁ w₁ a p w → Ran s r a p w
+ran-is s a₁ p₁ w₁ {a} {p} {w} {r} d t =
+    record { is = λ l. left-of (analyze limits s) r a₁ p₁ w₁ l (d .is) (d .sized .answer) ∙ rw (t .answer, t .program, t .state, d .sized .program, d .sized .state) }
+
+-- ---- the call
+
+module _ (s a p w : List ℕ) where
+  pub too-long : 16384 < length s → after s (lent a p w) ≡ left (some 1) (lent a p w)
+  unfolding after
+  too-long h = rw (lt-leb (length s) 16384 h)
+
+  pub short-answer : length s ≤ 16384 → length a < answerLen → after s (lent a p w) ≡ left (some 2) (lent a p w)
+  unfolding after
+  short-answer h i = rw (le-leb (length s) 16384 h, lt-leb answerLen (length a) i)
+
+  pub short-program : length s ≤ 16384 → answerLen ≤ length a → length p < programLen → after s (lent a p w) ≡ left (some 2) (lent a p w)
+  unfolding after
+  short-program h i j = rw (le-leb (length s) 16384 h, le-leb answerLen (length a) i, lt-leb programLen (length p) j)
+
+  pub short-state : length s ≤ 16384 → answerLen ≤ length a → programLen ≤ length p → length w < stateLen → after s (lent a p w) ≡ left (some 2) (lent a p w)
+  unfolding after
+  short-state h i j k = rw (le-leb (length s) 16384 h, le-leb answerLen (length a) i, le-leb programLen (length p) j, lt-leb stateLen (length w) k)
+
+  pub ran-through : {r : Outcome} {a' p' w' : List ℕ} → length s ≤ 16384 → answerLen ≤ length a → programLen ≤ length p → stateLen ≤ length w → Ran s r a' p' w'
+      → after s (lent a p w) ≡ left (numberOf r) (lent (a' ++ drop answerLen a) (p' ++ drop programLen p) (w' ++ drop stateLen w))
+  unfolding after
+  ran-through h i j k x =
+      rw (le-leb (length s) 16384 h, le-leb answerLen (length a) i, le-leb programLen (length p) j, le-leb stateLen (length w) k) (x .is (lent a p w))

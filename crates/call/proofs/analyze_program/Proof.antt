@@ -1,0 +1,57 @@
+use Rattle.call.proofs.Laws.{given, program-refused, program-answered, held-after, answer-kept, blocks-few}
+use borrow.Author.Needs.{needs}
+use Rattle.call.proofs.analyze_program.Statement.{statement}
+use Rattle.call.proofs.analyze_program.Tie as tie
+
+sctp-requires : tie.Need-sctp-requires
+sctp-requires c κs = search given
+
+enum-known-q : tie.Need-enum-known-q
+enum-known-q c = search needs
+
+publish-state-requires : tie.Need-publish-state-requires
+publish-state-requires c κs = (search held-after, (search answer-kept, search blocks-few))
+
+enum-known-n : tie.Need-enum-known-n
+enum-known-n c = search needs
+
+same-length : tie.Need-same-length
+same-length c = search needs
+
+same-length-2 : tie.Need-same-length-2
+same-length-2 c = search needs
+
+same-length-3 : tie.Need-same-length-3
+same-length-3 c = search needs
+
+returns : tie.Need-returns
+returns c = search program-answered
+
+same-length-4 : tie.Need-same-length-4
+same-length-4 c = search needs
+
+same-length-5 : tie.Need-same-length-5
+same-length-5 c = search needs
+
+same-length-6 : tie.Need-same-length-6
+same-length-6 c = search needs
+
+returns-2 : tie.Need-returns-2
+returns-2 c = search program-refused
+
+pub analyze-program-spec : {M : Type 1} → statement M
+analyze-program-spec =
+    tie.close
+    (tie.spec
+    sctp-requires
+    enum-known-q
+    publish-state-requires
+    enum-known-n
+    same-length
+    same-length-2
+    same-length-3
+    returns
+    same-length-4
+    same-length-5
+    same-length-6
+    returns-2)

@@ -1,0 +1,155 @@
+// The call: a script, and three lent parts of memory.
+use program::Counts;
+use program::Limits;
+use state::Went;
+ghost use mathlib.Core.Path.{_≡_};
+ghost use Prim.Native.Nat.{_≤_};
+ghost use lib.ListN.{length};
+ghost use Rattle.program.specs.Rows.{size as tablesSize};
+ghost use Rattle.program.specs.View.{view};
+ghost use Rattle.parser.specs.Cursor.{size as scratchSize};
+ghost use Rattle.state.specs.View.{Held};
+ghost use Rattle.answer.specs.Layout.{answerLen, blocksMost};
+ghost use Rattle.analysed.specs.Analysed.{sizesOf};
+ghost use Rattle.publish.specs.Final.{withState};
+ghost use Rattle.call.specs.Call.{numberOf, lent, left, after};
+ghost use Rattle.call.specs.Parts.{frontOf, found, analyzed, Reads, Parsed, Sized, Fresh, Analyzed, Cleared, Ran};
+
+// "Answered", or the number of the question that was answered "no".
+pub enum Outcome {
+    Answered,
+    Refused(u8),
+}
+
+// The published lengths of the parts, in words of 8 bytes.
+pub const ANSWER_LEN: usize = answer::ANSWER_LEN;
+
+pub const PROGRAM_LEN: usize = 57088;
+
+pub const STATE_LEN: usize = 52224;
+
+// The longest script.
+pub const SCRIPT_MOST: usize = 16384;
+
+// The program's tables; its index stands behind them.
+const TABLES: usize = 47872;
+
+// The script is read under the built-in limits.
+fn read_limited(script: &[u8], tables: &mut [usize], scratch: &mut [usize]) -> reader::Outcome
+    requires { ⌜ tablesSize ≤ length (now tables) ⌝ }
+    requires { ⌜ scratchSize ≤ length (now scratch) ⌝ }
+    ensures { λ r. ⌜ Reads (now (script .entry)) (now (tables .exit)) r ⌝ }
+{
+    let limits = Limits::built_in();
+    reader::read(script, tables, scratch, limits)
+}
+
+fn read_tables(script: &[u8], program: &mut [usize], scratch: &mut [usize]) -> reader::Outcome
+    requires { ⌜ tablesSize ≤ length (now program) ⌝ }
+    requires { ⌜ scratchSize ≤ length (now scratch) ⌝ }
+    ensures { λ r. ⌜ Reads (now (script .entry)) (frontOf (now (program .exit))) r ⌝ }
+{
+    read_limited(script, &mut program[..TABLES], scratch)
+}
+
+fn publish_state(state: &[usize], c: Counts, count: u64, answer: &mut [usize])
+    requires { ⌜ Held (sizesOf c) (now state) ⌝ }
+    requires { ⌜ length (now answer) ≡ answerLen ⌝ }
+    requires { ⌜ c .blocks ≤ blocksMost ⌝ }
+    ensures { λ _. ⌜ now (answer .exit) ≡ withState (sizesOf c) (now (state .entry)) count (now (answer .entry)) ⌝ }
+{
+    let z = analysed::sizes(c);
+    publish::write_state(state, z, count, answer);
+}
+
+// The analysis of a program that was read.
+fn analyze_program(
+    script: &[u8],
+    answer: &mut [usize],
+    program: &mut [usize],
+    state: &mut [usize],
+    c: Counts,
+) -> Outcome
+    requires { ⌜ Parsed (now script) (frontOf (now program)) c ⌝ }
+    requires { ⌜ Fresh (now answer) (now program) (now state) ⌝ }
+    ensures { λ r. ⌜ found r (now (answer .exit)) ≡ analyzed (view (now (script .entry)) (frontOf (now (program .entry))) c) ⌝ }
+{
+    match sctp::sctp(script, program, c, answer, state) {
+        Went::On(q) => {
+            publish_state(state, c, q.count, answer);
+            Outcome::Answered
+        }
+        Went::No(n) => Outcome::Refused(n),
+    }
+}
+
+// The script is read, and its program analyzed.
+fn analyze_script(
+    script: &[u8],
+    answer: &mut [usize],
+    program: &mut [usize],
+    state: &mut [usize],
+) -> Outcome
+    requires { ⌜ Fresh (now answer) (now program) (now state) ⌝ }
+    ensures { λ r. ⌜ Analyzed (now (script .entry)) r (now (answer .exit)) (now (program .exit)) (now (state .exit)) ⌝ }
+{
+    match read_tables(script, program, state) {
+        reader::Outcome::Finished(c) => analyze_program(script, answer, program, state, c),
+        reader::Outcome::Refused(n) => Outcome::Refused(n),
+    }
+}
+
+fn clear_parts(answer: &mut [usize], program: &mut [usize], state: &mut [usize], r: Outcome)
+    ensures { λ _. ⌜ Cleared r (now (answer .entry)) (now (program .entry)) (now (state .entry)) (now (answer .exit)) (now (program .exit)) (now (state .exit)) ⌝ }
+{
+    memory::clear(program);
+    memory::clear(state);
+    if let Outcome::Refused(_) = r {
+        memory::clear(answer);
+    }
+}
+
+// Parts of the published lengths.
+fn analyze_parts(
+    script: &[u8],
+    answer: &mut [usize],
+    program: &mut [usize],
+    state: &mut [usize],
+) -> Outcome
+    requires { ⌜ Sized (now answer) (now program) (now state) ⌝ }
+    ensures { λ r. ⌜ Ran (now (script .entry)) r (now (answer .exit)) (now (program .exit)) (now (state .exit)) ⌝ }
+{
+    memory::clear(answer);
+    let r = analyze_script(script, answer, program, state);
+    clear_parts(answer, program, state, r);
+    r
+}
+
+// Which blocks of a script can run. No demand is made of the script or of the memory: what it gives and leaves is `after`.
+pub fn analyze(
+    script: &[u8],
+    answer: &mut [usize],
+    program: &mut [usize],
+    state: &mut [usize],
+) -> Outcome
+    ensures { λ r. ⌜ after (now (script .entry)) (lent (now (answer .entry)) (now (program .entry)) (now (state .entry))) ≡ left (numberOf r) (lent (now (answer .exit)) (now (program .exit)) (now (state .exit))) ⌝ }
+{
+    if SCRIPT_MOST < script.len() {
+        return Outcome::Refused(1);
+    }
+    if answer.len() < ANSWER_LEN {
+        return Outcome::Refused(2);
+    }
+    if program.len() < PROGRAM_LEN {
+        return Outcome::Refused(2);
+    }
+    if state.len() < STATE_LEN {
+        return Outcome::Refused(2);
+    }
+    analyze_parts(
+        script,
+        &mut answer[..ANSWER_LEN],
+        &mut program[..PROGRAM_LEN],
+        &mut state[..STATE_LEN],
+    )
+}

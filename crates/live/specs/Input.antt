@@ -1,0 +1,12 @@
+-- What was read of the input. Assumes nothing.
+use mathlib.Core.Path.{_≡_}
+use mathlib.Core.List.{List}
+use Prim.Native.Nat.{ℕ, _≤_}
+use lib.ListN.{length, take}
+use Rattle.live.specs.declared.Input.{Input}
+use Rattle.live.specs.declared.Input.the-variants.{Read, Failed}
+
+-- as many bytes as the buffer has room for, at most
+abbrev pub Fits : List ℕ → Input → Type 0
+Fits d (Read n) = (n ≤ length d) × (n ≡ length (take n d))
+Fits d Failed = Unit {0}

@@ -1,0 +1,141 @@
+-- The analysis from its parts, and demand 3 of what it answers. Assumes nothing.
+use mathlib.Core.Path.{_≡_, refl, sym, ap, ap₂, _∙_, subst}
+use mathlib.Core.List.{List}
+use Prim.Native.Nat.{ℕ, _+_, _-_, _≤_, _<_}
+use native.Mathlib.Omega.{arith}
+use lib.ListN.{length, getD}
+use Rattle.rules.specs.Actions.{Answer, answered, refused, ifAnswered}
+use Rattle.rules.specs.Program.{Limits}
+use Rattle.rules.specs.Bound.{bound}
+use Rattle.rules.specs.Machine.{State, stateOf, start, run}
+use Rattle.rules.specs.Steps.{Exact}
+use Rattle.rules.proofs.Exactness.Loop.{at-start}
+use Rattle.rules.proofs.Exactness.Theorem.{exact}
+use Rattle.program.specs.View as P
+use Rattle.program.specs.declared.Counts.{Counts}
+use Rattle.program.proofs.Tables.{tab-ext}
+use Rattle.uses.specs.Users.{words, Uses}
+use Rattle.state.specs.declared.Sizes.{Sizes}
+use Rattle.state.specs.declared.Regs.{Regs}
+use Rattle.state.specs.declared.Went.{Went}
+use Rattle.state.specs.declared.Went.the-variants.{On, No}
+use Rattle.state.specs.View.{Attrs, view, Ready}
+use Rattle.state.specs.Changes.{went}
+use Rattle.answer.specs.Layout.{startsAt, usersAt, usesMost, callersAt, answerLen}
+use Rattle.analysed.specs.Analysed.{sizesOf, Sized, Users, Suited, Indexed, Analysed, Fits, Reached}
+use Rattle.analysed.proofs.Storing.{start-few}
+use Rattle.starts.specs.Starts.{Started}
+use Rattle.steps.specs.Runs.{Reaching, Ran}
+use Rattle.sctp.specs.Sctp.{tablesOf, chainsOf, Given, Chained, Aside, Begins, Outcome, Ends, Left, Analyses}
+
+-- ---- the start, then the run
+
+-- the state after the start is reached
+pub started-reaching : {s p : List ℕ} {c : Counts} {z : Sizes} {m : List ℕ} {r : Went} {q : Regs} → Started s p c z m r → r ≡ On q → Reaching s p c z m q
+started-reaching {s} {p} {c} {z} {m} {r} {q} d e =
+    let d1 = rw e at d in
+    record {
+      at = λ L S v f.
+          let b = sym (d1 .is L S v f) in
+          record { from = view z v m q; starts = b; there = at-start L (S .room .classes) (P.view s p c) (S .finished) (view z v m q) b .there };
+    }
+
+pub begun-ready : {s p : List ℕ} {c : Counts} {z : Sizes} {u u' m : List ℕ} {r : Went} {q : Regs} → Begins s p c z u u' m r → r ≡ On q → Ready z m q
+begun-ready d e = let d1 = rw e at d in d1 .started .ok .ready
+
+pub run-ended : {s p : List ℕ} {c : Counts} {z : Sizes} {u u' m w : List ℕ} {b : Went} {q : Regs} {r : Went} → Begins s p c z u u' m b → b ≡ On q → Ran s p c z w r → Ends s p c z u u' w r
+run-ended {s} {p} {c} {z} {u} {u'} {m} {w} {b} {q} {r} d e g =
+    let d1 = rw e at d in
+    record {
+      outcome = record {
+        is = λ L S v f.
+            let h = sym (d1 .started .is L S v f) in
+            g .is L S v f (view z v m q) h ∙ ap (λ (x : Answer State). ifAnswered x (run L (P.view s p c) (bound (P.view s p c)))) (sym h);
+        ok = g .ok;
+      };
+      aside = d .aside;
+    }
+
+pub start-ended : {s p : List ℕ} {c : Counts} {z : Sizes} {u u' m : List ℕ} {b : Went} {n : ℕ} → Begins s p c z u u' m b → b ≡ No n → Ends s p c z u u' m (No n)
+start-ended {s} {p} {c} {z} {u} {u'} {m} {b} {n} d e =
+    let d1 = rw e at d in
+    record {
+      outcome = record {
+        is = λ L S v f. ap (λ (x : Answer State). ifAnswered x (run L (P.view s p c) (bound (P.view s p c)))) (d1 .started .is L S v f);
+        ok = tt;
+      };
+      aside = d .aside;
+    }
+
+-- ---- the users
+
+pub sized-self : (c : Counts) → Sized c (sizesOf c)
+sized-self c = record { functions = refl; classes = refl; blocks = refl; insns = refl }
+
+-- users whose places stay
+pub users-kept : {p : List ℕ} {c : Counts} {u u' : List ℕ} → c .insns ≤ 2048 → length u' ≡ length u → Aside u u' → Users p c u → Users p c u'
+users-kept {p} {c} {u} {u'} few len a g = record {
+  long = omega (arith, g .long);
+  begins = at 0 (omega arith) ∙ g .begins;
+  rises = λ j h. let x = at j (omega arith) in let y = at (j + 1) (omega arith) in omega (arith, g .rises j h);
+  total = let x = at (c .insns) (omega arith) in omega (arith, g .total);
+  part = λ s j h.
+      let f = start-few p c u g (sizesOf c) (sized-self c) j h in
+      ap₂ (λ (x y : ℕ). words u' (usersAt + x) (y - x)) (at j (omega arith)) (at (j + 1) (omega arith))
+      ∙ tab-ext (λ q. getD u' (usersAt + getD u (startsAt + j) 0 + q) 0) (λ q. getD u (usersAt + getD u (startsAt + j) 0 + q) 0) (getD u (startsAt + (j + 1)) 0 - getD u (startsAt + j) 0)
+      (λ q l. a .same (usersAt + getD u (startsAt + j) 0 + q) (omega (arith, f .1)))
+      ∙ g .part s j h;
+}
+  where
+    at : (j : ℕ) → j ≤ 2048 → getD u' (startsAt + j) 0 ≡ getD u (startsAt + j) 0
+    at j h = a .same (startsAt + j) (omega arith)
+
+pub users-laid : {p : List ℕ} {c : Counts} {u u' : List ℕ} → length u ≡ answerLen → Uses p c startsAt usersAt u u' → Users p c u'
+users-laid {p} {c} {u} {u'} len g = record { long = omega (arith, g .len-same); begins = g .begins; rises = g .rises; total = g .total; part = g .part }
+
+-- ---- the whole
+
+module _ {s p : List ℕ} {c : Counts} {u m : List ℕ} (g : Given s p c u m) where
+  pub tables-ready : {p' : List ℕ} → Chained c p p' → P.Ready (tablesOf p') c
+  tables-ready h = rw (h .tables) (g .ready)
+
+  pub all-analysed : {p' u' : List ℕ} {z : Sizes} → Chained c p p' → z ≡ sizesOf c → Uses (tablesOf p') c startsAt usersAt u u' → Analysed s (tablesOf p') c (chainsOf p') u' z
+  all-analysed {p'} {u'} {z} h e d =
+      record {
+        indexed = record {
+          limits = g .limits;
+          suited = subst (λ (t : List ℕ). Suited s t c (g .limits)) (sym (h .tables)) (g .suited);
+          sized = subst (Sized c) (sym e) (sized-self c);
+          ready = tables-ready h;
+          index = subst (λ (t : List ℕ). Rattle.index.specs.Chains.Index t c (chainsOf p')) (sym (h .tables)) (h .index);
+        };
+        users = users-laid (g .answer) d;
+      }
+
+  pub analysed-whole : {p' u₁ u' m' : List ℕ} {z : Sizes} {r : Went} → Chained c p p' → z ≡ sizesOf c → Uses (tablesOf p') c startsAt usersAt u u₁ → length u' ≡ length u₁ → Ends s (tablesOf p') c z u₁ u' m' r
+      → Analyses s (tablesOf p) c u u' m' r
+  analysed-whole {p'} {u₁} {u'} {m'} {z} {r} h e d len f =
+      let few = g .ready .insns in
+      let k : Users (tablesOf p') c u' = users-kept few len (f .aside) (users-laid (g .answer) d) in
+      record {
+        outcome = subst (λ (t : List ℕ). Outcome s t c (sizesOf c) m' r) (h .tables) (subst (λ (y : Sizes). Outcome s (tablesOf p') c y m' r) e (f .outcome));
+        left = subst (λ (t : List ℕ). Left t c u u') (h .tables) (record {
+          users = k;
+          others = λ j l a b.
+              let t : getD u' (startsAt + c .insns) 0 ≡ getD u₁ (startsAt + c .insns) 0 = f .aside .same (startsAt + c .insns) (omega arith) in
+              f .aside .same j l ∙ d .others j a (λ x y. b x (omega arith));
+          clear = f .aside .clear;
+        });
+      }
+
+-- ---- demand 3: what is answered is at rest and exact, and its count is within the bound
+
+after : {A B : Type 0} (a : Answer A) (k : A → Answer B) {y : B} → answered y ≡ ifAnswered a k → (x : A) × (a ≡ answered x) × (k x ≡ answered y)
+after (answered x) k e = (x, refl, sym e)
+after (refused n) k e = absurd (let z : _≡_ {A = ℕ} 0 1 = cc in omega arith)
+
+pub exactly : {s p : List ℕ} {c : Counts} {u u' m' : List ℕ} {q : Regs} → Analyses s p c u u' m' (On q) → (L : Limits) (S : Suited s p c L) (v : Attrs) → Fits s p c (P.view s p c) v
+    → Exact (P.view s p c) (view (sizesOf c) v m' q)
+exactly {s} {p} {c} {u} {u'} {m'} {q} d L S v f =
+    let a = after (start L (P.view s p c)) (run L (P.view s p c) (bound (P.view s p c))) (d .outcome .is L S v f) in
+    exact L (S .room .classes) (P.view s p c) (S .finished) (a .0) (view (sizesOf c) v m' q) (a .1) (a .2)

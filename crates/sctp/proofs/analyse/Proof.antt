@@ -1,0 +1,51 @@
+-- `sctp::analyse` meets its contract. Assumes nothing.
+use Rattle.sctp.proofs.Whole.{started-reaching, begun-ready, run-ended, start-ended, users-kept}
+use native.Mathlib.Omega.{arith}
+use borrow.Author.Needs.{needs}
+use Rattle.sctp.proofs.analyse.Statement.{statement}
+use Rattle.sctp.proofs.analyse.Tie as tie
+
+begin-requires : tie.Need-begin-requires
+begin-requires c κs = (c .before .before .before .before .before .before .before .pre .0 .indexed, (c .before .before .before .before .before .before .before .pre .1 .0, c .before .before .before .before .before .before .before .pre .1 .1))
+
+enum-known-b : tie.Need-enum-known-b
+enum-known-b c = search needs
+
+run-requires : tie.Need-run-requires
+run-requires c κs = (record { indexed = c .before .before .before .before .before .before .before .before .before .before .before .before .before .before .before .before .before .pre .0 .indexed; users = users-kept (c .before .before .before .before .before .before .before .before .before .before .before .before .before .before .before .before .before .pre .0 .indexed .ready .insns) (search needs) (c .before .before .before .before .before .before .before .before .before .begin .ensures .aside) (c .before .before .before .before .before .before .before .before .before .before .before .before .before .before .before .before .before .pre .0 .users) }, (begun-ready (c .before .before .before .before .before .before .before .before .before .begin .ensures) (c .before .before .before .b .given .1), started-reaching (c .before .before .before .before .before .before .before .before .before .begin .ensures .started) (c .before .before .before .b .given .1)))
+
+enum-known-b-2 : tie.Need-enum-known-b-2
+enum-known-b-2 c = search needs
+
+same-length : tie.Need-same-length
+same-length c = search needs
+
+same-length-2 : tie.Need-same-length-2
+same-length-2 c = search needs
+
+returns : tie.Need-returns
+returns c = run-ended (c .before .before .before .before .before .before .before .before .before .before .before .before .begin .ensures) (c .before .before .before .before .before .before .b .given .1) (c .before .before .run .ensures)
+
+same-length-3 : tie.Need-same-length-3
+same-length-3 c = search needs
+
+same-length-4 : tie.Need-same-length-4
+same-length-4 c = search needs
+
+returns-2 : tie.Need-returns-2
+returns-2 c = start-ended (c .before .before .before .before .before .before .before .begin .ensures) (c .before .b2 .given .1)
+
+pub analyse-spec : {M : Type 1} → statement M
+analyse-spec =
+    tie.close
+    (tie.spec
+    begin-requires
+    enum-known-b
+    run-requires
+    enum-known-b-2
+    same-length
+    same-length-2
+    returns
+    same-length-3
+    same-length-4
+    returns-2)

@@ -1,0 +1,57 @@
+-- `sctp::lay_index` meets its contract. Assumes nothing.
+use Rattle.sctp.proofs.Parts.{built-taken, built-room, index-laid}
+use lib.Seq.{length-take-le}
+use mathlib.Core.Path.{sym}
+use native.Mathlib.Omega.{arith}
+use borrow.Author.Needs.{needs}
+use Rattle.sctp.proofs.lay_index.Statement.{statement}
+use Rattle.sctp.proofs.lay_index.Tie as tie
+
+slice-reshare-prefix-build-index : tie.Need-slice-reshare-prefix-build-index
+slice-reshare-prefix-build-index c = search needs
+
+slice-aggregate-build-index : tie.Need-slice-aggregate-build-index
+slice-aggregate-build-index c = sym (length-take-le 47872 (c .before .before .before .args .p .now) (omega (arith, c .before .before .before .pre .1 .0)))
+
+slice-relend-prefix-build-index : tie.Need-slice-relend-prefix-build-index
+slice-relend-prefix-build-index c = search needs
+
+slice-aggregate-build-index-2 : tie.Need-slice-aggregate-build-index-2
+slice-aggregate-build-index-2 c = sym (length-take-le 9216 (c .before .before .before .before .args .m .now) (omega (arith, c .before .before .before .before .pre .1 .1)))
+
+build-index-requires : tie.Need-build-index-requires
+build-index-requires c κs = (c .before .before .before .before .pre .0, omega (arith, length-take-le 9216 (c .before .before .before .before .args .m .now) (omega (arith, c .before .before .before .before .pre .1 .1))))
+
+slice-reshare-prefix-place : tie.Need-slice-reshare-prefix-place
+slice-reshare-prefix-place c = search needs
+
+slice-aggregate-place : tie.Need-slice-aggregate-place
+slice-aggregate-place c = sym (built-taken (c .before .before .before .before .before .before .before .before .args .m .now) (c .before .before .before .build-index .last .1 .1 .0) (c .before .before .before .before .before .before .before .before .pre .1 .1) (c .before .before .before .build-index .kept .1 .1 .0))
+
+place-requires : tie.Need-place-requires
+place-requires c κs = built-room (c .before .before .before .before .before .before .before .before .before .args .m .now) (c .before .before .before .before .build-index .last .1 .1 .0) (c .before .before .before .before .before .before .before .before .before .pre .1 .1) (c .before .before .before .before .build-index .kept .1 .1 .0) (c .before .before .before .before .before .before .before .before .before .args .p .now) (c .before .before .before .before .before .before .before .before .before .pre .1 .0)
+
+same-length : tie.Need-same-length
+same-length c = search needs
+
+same-length-2 : tie.Need-same-length-2
+same-length-2 c = search needs
+
+returns : tie.Need-returns
+returns c = index-laid (c .before .before .before .before .before .before .before .before .before .before .before .before .args .m .now) (c .before .before .before .before .before .before .before .build-index .last .1 .1 .0) (c .before .before .before .before .before .before .before .before .before .before .before .before .pre .1 .1) (c .before .before .before .before .before .before .before .build-index .kept .1 .1 .0) (c .before .before .before .before .before .before .before .before .before .before .before .before .args .c) (c .before .before .before .before .before .before .before .before .before .before .before .before .args .p .now) (c .before .before .place .last .1 .0) (c .before .before .before .before .before .before .before .before .before .before .before .before .pre .1 .0) (c .before .before .before .before .before .before .before .build-index .ensures) (c .before .before .place .ensures)
+
+pub lay-index-spec : {M : Type 1} → statement M
+lay-index-spec =
+    tie.close
+    (tie.spec
+    slice-reshare-prefix-build-index
+    slice-aggregate-build-index
+    slice-relend-prefix-build-index
+    slice-aggregate-build-index-2
+    build-index-requires
+    slice-reshare-prefix-place
+    slice-aggregate-place
+    place-requires
+    same-length
+    same-length-2
+    returns)

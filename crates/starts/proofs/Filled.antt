@@ -1,0 +1,113 @@
+-- Cleared tables with the attributes' first kinds hold the rules' blank state. Assumes nothing.
+use mathlib.Core.Bool.{false}
+use mathlib.Core.Path.{_≡_, refl, sym, ap, ap₂, _∙_}
+use mathlib.Core.List.{List, [], _∷_, _++_}
+use Prim.Native.Nat.{ℕ, zero, suc, _+_, _*_, _≤_, _<_}
+use native.Mathlib.Omega.{arith}
+use lib.ListN.{length, getD}
+use Rattle.kinds.specs.Kinds.{kindFrom, kindAt, kindsAt}
+use Rattle.kinds.specs.declared.Kind.{Kind}
+use Rattle.rules.specs.Program as R
+use Rattle.rules.specs.Program.{Limits, class}
+use Rattle.rules.specs.Machine.{State, blank}
+use Rattle.memory.specs.Memory.{zeros}
+use Rattle.memory.proofs.Laws.{zeros-length, zeros-at}
+use Rattle.tables.specs.Tables.{listed}
+use Rattle.tables.specs.Rings.{waiting}
+use Rattle.tables.proofs.Listed.{listed-same}
+use Rattle.program.specs.Rows.{classAt, ivarsOf}
+use Rattle.program.specs.View as P
+use Rattle.program.specs.View.{classesOf}
+use Rattle.program.specs.declared.Counts.{Counts}
+use Rattle.program.proofs.Tables.{tab-at, tab-length}
+use Rattle.program.proofs.Viewing.{functions-length, classes-length, blocks-length, instructions-length}
+use Rattle.state.specs.declared.Sizes.{Sizes}
+use Rattle.state.specs.View as Mem
+use Rattle.state.specs.View.{Attrs, insnsOf, blocksOf, view, Held, noEntries, SizesOf}
+use Rattle.state.proofs.Blank.{blank-view}
+use Rattle.state.proofs.Puts.{glue}
+use Rattle.state.proofs.Tables.{kinds-kept, live-kept, called-kept, reads-kept}
+use Rattle.firsts.specs.Firsts.{Only, allKindsAt}
+use Rattle.analysed.specs.Analysed.{Sized, Fits}
+use Rattle.starts.specs.Starts.{Cleared}
+
+-- ---- lists of kinds
+
+listed-last : {A : Type 0} (n : ℕ) (f : ℕ → A) → listed (suc n) f ≡ listed n f ++ f n ∷ []
+unfolding listed
+listed-last zero f = refl
+listed-last (suc n) f = ap (λ (l : List _). f 0 ∷ l) (listed-last n (λ i. f (suc i)))
+
+kinds-listed : (u : List ℕ) (t p n : ℕ) → kindsAt u t p n ≡ listed n (λ a. kindAt u (t + a) (p + a))
+unfolding kindsAt listed
+kinds-listed u t p zero = refl
+kinds-listed u t p (suc n) = ap (λ (l : List Kind). l ++ kindAt u (t + n) (p + n) ∷ []) (kinds-listed u t p n) ∙ sym (listed-last n (λ a. kindAt u (t + a) (p + a)))
+
+-- ---- sizes
+
+module _ (s p : List ℕ) (c : Counts) (z : Sizes) (e : Sized c z) where
+  pub sizes-of : SizesOf (P.view s p c) z
+  sizes-of = record {
+    functions = e .functions ∙ sym (functions-length s p (c .functions));
+    classes = e .classes ∙ sym (classes-length s p (c .classes));
+    blocks = e .blocks ∙ sym (blocks-length p (c .blocks));
+    insns = e .insns ∙ sym (instructions-length s p (c .insns));
+  }
+
+  attrs-at : (v : Attrs) → Fits s p c (P.view s p c) v → (k : ℕ) → k < c .classes → v .count k ≡ ivarsOf p k
+  unfolding classesOf classAt
+  attrs-at v f k h = f .attrs k ∙ ap (λ (x : R.Class). length (x .ivars)) (tab-at (classAt s p) (c .classes) k R.builtIn h) ∙ tab-length _ (ivarsOf p k)
+
+  pub held-at : (m : List ℕ) → P.Ready p c → length m ≡ 52224 → Held z m
+  held-at m r l = record {
+    len = l;
+    functions = omega (arith, e .functions, r .functions);
+    classes = omega (arith, e .classes, r .classes);
+    blocks = omega (arith, e .blocks, r .blocks);
+    insns = omega (arith, e .insns, r .insns);
+  }
+
+  -- ---- the view
+
+  module _ (r : P.Ready p c) (m w : List ℕ) (g : Cleared m) (o : Only 5120 9216 4096 m w) where
+    abbrev none : List ℕ
+    none = zeros 52224
+
+    still : (j : ℕ) → j < 19456 → (5120 ≤ j → j < 13312 → ⊥) → getD w j 0 ≡ getD none j 0
+    still j h k = o .others j (λ a b. k (omega arith) (omega arith)) (λ a b. k (omega arith) (omega arith)) ∙ g .clear j h ∙ sym (zeros-at 52224 j)
+
+    held : Held z none
+    held = held-at none r (zeros-length 52224)
+
+    row-is : (v : Attrs) → Fits s p c (P.view s p c) v → (k : ℕ) → k < c .classes
+        → listed (v .count k) (λ a. kindFrom (getD w (5120 + (k * 64 + a)) 0) (getD w (9216 + (k * 64 + a)) 0)) ≡ kindsAt w (5120 + 64 * k) (9216 + 64 * k) (ivarsOf p k)
+    row-is v f k h =
+        ap (λ (n : ℕ). listed n (λ a. kindFrom (getD w (5120 + (k * 64 + a)) 0) (getD w (9216 + (k * 64 + a)) 0))) (attrs-at v f k h)
+        ∙ listed-same (ivarsOf p k) (λ a. kindAt w (5120 + 64 * k + a) (9216 + 64 * k + a)) (λ a. kindFrom (getD w (5120 + (k * 64 + a)) 0) (getD w (9216 + (k * 64 + a)) 0))
+        (λ a l. let x : 5120 + (k * 64 + a) ≡ 5120 + 64 * k + a = omega arith in let y : 9216 + (k * 64 + a) ≡ 9216 + 64 * k + a = omega arith in ap₂ (λ (i j : ℕ). kindFrom (getD w i 0) (getD w j 0)) x y)
+        ∙ sym (kinds-listed w (5120 + 64 * k) (9216 + 64 * k) (ivarsOf p k))
+
+    ivars-are : (v : Attrs) → Fits s p c (P.view s p c) v → Mem.ivarsOf z v w ≡ allKindsAt p c 5120 9216 w
+    unfolding Mem.ivarsOf
+    ivars-are v f =
+        ap (λ (n : ℕ). listed n (λ k. listed (v .count k) (λ a. kindFrom (getD w (5120 + (k * 64 + a)) 0) (getD w (9216 + (k * 64 + a)) 0)))) (e .classes)
+        ∙ listed-same (c .classes) (λ k. kindsAt w (5120 + 64 * k) (9216 + 64 * k) (ivarsOf p k)) (λ k. listed (v .count k) (λ a. kindFrom (getD w (5120 + (k * 64 + a)) 0) (getD w (9216 + (k * 64 + a)) 0)))
+        (λ k h. row-is v f k h)
+
+    no-insns : insnsOf w noEntries ≡ []
+    unfolding insnsOf waiting
+    no-insns = refl
+
+    no-blocks : blocksOf w noEntries ≡ []
+    unfolding blocksOf waiting
+    no-blocks = refl
+
+    pub filled-view : (L : Limits) (v : Attrs) → Fits s p c (P.view s p c) v → view z v w noEntries ≡ blank L (P.view s p c) (allKindsAt p c 5120 9216 w)
+    filled-view L v f =
+        let b = blank-view z none (zeros-at 52224) L (P.view s p c) v sizes-of in
+        glue (kinds-kept z none w held (λ j x y. still j (omega arith) (λ k l. omega arith)) ∙ ap (λ (t : State). t .kinds) b)
+        (live-kept z none w held (λ j x y. still j (omega arith) (λ k l. omega arith)) ∙ ap (λ (t : State). t .live) b)
+        (called-kept z none w held (λ j x y. still j (omega arith) (λ k l. omega arith)) ∙ ap (λ (t : State). t .calledBy) b)
+        (ivars-are v f)
+        (reads-kept z none w held (λ j x y. still j (omega arith) (λ k l. omega arith)) ∙ ap (λ (t : State). t .ivarReads) b)
+        no-insns no-blocks false 0

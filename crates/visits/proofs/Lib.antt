@@ -1,0 +1,4 @@
+pub mod Ruling
+pub mod Given
+pub mod Alone
+pub mod Ways

@@ -1,0 +1,55 @@
+-- `visits::send` meets its contract. Assumes nothing.
+use Rattle.visits.proofs.Ways.{send-needs, call-backs, did-held, send-way, send-stop}
+use native.Mathlib.Omega.{arith}
+use borrow.Author.Needs.{needs}
+use Rattle.visits.proofs.send.Statement.{statement}
+use Rattle.visits.proofs.send.Tie as tie
+
+operand-requires : tie.Need-operand-requires
+operand-requires c κs = (c .before .before .before .before .pre .0 .indexed .ready, c .before .before .before .before .pre .0 .read .range)
+
+listed-in-requires : tie.Need-listed-in-requires
+listed-in-requires c κs = search needs
+
+send-dynamic-requires : tie.Need-send-dynamic-requires
+send-dynamic-requires c κs = (c .before .before .before .before .before .before .before .pre .0 .ready, send-needs (c .before .before .before .before .before .before .before .pre .0) (c .before .before .operand .result) (c .before .before .before .before .before .before .before .pre .1) (c .before .before .operand .ensures) (c .before .listed-in .ensures))
+
+enum-known-w : tie.Need-enum-known-w
+enum-known-w c = search needs
+
+call-kind-requires : tie.Need-call-kind-requires
+call-kind-requires c κs = (did-held (c .before .before .before .before .before .before .before .before .before .before .before .before .before .before .pre .0) (c .before .before .before .before .before .before .send-dynamic .ensures) (c .before .before .w .given .1), (call-backs (c .before .before .before .before .before .before .before .before .before .before .before .before .before .before .pre .0), (c .before .before .before .before .before .before .before .before .before .before .before .before .before .before .pre .0 .below, omega arith)))
+
+with-kind-requires : tie.Need-with-kind-requires
+with-kind-requires c κs = search needs
+
+enum-known-w-2 : tie.Need-enum-known-w-2
+enum-known-w-2 c = search needs
+
+same-length : tie.Need-same-length
+same-length c = search needs
+
+returns : tie.Need-returns
+returns c = send-way (c .before .before .before .before .before .before .before .before .before .before .before .before .before .before .before .before .pre .0) (c .before .before .before .before .before .before .before .before .before .before .before .operand .result) (c .before .before .before .before .before .before .before .before .before .before .before .before .before .before .before .before .pre .1) (c .before .before .before .before .before .before .before .before .before .before .before .operand .ensures) (c .before .before .before .before .before .before .before .before .before .before .listed-in .ensures) (c .before .before .before .before .before .before .before .before .send-dynamic .ensures) (c .before .before .before .before .w .given .1) (c .before .call-kind .ensures) (c .with-kind .ensures)
+
+same-length-2 : tie.Need-same-length-2
+same-length-2 c = search needs
+
+returns-2 : tie.Need-returns-2
+returns-2 c = send-stop (c .before .before .before .before .before .before .before .before .before .before .before .before .before .pre .0) (c .before .before .before .before .before .before .before .before .operand .result) (c .before .before .before .before .before .before .before .before .before .before .before .before .before .pre .1) (c .before .before .before .before .before .before .before .before .operand .ensures) (c .before .before .before .before .before .before .before .listed-in .ensures) (c .before .before .before .before .before .send-dynamic .ensures) (c .before .w2 .given .1)
+
+pub send-spec : {M : Type 1} → statement M
+send-spec =
+    tie.close
+    (tie.spec
+    operand-requires
+    listed-in-requires
+    send-dynamic-requires
+    enum-known-w
+    call-kind-requires
+    with-kind-requires
+    enum-known-w-2
+    same-length
+    returns
+    same-length-2
+    returns-2)
