@@ -296,7 +296,7 @@ pub fn frames(prog: &Program, result: &AnalysisResult) -> String {
     out
 }
 
-fn answer(script: &[u8]) -> String {
+pub fn answer(script: &[u8]) -> String {
     let refused = |number: u8| format!("7f{:02x}\n", number);
     match read(script) {
         Err(number) => refused(number),
@@ -309,7 +309,7 @@ fn answer(script: &[u8]) -> String {
 
 // ---- the program ----
 
-pub const USAGE: &str = "usage: [--batch] [--frames | --dump | --words | --first | --peaks | --check] [--limits name=number,..]";
+pub const USAGE: &str = "usage: [--batch] [--frames | --dump | --program | --words | --first | --peaks | --check] [--limits name=number,..]";
 
 /// The next script of a batch: 4-byte big-endian length, bytes.
 pub fn next_of_batch(input: &mut impl Read, done: usize) -> Result<Option<Vec<u8>>, String> {
@@ -350,6 +350,7 @@ fn run(words: Vec<String>) -> Result<bool, String> {
             "--batch" => batch = true,
             "--frames" => choose(answer)?,
             "--dump" => choose(text::dump)?,
+            "--program" => choose(text::program)?,
             "--words" => choose(text::words)?,
             "--first" => choose(text::first)?,
             "--peaks" if cfg!(limited) => choose(text::peaks)?,
@@ -395,6 +396,12 @@ fn run(words: Vec<String>) -> Result<bool, String> {
     }
     output.flush().map_err(gone)?;
     Ok(tally.violations == 0)
+}
+
+/// For a program that calls this build as a library: the built-in limits, and panics that print nothing.
+pub fn set_up() {
+    std::panic::set_hook(Box::new(|_| {}));
+    LIMITS.get_or_init(|| read_limits(&[]).expect("the built-in limits"));
 }
 
 pub fn main() {

@@ -949,26 +949,55 @@ const SEQUENCE_WORDS: &[&str] = &[
 ];
 
 fn all_sequences(most: usize, only: Option<&str>, out: &mut dyn FnMut(Vec<u8>)) {
-    for (name, before, after) in FRAMES {
+    for (at, (name, _, _)) in FRAMES.iter().enumerate() {
         if only.is_some_and(|o| o != *name) {
             continue;
         }
-        for length in 0..=most {
-            let mut at = vec![0; length];
-            'next: loop {
-                let middle: Vec<&str> = at.iter().map(|i| SEQUENCE_WORDS[*i]).collect();
-                out(format!("{before}{}{after}", middle.join(" ")).into_bytes());
-                for place in (0..length).rev() {
-                    at[place] += 1;
-                    if at[place] < SEQUENCE_WORDS.len() {
-                        continue 'next;
-                    }
-                    at[place] = 0;
-                }
-                break;
-            }
+        for length in 0..=most as u32 {
+            (0..sequences(length)).for_each(|i| out(sequence(at, length, i)));
         }
     }
+}
+
+// ---- a script by its number ----
+
+pub const MODES: [&str; 5] = ["good", "damaged", "words", "limits", "lists"];
+
+/// Script i of a seed. Each has a state of its own, so one can be made again by itself.
+pub fn one(mode: &str, seed: u64, i: u64, size: Option<usize>) -> Vec<u8> {
+    let mut rng = Rng(seed.wrapping_mul(0x2545f4914f6cdd1d) ^ i.wrapping_mul(0x9e6c63d0876a9a47));
+    rng.next();
+    let size = size.unwrap_or([1, 2, 3, 3, 4, 6, 9][rng.below(7)]);
+    match mode {
+        "good" => {
+            let words = good(&mut rng, size);
+            join(&mut rng, &words)
+        }
+        "damaged" => damaged(&mut rng, size),
+        "words" => words_only(&mut rng, size),
+        "limits" => {
+            let which = (i as usize / 3) % 20;
+            at_limit(&mut rng, which, i as usize % 3)
+        }
+        _ => full_list(&mut rng),
+    }
+}
+
+/// How many sequences of so many words there are, and in how many frames.
+pub fn sequences(length: u32) -> u64 {
+    (SEQUENCE_WORDS.len() as u64).pow(length)
+}
+
+pub fn frames() -> usize {
+    FRAMES.len()
+}
+
+/// Sequence i of so many words, in a frame.
+pub fn sequence(frame: usize, length: u32, i: u64) -> Vec<u8> {
+    let (_, before, after) = FRAMES[frame];
+    let n = SEQUENCE_WORDS.len() as u64;
+    let middle: Vec<&str> = (0..length).rev().map(|place| SEQUENCE_WORDS[(i / n.pow(place) % n) as usize]).collect();
+    format!("{before}{}{after}", middle.join(" ")).into_bytes()
 }
 
 // ---- the program ----
@@ -978,7 +1007,7 @@ fn stop(text: &str) -> ! {
     std::process::exit(2)
 }
 
-fn main() {
+pub fn main() {
     let mut words = std::env::args().skip(1);
     let Some(mode) = words.next() else { stop(USAGE) };
     let (mut seed, mut count, mut size, mut most, mut frame) = (None, None, None, None, None);
@@ -1016,7 +1045,7 @@ fn main() {
         all_sequences(most, frame.as_deref(), &mut put);
         format!("all --words {most}")
     } else {
-        if !["good", "damaged", "words", "limits", "lists"].contains(&mode.as_str()) {
+        if !MODES.contains(&mode.as_str()) {
             stop(&format!("unknown word '{mode}'; {USAGE}"));
         }
         let (Some(seed), Some(count)) = (seed, count) else { stop(&format!("--seed and --count are needed; {USAGE}")) };
@@ -1024,23 +1053,7 @@ fn main() {
             stop(&format!("--words and --frame belong to all; {USAGE}"));
         }
         for i in 0..count {
-            // each script has a state of its own, so one can be made again by itself
-            let mut rng = Rng(seed.wrapping_mul(0x2545f4914f6cdd1d) ^ i.wrapping_mul(0x9e6c63d0876a9a47));
-            rng.next();
-            let size = size.unwrap_or([1, 2, 3, 3, 4, 6, 9][rng.below(7)]);
-            put(match mode.as_str() {
-                "good" => {
-                    let words = good(&mut rng, size);
-                    join(&mut rng, &words)
-                }
-                "damaged" => damaged(&mut rng, size),
-                "words" => words_only(&mut rng, size),
-                "limits" => {
-                    let which = (i as usize / 3) % 20;
-                    at_limit(&mut rng, which, i as usize % 3)
-                }
-                _ => full_list(&mut rng),
-            });
+            put(one(&mode, seed, i, size));
         }
         format!("{mode} --seed {seed} --count {count}{}", size.map_or(String::new(), |n| format!(" --size {n}")))
     };
