@@ -43,12 +43,13 @@ use Rattle.publish.proofs.Whole.{image-written}
 use Rattle.steps.specs.Runs.{Rested}
 use Rattle.sctp.specs.Sctp.{tablesOf, Given, Analyses}
 use Rattle.reader.specs.Outcomes.{ReadsScript}
+use Rattle.reader.proofs.Laws.{read-ready, read-finished}
 use Rattle.reader.specs.declared.Outcome.{Outcome as Readout}
 use Rattle.reader.specs.declared.Outcome.the-variants as R
 use Rattle.call.specs.declared.Outcome.{Outcome}
 use Rattle.call.specs.declared.Outcome.the-variants.{Answered, Refused}
 use Rattle.call.specs.Call.{programLen, stateLen, numberOf, Lent, lent, left, answerOf, ended, after}
-use Rattle.call.specs.Parts.{frontOf, imaged, analyzed, found, Reads, Parsed, Sized, Fresh, Analyzed, keptOf, Cleared, Ran}
+use Rattle.call.specs.Parts.{frontOf, imaged, analyzed, found, Parsed, Sized, Fresh, Analyzed, keptOf, Cleared, Ran}
 
 -- ---- publish_state
 
@@ -125,9 +126,6 @@ module _ (s p : List ℕ) (c : Counts) (u u₁ m : List ℕ) {r : Went} (h : Par
 
 -- ---- analyze_script
 
-pub script-small : {l : Limits} → (limitsOf l ≡ limits) × Small l → l .script ≤ 16384
-script-small e = let h = ap (λ (x : Rattle.rules.specs.Program.Limits). x .script) (e .0) in omega arith
-
 tables-back : (t d : List ℕ) → length t ≡ 47872 → frontOf (t ++ d) ≡ t
 unfolding frontOf
 tables-back t d e = take-at t d 47872 e
@@ -150,14 +148,11 @@ imaged-no : (s : List ℕ) (n : ℕ) → parseProgram limits s ≡ refused n →
 unfolding analyze
 imaged-no s n e = rw e
 
-pub reads-limited : {s t : List ℕ} {l : Limits} {r : Readout} → (limitsOf l ≡ limits) × Small l → ReadsScript l s t r → Reads s t r
-reads-limited {s} e g = record { is = g .is ∙ ap (λ L. parseProgram L s) (e .0); ok = g .ok }
-
 -- the tables that were lent and came back
-pub reads-tables : (s t p : List ℕ) {r : Readout} → Reads s t r → length t ≡ length (take 47872 p) → 47872 ≤ length p → Reads s (frontOf (t ++ drop 47872 p)) r
-reads-tables s t p {r} g e h = subst (λ x. Reads s x r) (sym (tables-back t (drop 47872 p) (e ∙ length-take-le 47872 p h))) g
+pub reads-tables : (s t p : List ℕ) {r : Readout} → ReadsScript s t r → length t ≡ length (take 47872 p) → 47872 ≤ length p → ReadsScript s (frontOf (t ++ drop 47872 p)) r
+reads-tables s t p {r} g e h = subst (λ x. ReadsScript s x r) (sym (tables-back t (drop 47872 p) (e ∙ length-take-le 47872 p h))) g
 
-module _ (s t : List ℕ) {r : Readout} (g : Reads s t r) where
+module _ (s t : List ℕ) {r : Readout} (g : ReadsScript s t r) where
   pub reading-refused : {n : ℕ} (a : List ℕ) → r ≡ R.Refused n → found (Refused n) a ≡ imaged (analyze limits s)
   reading-refused {n} a e = sym (imaged-no s n (sym ((rw e at g) .is)))
 
@@ -167,9 +162,9 @@ module _ (s t : List ℕ) {r : Readout} (g : Reads s t r) where
         record {
           suited = record {
             room = record { functions = omega arith; classes = omega arith; blocks = omega arith; instructions = omega arith; ivars = omega arith; worklist = refl };
-            finished = finished limits (usable-sane limits limits-usable) s (Program·view s t c) (sym ((rw e at g) .is));
+            finished = read-finished g e;
           };
-          ready = (rw e at g) .ok;
+          ready = read-ready g e;
         }
 
     pub reading-finished : (o : Outcome) (a : List ℕ) → found o a ≡ analyzed (Program·view s t c) → found o a ≡ imaged (analyze limits s)

@@ -52,11 +52,6 @@ pub record Fresh (a p w : List ℕ) : Type 0 where
   pub program : length p ≡ programLen
   pub state : length w ≡ stateLen
 
--- the tables t hold what the rules read, or the reading refuses
-pub record Reads (s t : List ℕ) (r : Readout) : Type 0 where
-  pub is : readOf s t r ≡ parseProgram limits s
-  pub ok : ReadyIf t r
-
 -- the tables t hold a program that was read
 pub record Parsed (s t : List ℕ) (c : Counts) : Type 0 where
   pub suited : Suited s t c limits

@@ -1,6 +1,5 @@
 // The call: a script, and three lent parts of memory.
 use program::Counts;
-use program::Limits;
 use state::Went;
 ghost use mathlib.Core.Path.{_≡_};
 ghost use Prim.Native.Nat.{_≤_};
@@ -12,8 +11,9 @@ ghost use Rattle.state.specs.View.{Held};
 ghost use Rattle.answer.specs.Layout.{answerLen, blocksMost};
 ghost use Rattle.analysed.specs.Analysed.{sizesOf};
 ghost use Rattle.publish.specs.Final.{withState};
+ghost use Rattle.reader.specs.Outcomes.{ReadsScript};
 ghost use Rattle.call.specs.Call.{numberOf, lent, left, after};
-ghost use Rattle.call.specs.Parts.{frontOf, found, analyzed, Reads, Parsed, Sized, Fresh, Analyzed, Cleared, Ran};
+ghost use Rattle.call.specs.Parts.{frontOf, found, analyzed, Parsed, Sized, Fresh, Analyzed, Cleared, Ran};
 
 // "Answered", or the number of the question that was answered "no".
 pub enum Outcome {
@@ -34,22 +34,12 @@ pub const SCRIPT_MOST: usize = 16384;
 // The program's tables; its index stands behind them.
 const TABLES: usize = 47872;
 
-// The script is read under the built-in limits.
-fn read_limited(script: &[u8], tables: &mut [usize], scratch: &mut [usize]) -> reader::Outcome
-    requires { ⌜ tablesSize ≤ length (now tables) ⌝ }
-    requires { ⌜ scratchSize ≤ length (now scratch) ⌝ }
-    ensures { λ r. ⌜ Reads (now (script .entry)) (now (tables .exit)) r ⌝ }
-{
-    let limits = Limits::built_in();
-    reader::read(script, tables, scratch, limits)
-}
-
 fn read_tables(script: &[u8], program: &mut [usize], scratch: &mut [usize]) -> reader::Outcome
     requires { ⌜ tablesSize ≤ length (now program) ⌝ }
     requires { ⌜ scratchSize ≤ length (now scratch) ⌝ }
-    ensures { λ r. ⌜ Reads (now (script .entry)) (frontOf (now (program .exit))) r ⌝ }
+    ensures { λ r. ⌜ ReadsScript (now (script .entry)) (frontOf (now (program .exit))) r ⌝ }
 {
-    read_limited(script, &mut program[..TABLES], scratch)
+    reader::read(script, &mut program[..TABLES], scratch)
 }
 
 fn publish_state(state: &[usize], c: Counts, count: u64, answer: &mut [usize])

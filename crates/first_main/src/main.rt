@@ -9,7 +9,6 @@ ghost use Rattle.index.specs.Chains as Chains;
 ghost use Rattle.constructors.specs.Walks.{Inside};
 ghost use Rattle.firsts.specs.Firsts.{Entries};
 use program::Counts;
-use program::Limits;
 use reader::Outcome;
 use sets::ClassId;
 
@@ -226,8 +225,7 @@ fn put_outcome(
     requires { ⌜ 14337 ≤ length (now u) ⌝ }
     ensures { λ r. ⌜ r ≤ length (now (out .entry)) ⌝ }
 {
-    let l = Limits::built_in();
-    match reader::read(s, m, w, l) {
+    match reader::read(s, m, w) {
         Outcome::Finished(c) => put_program(out, s, m, c, x, w, u),
         Outcome::Refused(e) => batches::put_refused(out, 0, b"reading refused ", e),
     }

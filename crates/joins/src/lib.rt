@@ -158,7 +158,7 @@ fn join_one(
 }
 
 // What the two rows set over base bindings is joined, in rising order of names.
-pub fn join_rows(
+fn join_rows(
     s: &[u8],
     m: &mut [usize],
     p: &mut [usize],

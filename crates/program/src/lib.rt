@@ -707,7 +707,7 @@ fn put_class(m: &mut [usize], k: ClassId, x: Name)
 }
 
 // A block of function f is opened, or 11.
-pub fn new_block(m: &mut [usize], c: Counts, l: Limits, f: FunId) -> NewBlock
+fn new_block(m: &mut [usize], c: Counts, l: Limits, f: FunId) -> NewBlock
     requires { ⌜ Ready (now m) c ⌝ }
     requires { ⌜ Small l ⌝ }
     ensures { λ r. ⌜ Did (blockFor (limitsOf l) (f .0)) unchanged (c .blocks) (moreBlocks c) (now (m .entry)) c (now (m .exit)) (blockOf r) ⌝ }

@@ -1,21 +1,29 @@
--- A finished reading's program is well formed, as the analysis needs it. Assumes nothing.
-use mathlib.Core.Path.{_≡_, sym}
+-- Reading under the built-in limits; a finished program is well formed, as the analysis needs it. Assumes nothing.
+use mathlib.Core.Path.{_≡_, sym, ap, _∙_}
 use mathlib.Core.List.{List}
 use Prim.Native.Nat.{ℕ, _≤_}
 use native.Mathlib.Omega.{arith}
+use Rattle.rules.specs.Program as P
+use Rattle.rules.specs.Reading.{parseProgram}
 use Rattle.rules.specs.Finished as F
-use Rattle.rules.proofs.Wellformed.Operands.{Sane}
 use Rattle.rules.proofs.Wellformed.Whole.{finished}
+use Rattle.rules.proofs.Demand.{limits-usable, usable-sane}
 use Rattle.program.specs.View as View
 use Rattle.program.specs.declared.Counts.{Counts}
 use Rattle.program.specs.declared.Limits.{Limits}
 use Rattle.reader.specs.declared.Outcome.{Outcome}
 use Rattle.reader.specs.declared.Outcome.the-variants.{Finished}
-use Rattle.reader.specs.Outcomes.{ReadsScript}
+use Rattle.reader.specs.Outcomes.{ReadsWithin, ReadsScript}
 
--- the limits that the reader takes, if they allow the built-in classes
-pub small-sane : {l : Limits} → View.Small l → 4 ≤ l .classes → Sane (View.limitsOf l)
-small-sane h k = record { builtIns = k; functions = omega (arith, h .functions); classes = omega (arith, h .classes) }
+-- the built-in limits
+pub script-small : {l : Limits} → (View.limitsOf l ≡ P.limits) × View.Small l → l .script ≤ 16384
+script-small e = let h = ap (λ (x : P.Limits). x .script) (e .0) in omega arith
 
-pub read-finished : {l : Limits} {s m : List ℕ} {r : Outcome} {c : Counts} → View.Small l → 4 ≤ l .classes → ReadsScript l s m r → r ≡ Finished c → F.Finished (View.limitsOf l) (View.view s m c)
-read-finished {l} {s} {m} {r} {c} h k a e = let b = rw e at a in finished (View.limitsOf l) (small-sane h k) s (View.view s m c) (sym (b .is))
+pub reads-limited : {s t : List ℕ} {l : Limits} {r : Outcome} → (View.limitsOf l ≡ P.limits) × View.Small l → ReadsWithin l s t r → ReadsScript s t r
+reads-limited {s} e g = record { is = g .is ∙ ap (λ L. parseProgram L s) (e .0); ok = g .ok }
+
+pub read-ready : {s m : List ℕ} {r : Outcome} {c : Counts} → ReadsScript s m r → r ≡ Finished c → View.Ready m c
+read-ready a e = let b = rw e at a in b .ok
+
+pub read-finished : {s m : List ℕ} {r : Outcome} {c : Counts} → ReadsScript s m r → r ≡ Finished c → F.Finished P.limits (View.view s m c)
+read-finished {s} {m} {r} {c} a e = let b = rw e at a in finished P.limits (usable-sane P.limits limits-usable) s (View.view s m c) (sym (b .is))

@@ -40,7 +40,7 @@ use Rattle.classes.specs.Turning.{Turns}
 use Rattle.classes.proofs.Loops.{word-on, word-rests, thing-no, thing-on}
 use Rattle.classes.proofs.Members.{spelt-nothing, spelt-def}
 use Rattle.reader.specs.declared.Outcome.the-variants as O
-use Rattle.reader.specs.Outcomes.{startCur, ReadsScript}
+use Rattle.reader.specs.Outcomes.{startCur, ReadsWithin}
 
 -- ---- parse_top
 
@@ -106,7 +106,7 @@ pub start-nobody : {d : Counts} {c : Cur} → c ≡ startCur d → c .class ≡ 
 start-nobody e = ap (λ (z : Cur). z .class) e
 
 module _ (l : Limits) (s : List ℕ) where
-  pub read-long : (m : List ℕ) → l .script < length s → ReadsScript l s m (O.Refused 1)
+  pub read-long : (m : List ℕ) → l .script < length s → ReadsWithin l s m (O.Refused 1)
   unfolding parseProgram
   read-long m h = record { is = let z : leb (length s) (l .script) ≡ false = lt-leb (length s) (l .script) h in rw z; ok = tt }
 
@@ -127,9 +127,9 @@ module _ (l : Limits) (s : List ℕ) where
     whole = let z : leb (length s) (l .script) ≡ true = le-leb (length s) (l .script) h in rw (z, start-is)
 
     module _ {m1 w1 : List ℕ} {y : Moved} (b : Takes (loop (parseTop (View.limitsOf l) s) (turns s) tt) 0 s m w c m1 w1 (movedOf y)) where
-      pub read-no : {n : ℕ} → y ≡ Refused n → ReadsScript l s m1 (O.Refused n)
+      pub read-no : {n : ℕ} → y ≡ Refused n → ReadsWithin l s m1 (O.Refused n)
       read-no i = record { is = let h = rw i at (b .is) in rw (← h) at whole; ok = tt }
 
-      pub read-yes : {c1 : Cur} → y ≡ On c1 → ReadsScript l s m1 (O.Finished (c1 .counts))
+      pub read-yes : {c1 : Cur} → y ≡ On c1 → ReadsWithin l s m1 (O.Finished (c1 .counts))
       unfolding parserOf
       read-yes i = let h = rw i at b in record { is = rw (← h .is) at whole; ok = h .ok .0 .ready .tables }

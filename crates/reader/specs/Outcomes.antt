@@ -26,6 +26,12 @@ abbrev pub ReadyIf : List ℕ → Outcome → Type 0
 ReadyIf m (Finished c) = View.Ready m c
 ReadyIf m (Refused e) = Unit {0}
 
-pub record ReadsScript (l : Limits) (s m' : List ℕ) (r : Outcome) : Type 0 where
+-- the tables hold what the rules read under some limits, or the reading refuses
+pub record ReadsWithin (l : Limits) (s m' : List ℕ) (r : Outcome) : Type 0 where
   pub is : answerOf s m' r ≡ parseProgram (View.limitsOf l) s
+  pub ok : ReadyIf m' r
+
+-- the same under the built-in ones
+pub record ReadsScript (s m' : List ℕ) (r : Outcome) : Type 0 where
+  pub is : answerOf s m' r ≡ parseProgram P.limits s
   pub ok : ReadyIf m' r

@@ -21,7 +21,7 @@ ghost use Rattle.parser.specs.Cursor.{size};
 ghost use Rattle.parser.specs.Promises.{movedOf};
 ghost use Rattle.reading.specs.Bodies.{Rests, Takes};
 ghost use Rattle.classes.specs.Turning.{Turns};
-ghost use Rattle.reader.specs.Outcomes.{startCur, ReadsScript};
+ghost use Rattle.reader.specs.Outcomes.{startCur, ReadsWithin, ReadsScript};
 
 // The tables' counts, or the number of a refusal.
 pub enum Outcome {
@@ -98,13 +98,13 @@ fn parse_program(s: &[u8], m: &mut [usize], w: &mut [usize], c: Cur, l: Limits) 
     }
 }
 
-// Reads a script into the tables; question 1 comes first. Both memories may hold anything.
-pub fn read(s: &[u8], m: &mut [usize], w: &mut [usize], l: Limits) -> Outcome
+// Reads a script into the tables under some limits; question 1 comes first.
+fn read_within(s: &[u8], m: &mut [usize], w: &mut [usize], l: Limits) -> Outcome
     requires { ⌜ Rows.size ≤ length (now m) ⌝ }
     requires { ⌜ size ≤ length (now w) ⌝ }
     requires { ⌜ Small l ⌝ }
     requires { ⌜ l .script ≤ 16384 ⌝ }
-    ensures { λ r. ⌜ ReadsScript l (now (s .entry)) (now (m .exit)) r ⌝ }
+    ensures { λ r. ⌜ ReadsWithin l (now (s .entry)) (now (m .exit)) r ⌝ }
 {
     if l.script < s.len() {
         return Outcome::Refused(1);
@@ -118,4 +118,14 @@ pub fn read(s: &[u8], m: &mut [usize], w: &mut [usize], l: Limits) -> Outcome
         }
         Moved::Refused(e) => Outcome::Refused(e),
     }
+}
+
+// Reads a script into the tables. Both memories may hold anything.
+pub fn read(s: &[u8], m: &mut [usize], w: &mut [usize]) -> Outcome
+    requires { ⌜ Rows.size ≤ length (now m) ⌝ }
+    requires { ⌜ size ≤ length (now w) ⌝ }
+    ensures { λ r. ⌜ ReadsScript (now (s .entry)) (now (m .exit)) r ⌝ }
+{
+    let l = Limits::built_in();
+    read_within(s, m, w, l)
 }

@@ -9,7 +9,6 @@ use kinds::Arith;
 use kinds::Kind;
 use lookups::Constructor;
 use program::Counts;
-use program::Limits;
 use program::Op;
 use program::Opnd;
 use program::Owner;
@@ -572,8 +571,7 @@ fn put_outcome(out: &mut [u8], s: &[u8], m: &mut [usize], w: &mut [usize]) -> us
     requires { ⌜ Cursor.size ≤ length (now w) ⌝ }
     ensures { λ r. ⌜ r ≤ length (now (out .entry)) ⌝ }
 {
-    let l = Limits::built_in();
-    match reader::read(s, m, w, l) {
+    match reader::read(s, m, w) {
         Outcome::Finished(c) => put_program(out, 0, s, m, c),
         Outcome::Refused(e) => batches::put_refused(out, 0, b"reading refused ", e),
     }

@@ -502,7 +502,7 @@ fn parse_if(s: &[u8], m: &mut [usize], w: &mut [usize], c: Cur, l: Limits, depth
     }
 }
 
-pub fn parse_statement(
+fn parse_statement(
     s: &[u8],
     m: &mut [usize],
     w: &mut [usize],

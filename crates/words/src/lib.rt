@@ -75,7 +75,7 @@ fn fit(len: usize, a: usize, n: usize) -> usize
 }
 
 // The order of two names: 0 below, 1 the same, 2 above.
-pub fn compare(s: &[u8], a: usize, n: usize, t: &[u8], b: usize, m: usize) -> u8
+fn compare(s: &[u8], a: usize, n: usize, t: &[u8], b: usize, m: usize) -> u8
     ensures { λ r. ⌜ r ≡ order (name (now (s .entry)) a n) (name (now (t .entry)) b m) ⌝ }
 {
     let n1 = fit(s.len(), a, n);

@@ -4,14 +4,14 @@ use borrow.Author.Needs.{needs}
 use Rattle.call.proofs.read_tables.Statement.{statement}
 use Rattle.call.proofs.read_tables.Tie as tie
 
-slice-relend-prefix-read-limited : tie.Need-slice-relend-prefix-read-limited
-slice-relend-prefix-read-limited c = search needs
+slice-relend-prefix-read : tie.Need-slice-relend-prefix-read
+slice-relend-prefix-read c = search needs
 
-slice-aggregate-read-limited : tie.Need-slice-aggregate-read-limited
-slice-aggregate-read-limited c = search (needs, length-take-le)
+slice-aggregate-read : tie.Need-slice-aggregate-read
+slice-aggregate-read c = search (needs, length-take-le)
 
-read-limited-requires : tie.Need-read-limited-requires
-read-limited-requires c κs = (search (needs, length-take-le), search needs)
+read-requires : tie.Need-read-requires
+read-requires c κs = (search (needs, length-take-le), search needs)
 
 same-length : tie.Need-same-length
 same-length c = search needs
@@ -26,9 +26,9 @@ pub read-tables-spec : {M : Type 1} → statement M
 read-tables-spec =
     tie.close
     (tie.spec
-    slice-relend-prefix-read-limited
-    slice-aggregate-read-limited
-    read-limited-requires
+    slice-relend-prefix-read
+    slice-aggregate-read
+    read-requires
     same-length
     same-length-2
     returns)
