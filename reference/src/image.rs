@@ -36,9 +36,12 @@ fn write(prog: &Program, result: &AnalysisResult, words: &mut [u64]) {
     }
 }
 
-/// Fills the words with the answer, or clears them; gives the refusal's number, or 0.
+/// Fills the words with the answer, or clears them; gives the refusal's number, or 0. Words that hold no answer are clear
+/// already: an answer has a function.
 pub fn image(script: &[u8], words: &mut [u64]) -> u8 {
-    words.fill(0);
+    if words[0] != 0 {
+        words.fill(0);
+    }
     match read(script).and_then(|prog| analyse(&prog).map(|result| (prog, result))) {
         Ok((prog, result)) => {
             write(&prog, &result, words);

@@ -174,19 +174,16 @@ pub answer-kept : (u u₁ : List ℕ) {p w : List ℕ} → Fresh u p w → lengt
 answer-kept u u₁ f l = l ∙ f .answer .len
 
 -- lengths are kept
-pub fresh-kept : {a p p' w w' : List ℕ} → Fresh a p w → length p' ≡ length p → length w' ≡ length w → Fresh a p' w'
-fresh-kept f k l = record { answer = f .answer; program = k ∙ f .program; state = l ∙ f .state }
+pub fresh : {a a' p p' w w' : List ℕ} → Sized a p w → a' ≡ zeros (length a) → length p' ≡ length p → length w' ≡ length w → Fresh a' p' w'
+fresh {a} {a'} z e k l = record { answer = blank a' (length a) answerLen e (z .answer); program = k ∙ z .program; state = l ∙ z .state }
 
-pub sized-kept : {a a' p p' w w' : List ℕ} → Fresh a p w → length a' ≡ length a → length p' ≡ length p → length w' ≡ length w → Sized a' p' w'
-sized-kept f j k l = record { answer = j ∙ f .answer .len; program = k ∙ f .program; state = l ∙ f .state }
+pub sized-kept : {a p p' w w' : List ℕ} → Sized a p w → length p' ≡ length p → length w' ≡ length w → Sized a p' w'
+sized-kept f k l = record { answer = f .answer; program = k ∙ f .program; state = l ∙ f .state }
 
 -- ---- analyze_parts
 
 pub cleared-is : (n : ℕ) (a p w : List ℕ) {r : Outcome} {a' p' w' : List ℕ} → r ≡ Refused n → a' ≡ zeros (length a) → p' ≡ zeros (length p) → w' ≡ zeros (length w) → Cleared r a p w a' p' w'
 cleared-is n a p w e ea ep ew = record { answer = rw e ea; program = ep; state = ew }
-
-pub fresh : {a a' p w : List ℕ} → Sized a p w → a' ≡ zeros (length a) → Fresh a' p w
-fresh {a} {a'} z e = record { answer = blank a' (length a) answerLen e (z .answer); program = z .program; state = z .state }
 
 -- what stands in the parts is what the call leaves
 left-of : (x : Answer Analysis) (r : Outcome) (a p w : List ℕ) (l : Lent) → found r a ≡ imaged x → length a ≡ answerLen

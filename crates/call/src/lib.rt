@@ -73,18 +73,21 @@ fn analyze_program(
     }
 }
 
-// The script is read, and its program analyzed.
+// The script is read, the answer part cleared, and the program analyzed.
 fn analyze_script(
     script: &[u8],
     answer: &mut [usize],
     program: &mut [usize],
     state: &mut [usize],
 ) -> Outcome
-    requires { ⌜ Fresh (now answer) (now program) (now state) ⌝ }
+    requires { ⌜ Sized (now answer) (now program) (now state) ⌝ }
     ensures { λ r. ⌜ Analyzed (now (script .entry)) r (now (answer .exit)) (now (program .exit)) (now (state .exit)) ⌝ }
 {
     match read_tables(script, program, state) {
-        reader::Outcome::Finished(c) => analyze_program(script, answer, program, state, c),
+        reader::Outcome::Finished(c) => {
+            memory::clear(answer);
+            analyze_program(script, answer, program, state, c)
+        }
         reader::Outcome::Refused(n) => Outcome::Refused(n),
     }
 }
@@ -109,7 +112,6 @@ fn analyze_parts(
     requires { ⌜ Sized (now answer) (now program) (now state) ⌝ }
     ensures { λ r. ⌜ Ran (now (script .entry)) r (now (answer .exit)) (now (program .exit)) (now (state .exit)) ⌝ }
 {
-    memory::clear(answer);
     let r = analyze_script(script, answer, program, state);
     clear_parts(answer, program, state, r);
     r

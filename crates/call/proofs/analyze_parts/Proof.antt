@@ -1,13 +1,10 @@
-use Rattle.call.proofs.Laws.{fresh, ran-is}
+use Rattle.call.proofs.Laws.{ran-is}
 use borrow.Author.Needs.{needs}
 use Rattle.call.proofs.analyze_parts.Statement.{statement}
 use Rattle.call.proofs.analyze_parts.Tie as tie
 
-clear-requires : tie.Need-clear-requires
-clear-requires c κs = search needs
-
 analyze-script-requires : tie.Need-analyze-script-requires
-analyze-script-requires c κs = search fresh
+analyze-script-requires c κs = search needs
 
 clear-parts-requires : tie.Need-clear-parts-requires
 clear-parts-requires c κs = search needs
@@ -28,7 +25,6 @@ pub analyze-parts-spec : {M : Type 1} → statement M
 analyze-parts-spec =
     tie.close
     (tie.spec
-    clear-requires
     analyze-script-requires
     clear-parts-requires
     same-length

@@ -1,4 +1,4 @@
-use Rattle.call.proofs.Laws.{reading-refused, reading-finished, parsed, fresh-kept, sized-kept}
+use Rattle.call.proofs.Laws.{reading-refused, reading-finished, parsed, fresh, sized-kept}
 use borrow.Author.Needs.{needs}
 use Rattle.call.proofs.analyze_script.Statement.{statement}
 use Rattle.call.proofs.analyze_script.Tie as tie
@@ -9,8 +9,11 @@ read-tables-requires c κs = search needs
 enum-known-c : tie.Need-enum-known-c
 enum-known-c c = search needs
 
+clear-requires : tie.Need-clear-requires
+clear-requires c κs = search needs
+
 analyze-program-requires : tie.Need-analyze-program-requires
-analyze-program-requires c κs = (search parsed, search fresh-kept)
+analyze-program-requires c κs = (search parsed, search fresh)
 
 enum-known-n : tie.Need-enum-known-n
 enum-known-n c = search needs
@@ -42,6 +45,7 @@ analyze-script-spec =
     (tie.spec
     read-tables-requires
     enum-known-c
+    clear-requires
     analyze-program-requires
     enum-known-n
     same-length
