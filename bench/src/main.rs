@@ -101,12 +101,24 @@ fn variables(n: usize, depth: usize) -> String {
             each(n, |i| format!("x{} ", var(i))))
 }
 
-/// A ring of parameters whose kinds widen one class at a time: many entries for few bytes.
-fn ring(params: usize, classes: usize, calls: usize, sums: usize) -> String {
+/// Two letters.
+fn pair(i: usize) -> String {
+    let letter = |i: usize| if i < 26 { (b'a' + i as u8) as char } else { (b'A' + (i - 26) as u8) as char };
+    [letter(i / 52 % 52), letter(i % 52)].iter().collect()
+}
+
+/// Names that are set under nested choices and nowhere else, over many bindings: each is looked up in vain at each join.
+fn joins(names: usize, bindings: usize, depth: usize) -> String {
+    let set: Vec<String> = (0..).map(pair).filter(|n| n != "if").take(names).map(|n| format!("{n}=a")).collect();
+    format!("def feed(c)a=nil {} {}{}{} end def main() feed(1)feed(2)end", "b=1".repeat(bindings), "if c ".repeat(depth), set.join(" "), " end".repeat(depth))
+}
+
+/// A ring of parameters, handed on from `step` on, whose kinds widen one class at a time: many entries for few bytes.
+fn ring(params: usize, classes: usize, calls: usize, sums: usize, step: usize) -> String {
     let list = |from: usize| (0..params).map(|i| name('p', (from + i) % params)).collect::<Vec<_>>().join(",");
-    let objects: Vec<String> = (0..params).map(|i| if i < classes { format!("{}.new()", name('C', i)) } else { ["1", "nil", "true"][i % 3].into() }).collect();
+    let objects: Vec<String> = (0..params).map(|i| if i < classes { format!("{}.new()", name('C', i)) } else { "nil".into() }).collect();
     format!("{}def k({}) {}{} end def main() k({}) end", each(classes, |i| format!("class {} end ", name('C', i))), list(0),
-            each(calls, |_| format!("k({}) ", list(1))), each(sums, |i| format!("{} ", name('p', i % params))), objects.join(","))
+            each(calls, |_| format!("k({}) ", list(step))), each(sums, |i| format!("{}+1 ", name('p', i % params))), objects.join(","))
 }
 
 fn fitting(make: impl Fn(usize) -> String, most: usize) -> Vec<u8> {
@@ -129,7 +141,7 @@ fn scripts() -> Vec<(String, Vec<u8>)> {
         add("choices", fitting(choices, most));
         add("objects", fitting(|n| objects(n), most));
         add("variables", fitting(|n| variables(n, (n / 8).clamp(1, 60)), most));
-        add("ring", fitting(|n| ring(n.min(66), n.min(60), 1 + n / 60, 0), most));
+        add("ring", fitting(|n| ring(n.min(66), n.min(60), 1 + n / 60, 0, 1), most));
     }
     let mut made = 0;
     for i in 0.. {
@@ -154,6 +166,9 @@ fn scripts() -> Vec<(String, Vec<u8>)> {
     if best.0 > 0 {
         all.push(("full waiting lists".into(), best.1));
     }
+    // what a search for the largest count and for the longest time came to
+    all.push(("16 KB joins".into(), joins(1_520, 2_545, 120).into_bytes()));
+    all.push(("largest count found".into(), ring(48, 19, 28, 1_184, 13).into_bytes()));
     all
 }
 
