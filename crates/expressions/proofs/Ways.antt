@@ -40,6 +40,9 @@ use Rattle.parser.proofs.Wording.{is-yes, is-no, literal-yes, literal-no, spelt
 
 -- ---- steps over words
 
+pub sees-word : {s : List ℕ} {c : Cur} {r : Lexed} {x : Word} → Sees s c r → r ≡ Seen.Found x → Sees s c (Seen.Found x)
+sees-word see e = rw e at see
+
 module _ {s m w : List ℕ} {c : Cur} (h : In s m w c) where
   pub open-here : Open m c
   open-here = record { tables = h .ready .tables; block = h .block }
@@ -338,3 +341,7 @@ module _ (L : P.Limits) (s : List ℕ) (E : ℕ → Reads P.Opnd) where
               let q = word-read see e in
               ends-as (step-none c w) (omega arith) d
               (rw (← peek-found see m w e, literal-no x q no, is-no x q "(" spelt-open no2, is-no x q "@" spelt-at k))
+
+pub expr-unseen : (L : P.Limits) (s : List ℕ) (d prec : ℕ) {m w m' w' : List ℕ} {c : Cur} {r : Lexed} {n : ℕ} → (d ≡ 0 → ⊥) → Sees s c r → r ≡ Seen.Refused n
+    → Did (parseExpr L s d prec) 1 s m w c m' w' (parsedOf (Refused n))
+expr-unseen L s d prec {n = n} f see e = expr-no L s d prec {p = Refused n} f (primary-none L s (parseExpr L s (d - 1)) see e) refl

@@ -11,14 +11,16 @@ use program::Limits;
 use program::Op;
 use program::Opnd;
 use words::Lexed;
+use words::Word;
 ghost use mathlib.Core.Path.{_≡_};
 ghost use Prim.Native.Nat.{_*_, _≤_, _<_};
 ghost use Rattle.rules.specs.Actions.{loop as loop_of};
 ghost use Rattle.rules.specs.Reading.{turns, parseGroup, parseIvar, parseName, parsePrimary, parseArgs, parseCall, parseMember, parseRight, operator, parseSuffix, parseExpr};
+ghost use Rattle.words.specs.declared.Lexed.the-variants.{Found};
 ghost use Rattle.program.specs.Rows.{opndOf};
 ghost use Rattle.program.specs.View.{Small, limitsOf};
 ghost use Rattle.parser.specs.Cursor.{In};
-ghost use Rattle.parser.specs.Promises.{Did, parsedOf};
+ghost use Rattle.parser.specs.Promises.{Did, Sees, parsedOf};
 ghost use Rattle.expressions.specs.Readers.{Agains, takenOf, ArgDid, ArgsDid, SuffixDid};
 
 // After one argument: on to the next, or the end of the arguments.
@@ -101,12 +103,22 @@ fn parse_ivar(s: &[u8], m: &mut [usize], w: &mut [usize], c: Cur, l: Limits, dep
     }
 }
 
-fn parse_name(s: &[u8], m: &mut [usize], w: &mut [usize], c: Cur, l: Limits, depth: usize) -> Parsed
+// From the word x on, which is the next.
+fn parse_name(
+    s: &[u8],
+    m: &mut [usize],
+    w: &mut [usize],
+    c: Cur,
+    l: Limits,
+    x: Word,
+    depth: usize,
+) -> Parsed
     requires { ⌜ In (now s) (now m) (now w) c ⌝ }
     requires { ⌜ Small l ⌝ }
+    requires { ⌜ Sees (now s) c (Found x) ⌝ }
     ensures { λ r. ⌜ Did (parseName (limitsOf l) (now (s .entry)) (parseExpr (limitsOf l) (now (s .entry)) depth)) 1 (now (s .entry)) (now (m .entry)) (now (w .entry)) c (now (m .exit)) (now (w .exit)) (parsedOf r) ⌝ }
 {
-    match parser::expect_ident(s, c) {
+    match parser::ident_of(c, x) {
         Ident::Refused(e) => Parsed::Refused(e),
         Ident::Found(c1, n) => match parser::match_token(s, c1, b'=') {
             Matched::Refused(f) => Parsed::Refused(f),
@@ -119,33 +131,31 @@ fn parse_name(s: &[u8], m: &mut [usize], w: &mut [usize], c: Cur, l: Limits, dep
     }
 }
 
+// From the word x on, which is the next.
 fn parse_primary(
     s: &[u8],
     m: &mut [usize],
     w: &mut [usize],
     c: Cur,
     l: Limits,
+    x: Word,
     depth: usize,
 ) -> Parsed
     requires { ⌜ In (now s) (now m) (now w) c ⌝ }
     requires { ⌜ Small l ⌝ }
+    requires { ⌜ Sees (now s) c (Found x) ⌝ }
     ensures { λ r. ⌜ Did (parsePrimary (limitsOf l) (now (s .entry)) (parseExpr (limitsOf l) (now (s .entry)) depth)) 1 (now (s .entry)) (now (m .entry)) (now (w .entry)) c (now (m .exit)) (now (w .exit)) (parsedOf r) ⌝ }
 {
-    match parser::peek(s, c) {
-        Lexed::Refused(e) => Parsed::Refused(e),
-        Lexed::Found(x) => {
-            if x.kind == words::NUMBER {
-                return Parsed::Done(parser::move_to(c, x.next), parser::number(x.value));
-            }
-            if x.kind == b'(' {
-                return parse_group(s, m, w, parser::move_to(c, x.next), l, depth);
-            }
-            if x.kind == b'@' {
-                return parse_ivar(s, m, w, parser::move_to(c, x.next), l, depth);
-            }
-            parse_name(s, m, w, c, l, depth)
-        }
+    if x.kind == words::NUMBER {
+        return Parsed::Done(parser::move_to(c, x.next), parser::number(x.value));
     }
+    if x.kind == b'(' {
+        return parse_group(s, m, w, parser::move_to(c, x.next), l, depth);
+    }
+    if x.kind == b'@' {
+        return parse_ivar(s, m, w, parser::move_to(c, x.next), l, depth);
+    }
+    parse_name(s, m, w, c, l, x, depth)
 }
 
 // One argument; a comma may stand behind the last.
@@ -161,7 +171,7 @@ fn parse_arg(s: &[u8], m: &mut [usize], w: &mut [usize], c: Cur, l: Limits, dept
             if x.kind == b')' {
                 return ArgTurn::Ends(c);
             }
-            match parse_expr(s, m, w, c, l, 0, depth) {
+            match parse_from(s, m, w, c, l, x, 0, depth) {
                 Parsed::Refused(e) => ArgTurn::Refused(e),
                 Parsed::Done(c1, v) => {
                     let c2 = parser::push_arg(w, c1, v);
@@ -337,6 +347,33 @@ fn parse_suffixes(
     }
 }
 
+// From the word x on, which is the next.
+pub fn parse_from(
+    s: &[u8],
+    m: &mut [usize],
+    w: &mut [usize],
+    c: Cur,
+    l: Limits,
+    x: Word,
+    prec: usize,
+    depth: usize,
+) -> Parsed
+    requires { ⌜ In (now s) (now m) (now w) c ⌝ }
+    requires { ⌜ Small l ⌝ }
+    requires { ⌜ Sees (now s) c (Found x) ⌝ }
+    ensures { λ r. ⌜ Did (parseExpr (limitsOf l) (now (s .entry)) depth prec) 1 (now (s .entry)) (now (m .entry)) (now (w .entry)) c (now (m .exit)) (now (w .exit)) (parsedOf r) ⌝ }
+{
+    if 0 < depth {
+        let d = depth - 1;
+        match parse_primary(s, m, w, c, l, x, d) {
+            Parsed::Done(c1, v) => parse_suffixes(s, m, w, c1, l, v, prec, d),
+            Parsed::Refused(e) => Parsed::Refused(e),
+        }
+    } else {
+        Parsed::Refused(11)
+    }
+}
+
 // The reference's `parse_`: it counts towards the depth as it is entered, before a word is looked at.
 pub fn parse_expr(
     s: &[u8],
@@ -354,9 +391,8 @@ pub fn parse_expr(
     if depth == 0 {
         return Parsed::Refused(11);
     }
-    let d = depth - 1;
-    match parse_primary(s, m, w, c, l, d) {
-        Parsed::Done(c1, v) => parse_suffixes(s, m, w, c1, l, v, prec, d),
-        Parsed::Refused(e) => Parsed::Refused(e),
+    match parser::peek(s, c) {
+        Lexed::Found(x) => parse_from(s, m, w, c, l, x, prec, depth),
+        Lexed::Refused(e) => Parsed::Refused(e),
     }
 }

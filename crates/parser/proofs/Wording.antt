@@ -20,6 +20,7 @@ use Rattle.parser.specs.Cursor.{parserOf, moveCur}
 use Rattle.parser.specs.Promises.{Spelt, Sees, Idents, Expects, Matches}
 use Rattle.parser.specs.declared.Cur.{Cur}
 use Rattle.parser.specs.declared.Moved.the-variants as Moved
+use Rattle.parser.specs.declared.Ident.{Ident}
 use Rattle.parser.specs.declared.Ident.the-variants as Ident
 use Rattle.parser.specs.declared.Matched.the-variants as Matched
 use Rattle.program.specs.declared.Name.{Name}
@@ -157,6 +158,9 @@ module _ {s : List ℕ} {c : Cur} {r : Lexed} (l : Sees s c r) where
         moves = record { is = λ m w. rw (← next-found l m w f, ident-no x (word-read l f) q); ok = tt };
         inside = λ d k h i. let z : _≡_ {A = ℕ} 0 1 = cc in absurd (omega arith);
       }
+
+  pub ident-taken : {x : Word} {i : Ident} → ((z : List ℕ) → Sees z c (Found x) → Idents z c i) → r ≡ Found x → Idents s c i
+  ident-taken a f = a s (rw f at l)
 
   pub ident-none : {e : ℕ} → r ≡ Refused e → Idents s c (Ident.Refused e)
   unfolding expectIdent

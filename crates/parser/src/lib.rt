@@ -14,6 +14,7 @@ use sets::BlockId;
 use sets::FunId;
 use sets::InsnId;
 use words::Lexed;
+use words::Word;
 ghost use mathlib.Core.Path.{_≡_};
 ghost use mathlib.Core.List.{List, map};
 ghost use Prim.Native.Nat.{ℕ, _+_, _≤_, _<_};
@@ -23,6 +24,7 @@ ghost use Rattle.kinds.specs.declared.Kind.the-variants.{Num};
 ghost use Rattle.rules.specs.Program as P;
 ghost use Rattle.rules.specs.Values.{functionIn, classIn};
 ghost use Rattle.rules.specs.Reading.{constantOf, push as push_of};
+ghost use Rattle.words.specs.declared.Lexed.the-variants.{Found};
 ghost use Rattle.program.specs.Rows.{opndOf, opIn, given, nameIn, ownerIn};
 ghost use Rattle.program.specs.View.{Small, limitsOf, calleeIn};
 ghost use Rattle.parser.specs.Cursor.{size, waiting, moveCur, countCur, stackCur, Open};
@@ -112,7 +114,7 @@ pub fn move_to(c: Cur, at: usize) -> Cur
 pub fn peek(s: &[u8], c: Cur) -> Lexed
     ensures { λ r. ⌜ Sees (now (s .entry)) c r ⌝ }
 {
-    words::word_at(s, c.at)
+    words::read_word(s, c.at)
 }
 
 // The word of kind k is taken.
@@ -132,23 +134,28 @@ pub fn expect(s: &[u8], c: Cur, k: u8) -> Moved
     }
 }
 
+// The name that the next word x is.
+pub fn ident_of(c: Cur, x: Word) -> Ident
+    ensures { λ r. ⌜ ((s : List ℕ) → Sees s c (Found x) → Idents s c r) ⌝ }
+{
+    if x.kind == words::NAME {
+        Ident::Found(
+            move_to(c, x.next),
+            Name {
+                start: x.start,
+                len: x.len,
+            },
+        )
+    } else {
+        Ident::Refused(5)
+    }
+}
+
 pub fn expect_ident(s: &[u8], c: Cur) -> Ident
     ensures { λ r. ⌜ Idents (now (s .entry)) c r ⌝ }
 {
     match peek(s, c) {
-        Lexed::Found(w) => {
-            if w.kind == words::NAME {
-                Ident::Found(
-                    move_to(c, w.next),
-                    Name {
-                        start: w.start,
-                        len: w.len,
-                    },
-                )
-            } else {
-                Ident::Refused(5)
-            }
-        }
+        Lexed::Found(w) => ident_of(c, w),
         Lexed::Refused(e) => Ident::Refused(e),
     }
 }

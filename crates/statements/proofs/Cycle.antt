@@ -23,7 +23,6 @@ use Rattle.program.specs.declared.Limits.{Limits}
 use Rattle.program.specs.declared.Op.the-variants.{Jump}
 use Rattle.program.specs.declared.Opnd.{Opnd}
 use Rattle.program.specs.declared.Opnd.the-variants.{Const}
-use Rattle.words.specs.declared.Lexed.{Lexed}
 use Rattle.words.specs.declared.Lexed.the-variants as W
 use Rattle.words.specs.declared.Word.{Word}
 use Rattle.words.proofs.Texts.{fixed-kind}
@@ -37,7 +36,7 @@ use Rattle.parser.specs.declared.Moved.the-variants as On
 use Rattle.parser.specs.declared.Parsed.{Parsed}
 use Rattle.parser.specs.declared.Parsed.the-variants.{Done, Refused}
 use Rattle.parser.proofs.Laws.{after-step, Went, got, gave, refuses, arrives, ends-as, moved-did, added-did, in-moved, step-moved, step-less, step-trans, step-none}
-use Rattle.parser.proofs.Wording.{spelt-else, is-yes, is-no, word-read, peek-found, peek-none, pass-found}
+use Rattle.parser.proofs.Wording.{spelt-else, is-yes, is-no, word-read, peek-found, pass-found}
 use Rattle.statements.specs.declared.Branch.{Branch}
 use Rattle.statements.specs.declared.Opened.{Opened}
 use Rattle.statements.specs.declared.Opened.the-variants as O
@@ -102,7 +101,7 @@ module _ {l : Limits} {s : List ℕ} {arm : 𝔹} {d : ℕ} {m₀ w₀ : List �
       go zero x y = absurd (omega (arith, i .here .ready .inside))
       go (suc k) x y = let h = rw f at (a .is m w) in rw (next-is L s arm S (opndOf v) (parserOf s m w c), ← h) at x
 
-  module _ (f : r ≡ H.Not) {p : Parsed} {m1 w1 : List ℕ} (b : Did S 1 s m w c m1 w1 (parsedOf p)) where
+  module _ {x : Word} (f : r ≡ H.Not x) {p : Parsed} {m1 w1 : List ℕ} (b : Did S 1 s m w c m1 w1 (parsedOf p)) where
     pub going-no : {e : ℕ} → p ≡ Refused e → All m1 w1 (parsedOf (Refused e))
     going-no {e} g = refuses (go (i .turns) (i .same) (i .enough))
       where
@@ -354,49 +353,43 @@ spelt-return x = fixed-kind x 3 (omega arith)
 spelt-if : Spelt 7 "if"
 spelt-if x = fixed-kind x 4 (omega arith)
 
-module _ (l : Limits) {s : List ℕ} {m w : List ℕ} {c : Cur} (h : In s m w c) {r : Lexed} (v : Sees s c r) where
+module _ (l : Limits) {s : List ℕ} {m w : List ℕ} {c : Cur} (h : In s m w c) {x : Word} (v : Sees s c (W.Found x)) where
   abbrev States : ℕ → List ℕ → List ℕ → Out P.Opnd → Type 0
   States d m' w' o = Did (parseStatement (View.limitsOf l) s d) 1 s m w c m' w' o
 
-  pub state-none : (d : ℕ) {e : ℕ} → r ≡ W.Refused e → States d m w (parsedOf (Refused e))
+  further : c .at + 1 ≤ x .next → Step 1 c w (moveCur (x .next) c) w
+  further = step-moved c w 1 (x .next)
+
+  past : (x .kind ≡ 0 → ⊥) → (c .at + 1 ≤ x .next) × (x .next ≤ length s)
+  past z = let k = word-read v refl in (omega (arith, k .on z), k .inside (h .ready .inside))
+
+  pub state-in : {c1 : Cur} → (x .kind ≡ 0 → ⊥) → c1 ≡ moveCur (x .next) c → In s m w c1
+  state-in z i = rw i (in-moved h (x .next) (omega (arith, past z)) (past z .1))
+
+  pub state-return : (d : ℕ) {c1 : Cur} {m' w' : List ℕ} {o : Out P.Opnd} → x .kind ≡ 6 → c1 ≡ moveCur (x .next) c
+      → Did (parseReturn (View.limitsOf l) s (parseExpr (View.limitsOf l) s d)) 1 s m w c1 m' w' o → States d m' w' o
   unfolding parseStatement statementBy
-  state-none zero e = refuses (rw (← peek-none v m w e))
-  state-none (suc d) e = refuses (rw (← peek-none v m w e))
+  state-return zero k i a =
+      let b = rw i at a in
+      ends-as (further (past (λ z. omega arith) .0)) (omega arith) b (rw (← peek-found v m w refl, is-yes x (word-read v refl) "return" spelt-return k, ← pass-found v m w refl))
+  state-return (suc d) k i a =
+      let b = rw i at a in
+      ends-as (further (past (λ z. omega arith) .0)) (omega arith) b (rw (← peek-found v m w refl, is-yes x (word-read v refl) "return" spelt-return k, ← pass-found v m w refl))
 
-  module _ {x : Word} (e : r ≡ W.Found x) where
-    further : c .at + 1 ≤ x .next → Step 1 c w (moveCur (x .next) c) w
-    further = step-moved c w 1 (x .next)
+  pub state-deep : (d : ℕ) → (x .kind ≡ 6 → ⊥) → x .kind ≡ 7 → d ≡ 0 → States d m w (parsedOf (Refused 11))
+  unfolding parseStatement statementBy
+  state-deep d n k z = rw z (refuses (rw (← peek-found v m w refl, is-no x (word-read v refl) "return" spelt-return n, is-yes x (word-read v refl) "if" spelt-if k, ← pass-found v m w refl)))
 
-    past : (x .kind ≡ 0 → ⊥) → (c .at + 1 ≤ x .next) × (x .next ≤ length s)
-    past z = let k = word-read v e in (omega (arith, k .on z), k .inside (h .ready .inside))
+  pub state-if : (d : ℕ) {c1 : Cur} {m' w' : List ℕ} {o : Out P.Opnd} → (x .kind ≡ 6 → ⊥) → x .kind ≡ 7 → (d ≡ 0 → ⊥) → c1 ≡ moveCur (x .next) c
+      → Did (parseIf (View.limitsOf l) s (parseExpr (View.limitsOf l) s (d - 1)) (parseStatement (View.limitsOf l) s (d - 1))) 1 s m w c1 m' w' o → States d m' w' o
+  unfolding parseStatement statementBy
+  state-if zero n k z i a = absurd (z refl)
+  state-if (suc d) n k z i a =
+      let j : suc d - 1 ≡ d = omega arith in
+      let b = rw (i, j) at a in
+      ends-as (further (past (λ z. omega arith) .0)) (omega arith) b (rw (← peek-found v m w refl, is-no x (word-read v refl) "return" spelt-return n, is-yes x (word-read v refl) "if" spelt-if k, ← pass-found v m w refl))
 
-    pub state-in : {c1 : Cur} → (x .kind ≡ 0 → ⊥) → c1 ≡ moveCur (x .next) c → In s m w c1
-    state-in z i = rw i (in-moved h (x .next) (omega (arith, past z)) (past z .1))
-
-    pub state-return : (d : ℕ) {c1 : Cur} {m' w' : List ℕ} {o : Out P.Opnd} → x .kind ≡ 6 → c1 ≡ moveCur (x .next) c
-        → Did (parseReturn (View.limitsOf l) s (parseExpr (View.limitsOf l) s d)) 1 s m w c1 m' w' o → States d m' w' o
-    unfolding parseStatement statementBy
-    state-return zero k i a =
-        let b = rw i at a in
-        ends-as (further (past (λ z. omega arith) .0)) (omega arith) b (rw (← peek-found v m w e, is-yes x (word-read v e) "return" spelt-return k, ← pass-found v m w e))
-    state-return (suc d) k i a =
-        let b = rw i at a in
-        ends-as (further (past (λ z. omega arith) .0)) (omega arith) b (rw (← peek-found v m w e, is-yes x (word-read v e) "return" spelt-return k, ← pass-found v m w e))
-
-    pub state-deep : (d : ℕ) → (x .kind ≡ 6 → ⊥) → x .kind ≡ 7 → d ≡ 0 → States d m w (parsedOf (Refused 11))
-    unfolding parseStatement statementBy
-    state-deep d n k z = rw z (refuses (rw (← peek-found v m w e, is-no x (word-read v e) "return" spelt-return n, is-yes x (word-read v e) "if" spelt-if k, ← pass-found v m w e)))
-
-    pub state-if : (d : ℕ) {c1 : Cur} {m' w' : List ℕ} {o : Out P.Opnd} → (x .kind ≡ 6 → ⊥) → x .kind ≡ 7 → (d ≡ 0 → ⊥) → c1 ≡ moveCur (x .next) c
-        → Did (parseIf (View.limitsOf l) s (parseExpr (View.limitsOf l) s (d - 1)) (parseStatement (View.limitsOf l) s (d - 1))) 1 s m w c1 m' w' o → States d m' w' o
-    unfolding parseStatement statementBy
-    state-if zero n k z i a = absurd (z refl)
-    state-if (suc d) n k z i a =
-        let j : suc d - 1 ≡ d = omega arith in
-        let b = rw (i, j) at a in
-        ends-as (further (past (λ z. omega arith) .0)) (omega arith) b (rw (← peek-found v m w e, is-no x (word-read v e) "return" spelt-return n, is-yes x (word-read v e) "if" spelt-if k, ← pass-found v m w e))
-
-    pub state-expr : (d : ℕ) {m' w' : List ℕ} {o : Out P.Opnd} → (x .kind ≡ 6 → ⊥) → (x .kind ≡ 7 → ⊥) → Did (parseExpr (View.limitsOf l) s d 0) 1 s m w c m' w' o → States d m' w' o
-    unfolding parseStatement statementBy
-    state-expr zero n k a = record { is = a .is ∙ rw (← peek-found v m w e, is-no x (word-read v e) "return" spelt-return n, is-no x (word-read v e) "if" spelt-if k); ok = a .ok }
-    state-expr (suc d) n k a = record { is = a .is ∙ rw (← peek-found v m w e, is-no x (word-read v e) "return" spelt-return n, is-no x (word-read v e) "if" spelt-if k); ok = a .ok }
+  pub state-expr : (d : ℕ) {m' w' : List ℕ} {o : Out P.Opnd} → (x .kind ≡ 6 → ⊥) → (x .kind ≡ 7 → ⊥) → Did (parseExpr (View.limitsOf l) s d 0) 1 s m w c m' w' o → States d m' w' o
+  unfolding parseStatement statementBy
+  state-expr zero n k a = record { is = a .is ∙ rw (← peek-found v m w refl, is-no x (word-read v refl) "return" spelt-return n, is-no x (word-read v refl) "if" spelt-if k); ok = a .ok }
+  state-expr (suc d) n k a = record { is = a .is ∙ rw (← peek-found v m w refl, is-no x (word-read v refl) "return" spelt-return n, is-no x (word-read v refl) "if" spelt-if k); ok = a .ok }

@@ -202,25 +202,25 @@ module _ (l : Limits) (s : List ℕ) (d : ℕ) {m w : List ℕ} {c : Cur} {p : P
 module _ {s : List ℕ} {c : Cur} {r : Lexed} (v : Sees s c r) where
   pub halts-none : (arm : 𝔹) {e : ℕ} → r ≡ W.Refused e → Halts s arm c (H.Refused e)
   unfolding halts
-  halts-none arm f = record { is = λ m w. rw (← peek-none v m w f) }
+  halts-none arm f = record { is = λ m w. rw (← peek-none v m w f); next = λ y g. let z : _≡_ {A = ℕ} 0 1 = cc in absurd (omega arith) }
 
   module _ {x : Word} (f : r ≡ W.Found x) where
     pub halts-end : (arm : 𝔹) → x .kind ≡ 5 → Halts s arm c H.Here
     unfolding halts
-    halts-end true k = record { is = λ m w. rw (← peek-found v m w f, is-yes x (word-read v f) "end" spelt-end k) }
-    halts-end false k = record { is = λ m w. rw (← peek-found v m w f, is-yes x (word-read v f) "end" spelt-end k) }
+    halts-end true k = record { is = λ m w. rw (← peek-found v m w f, is-yes x (word-read v f) "end" spelt-end k); next = λ y g. let z : _≡_ {A = ℕ} 0 1 = cc in absurd (omega arith) }
+    halts-end false k = record { is = λ m w. rw (← peek-found v m w f, is-yes x (word-read v f) "end" spelt-end k); next = λ y g. let z : _≡_ {A = ℕ} 0 1 = cc in absurd (omega arith) }
 
     pub halts-else : {arm : 𝔹} → (x .kind ≡ 5 → ⊥) → arm ≡ true → x .kind ≡ 8 → Halts s arm c H.Here
     unfolding halts
-    halts-else k a j = record { is = λ m w. rw (a, ← peek-found v m w f, is-no x (word-read v f) "end" spelt-end k, is-yes x (word-read v f) "else" spelt-else j) }
+    halts-else k a j = record { is = λ m w. rw (a, ← peek-found v m w f, is-no x (word-read v f) "end" spelt-end k, is-yes x (word-read v f) "else" spelt-else j); next = λ y g. let z : _≡_ {A = ℕ} 0 1 = cc in absurd (omega arith) }
 
-    pub halts-not : {arm : 𝔹} → (x .kind ≡ 5 → ⊥) → arm ≡ true → (x .kind ≡ 8 → ⊥) → Halts s arm c H.Not
+    pub halts-not : {arm : 𝔹} → (x .kind ≡ 5 → ⊥) → arm ≡ true → (x .kind ≡ 8 → ⊥) → Halts s arm c (H.Not x)
     unfolding halts
-    halts-not k a j = record { is = λ m w. rw (a, ← peek-found v m w f, is-no x (word-read v f) "end" spelt-end k, is-no x (word-read v f) "else" spelt-else j) }
+    halts-not k a j = record { is = λ m w. rw (a, ← peek-found v m w f, is-no x (word-read v f) "end" spelt-end k, is-no x (word-read v f) "else" spelt-else j); next = λ y g. let z : x ≡ y = cc in rw (f, z) at v }
 
-    pub halts-on : {arm : 𝔹} → (x .kind ≡ 5 → ⊥) → arm ≡ false → Halts s arm c H.Not
+    pub halts-on : {arm : 𝔹} → (x .kind ≡ 5 → ⊥) → arm ≡ false → Halts s arm c (H.Not x)
     unfolding halts
-    halts-on k a = record { is = λ m w. rw (a, ← peek-found v m w f, is-no x (word-read v f) "end" spelt-end k) }
+    halts-on k a = record { is = λ m w. rw (a, ← peek-found v m w f, is-no x (word-read v f) "end" spelt-end k); next = λ y g. let z : x ≡ y = cc in rw (f, z) at v }
 
 -- ---- join_vars
 

@@ -17,9 +17,11 @@ use Rattle.program.specs.declared.Given.{Given}
 use Rattle.program.specs.declared.Limits.{Limits}
 use Rattle.program.specs.declared.Op.{Op}
 use Rattle.program.specs.declared.Opnd.{Opnd}
+use Rattle.words.specs.declared.Lexed.the-variants.{Found}
+use Rattle.words.specs.declared.Word.{Word}
 use Rattle.joins.specs.declared.Blocks.{Blocks}
 use Rattle.parser.specs.Cursor.{parserOf, countCur, In, Step}
-use Rattle.parser.specs.Promises.{Out, done, stop, outcome, After, Adds, movedOf, parsedOf}
+use Rattle.parser.specs.Promises.{Out, done, stop, outcome, After, Adds, Sees, movedOf, parsedOf}
 use Rattle.parser.specs.declared.Cur.{Cur}
 use Rattle.parser.specs.declared.Moved.{Moved}
 use Rattle.parser.specs.declared.Parsed.{Parsed}
@@ -46,7 +48,7 @@ openedOf (O.Refused e) = stop e
 
 abbrev pub stopsOf : Cur → Stops → Out 𝔹
 stopsOf c H.Here = done true c
-stopsOf c H.Not = done false c
+stopsOf c (H.Not x) = done false c
 stopsOf c (H.Refused e) = stop e
 
 unfoldable pub halts : List ℕ → 𝔹 → Reads 𝔹
@@ -56,6 +58,7 @@ halts s arm = do
 
 pub record Halts (s : List ℕ) (arm : 𝔹) (c : Cur) (r : Stops) : Type 0 where
   pub is : (m w : List ℕ) → outcome s m w (stopsOf c r) ≡ halts s arm (parserOf s m w c)
+  pub next : (x : Word) → r ≡ H.Not x → Sees s c (Found x)
 
 -- ---- additions to the tables
 

@@ -15,15 +15,17 @@ use program::Op;
 use program::Opnd;
 use sets::BlockId;
 use words::Lexed;
+use words::Word;
 ghost use mathlib.Core.Path.{_≡_};
 ghost use Prim.Native.Nat.{_-_, _<_};
 ghost use Rattle.rules.specs.Reading.{parseExpr, parseReturn, parseIf, parseStatements, parseStatement};
 ghost use Rattle.scopes.specs.Sorted.{Sorted};
 ghost use Rattle.env.specs.Memory.{row, vars};
+ghost use Rattle.words.specs.declared.Lexed.the-variants.{Found};
 ghost use Rattle.program.specs.Rows.{opndOf};
 ghost use Rattle.program.specs.View.{Ready, Small, limitsOf};
 ghost use Rattle.parser.specs.Cursor.{In};
-ghost use Rattle.parser.specs.Promises.{Did, parsedOf};
+ghost use Rattle.parser.specs.Promises.{Did, Sees, parsedOf};
 ghost use Rattle.statements.specs.Acts.{stopsAt, parseArm, joinValue, finishIf, parseElse};
 ghost use Rattle.statements.specs.Shape.{blockCur, varsCur, Opens, AddsEnd, EndsBlock, Halts, Inside, Arm, DidFrom, OpensElse, JoinsArms, FinishesElse};
 
@@ -43,10 +45,10 @@ pub struct Branch {
     pub value: Opnd,
 }
 
-// Whether statements end at the next word.
+// Whether statements end at the next word; if not, that word.
 pub enum Stops {
     Here,
-    Not,
+    Not(Word),
     Refused(u8),
 }
 
@@ -355,9 +357,9 @@ fn at_end(s: &[u8], c: Cur, arm: bool) -> Stops
                 if x.kind == words::ELSE {
                     return Stops::Here;
                 }
-                return Stops::Not;
+                return Stops::Not(x);
             }
-            Stops::Not
+            Stops::Not(x)
         }
         Lexed::Refused(e) => Stops::Refused(e),
     }
@@ -387,7 +389,7 @@ pub fn parse_statements(
             Stops::Here => {
                 return Parsed::Done(cur, v);
             }
-            Stops::Not => match parse_statement(s, m, w, cur, l, depth) {
+            Stops::Not(x) => match parse_statement(s, m, w, cur, l, x, depth) {
                 Parsed::Refused(e) => {
                     return Parsed::Refused(e);
                 }
@@ -502,31 +504,29 @@ fn parse_if(s: &[u8], m: &mut [usize], w: &mut [usize], c: Cur, l: Limits, depth
     }
 }
 
+// From the word x on, which is the next.
 fn parse_statement(
     s: &[u8],
     m: &mut [usize],
     w: &mut [usize],
     c: Cur,
     l: Limits,
+    x: Word,
     depth: usize,
 ) -> Parsed
     requires { ⌜ In (now s) (now m) (now w) c ⌝ }
     requires { ⌜ Small l ⌝ }
+    requires { ⌜ Sees (now s) c (Found x) ⌝ }
     ensures { λ r. ⌜ Did (parseStatement (limitsOf l) (now (s .entry)) depth) 1 (now (s .entry)) (now (m .entry)) (now (w .entry)) c (now (m .exit)) (now (w .exit)) (parsedOf r) ⌝ }
 {
-    match parser::peek(s, c) {
-        Lexed::Refused(e) => Parsed::Refused(e),
-        Lexed::Found(x) => {
-            if x.kind == words::RETURN {
-                return parse_return(s, m, w, parser::move_to(c, x.next), l, depth);
-            }
-            if x.kind == words::IF {
-                if depth == 0 {
-                    return Parsed::Refused(11);
-                }
-                return parse_if(s, m, w, parser::move_to(c, x.next), l, depth - 1);
-            }
-            expressions::parse_expr(s, m, w, c, l, 0, depth)
-        }
+    if x.kind == words::RETURN {
+        return parse_return(s, m, w, parser::move_to(c, x.next), l, depth);
     }
+    if x.kind == words::IF {
+        if depth == 0 {
+            return Parsed::Refused(11);
+        }
+        return parse_if(s, m, w, parser::move_to(c, x.next), l, depth - 1);
+    }
+    expressions::parse_from(s, m, w, c, l, x, 0, depth)
 }

@@ -1,4 +1,5 @@
 pub mod Names
 pub mod Runs
 pub mod Texts
+pub mod Same
 pub mod Lexes

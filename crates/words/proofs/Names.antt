@@ -1,13 +1,13 @@
--- Names and their order: what each way through `fit`, `compare` and `spells` shows, on plain values. Assumes nothing.
+-- Names and their order: what each way through `fit` and `compare` shows, on plain values. Assumes nothing.
 use mathlib.Core.Bool.{Bool, true, false, cond, _&&_, _||_}
-use mathlib.Core.Path.{_≡_, refl, sym, _∙_}
+use mathlib.Core.Path.{_≡_, refl, sym, ap, _∙_}
 use mathlib.Core.List.{List, [], _∷_}
 use Prim.Native.Nat.{ℕ, suc, _+_, _-_, _≤_, _<_}
 use native.Mathlib.Numerals.{add-one}
 use native.Mathlib.Omega.{arith}
 use lib.Dec.{ltb, eqb}
 use lib.ListN.{length, getD, take, drop, length-drop, drop-of-length-le}
-use lib.Seq.{drop-cons, take-all, take-nil, take-length}
+use lib.Seq.{drop-cons, take-all, take-nil, take-length, length-take-le}
 use borrow.Author.Tests.{lt-ltb, le-ltb, eq-eqb, ne-eqb, ltb-true, ltb-false}
 use Rattle.rules.specs.Lists.{same, precedes}
 use Rattle.words.specs.Names.{name, fit, order}
@@ -47,6 +47,13 @@ name-fit s a n =
     let le = ltb-false n (length s - a) f in
     take-all (length s - a) (drop a s) (omega (arith, length-drop a s)) ∙ sym (take-all n (drop a s) (omega (arith, length-drop a s)))))
     (λ e. let le = ltb-false a (length s) e in rw (drop-of-length-le s {i = a} le) (sym (take-nil n)))
+
+part-length : (s : List ℕ) (a k : ℕ) → k ≤ length s - a → length (name s a k) ≡ k
+unfolding name
+part-length s a k h = length-take-le k (drop a s) (omega (arith, length-drop a s))
+
+pub name-length : (s : List ℕ) (a n : ℕ) → length (name s a n) ≡ fit (length s) a n
+name-length s a n = ap length (sym (name-fit s a n)) ∙ part-length s a (fit (length s) a n) (fit-le (length s) a n)
 
 pub name-cons : (s : List ℕ) (a n : ℕ) → a < length s → name s a (suc n) ≡ getD s a 0 ∷ name s (a + 1) n
 unfolding name
@@ -160,12 +167,5 @@ order-precedes (a ∷ x) (b ∷ y) =
     let ge = ltb-false b a f in
     rw (eq-eqb a b (omega arith)) (order-precedes x y)))
 
-module _ (x y : List ℕ) {r : ℕ} (e : r ≡ order x y) where
-  pub same-is : eqb r 1 ≡ same x y
-  same-is = rw e (order-same x y)
-
-  pub precedes-is : eqb r 0 ≡ precedes x y
-  precedes-is = rw e (order-precedes x y)
-
-pub spells-is : (x t : List ℕ) {r : ℕ} → r ≡ order x (name t 0 (length t)) → eqb r 1 ≡ same x t
-spells-is x t e = rw (e, name-all t) (order-same x t)
+pub precedes-is : (x y : List ℕ) {r : ℕ} → r ≡ order x y → eqb r 0 ≡ precedes x y
+precedes-is x y e = rw e (order-precedes x y)

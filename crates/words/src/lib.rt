@@ -1,4 +1,5 @@
 // The words of a script, and names as places in it.
+ghost use mathlib.Core.Bool.{cond};
 ghost use mathlib.Core.Path.{_≡_};
 ghost use Prim.Native.Nat.{_+_, _-_, _<_};
 ghost use lib.ListN.{drop};
@@ -98,10 +99,31 @@ fn compare(s: &[u8], a: usize, n: usize, t: &[u8], b: usize, m: usize) -> u8
     if i == m1 { 1 } else { 0 }
 }
 
+// Whether two names are the same: names of different lengths are not.
+fn equal(s: &[u8], a: usize, n: usize, t: &[u8], b: usize, m: usize) -> bool
+    ensures { λ r. ⌜ r ≡ same (name (now (s .entry)) a n) (name (now (t .entry)) b m) ⌝ }
+{
+    let k = fit(s.len(), a, n);
+    let k1 = fit(t.len(), b, m);
+    if k == k1 {
+        let mut i = 0;
+        while i < k {
+            if s[a + i] == t[b + i] {
+                i += 1;
+            } else {
+                return false;
+            }
+        }
+        true
+    } else {
+        false
+    }
+}
+
 pub fn same_name(s: &[u8], a: usize, n: usize, b: usize, m: usize) -> bool
     ensures { λ r. ⌜ r ≡ same (name (now (s .entry)) a n) (name (now (s .entry)) b m) ⌝ }
 {
-    compare(s, a, n, s, b, m) == 1
+    equal(s, a, n, s, b, m)
 }
 
 // Rising byte order.
@@ -115,7 +137,7 @@ pub fn precedes_name(s: &[u8], a: usize, n: usize, b: usize, m: usize) -> bool
 pub fn spells(s: &[u8], a: usize, n: usize, t: &[u8]) -> bool
     ensures { λ r. ⌜ r ≡ same (name (now (s .entry)) a n) (now (t .entry)) ⌝ }
 {
-    compare(s, a, n, t, 0, t.len()) == 1
+    equal(s, a, n, t, 0, t.len())
 }
 
 // ---- bytes
@@ -232,36 +254,34 @@ fn literal(s: &[u8], a: usize, n: usize) -> Number
     Number::Of(v)
 }
 
-// The kind of a word that begins with a letter.
+// The kind of the word that has the bytes t, else d.
+fn kind_if(s: &[u8], a: usize, n: usize, t: &[u8], kind: u8, d: u8) -> u8
+    ensures { λ r. ⌜ r ≡ cond (same (name (now (s .entry)) a n) (now (t .entry))) kind d ⌝ }
+{
+    if spells(s, a, n, t) { kind } else { d }
+}
+
+// The kind of a word that begins with a letter: the kept words of its length are tried.
 fn kept_kind(s: &[u8], a: usize, n: usize) -> u8
     ensures { λ r. ⌜ r ≡ kindIn keptWords (name (now (s .entry)) a n) 1 ⌝ }
 {
-    if spells(s, a, n, b"def") {
-        return DEF;
+    let k = fit(s.len(), a, n);
+    match k {
+        2 => kind_if(s, a, n, b"if", IF, NAME),
+        3 => {
+            let other = kind_if(s, a, n, b"end", END, NAME);
+            kind_if(s, a, n, b"def", DEF, other)
+        }
+        4 => kind_if(s, a, n, b"else", ELSE, NAME),
+        5 => kind_if(s, a, n, b"class", CLASS, NAME),
+        6 => kind_if(s, a, n, b"return", RETURN, NAME),
+        13 => kind_if(s, a, n, b"attr_accessor", ATTR_ACCESSOR, NAME),
+        _ => NAME,
     }
-    if spells(s, a, n, b"class") {
-        return CLASS;
-    }
-    if spells(s, a, n, b"end") {
-        return END;
-    }
-    if spells(s, a, n, b"return") {
-        return RETURN;
-    }
-    if spells(s, a, n, b"if") {
-        return IF;
-    }
-    if spells(s, a, n, b"else") {
-        return ELSE;
-    }
-    if spells(s, a, n, b"attr_accessor") {
-        return ATTR_ACCESSOR;
-    }
-    NAME
 }
 
 // The next word from a place on, blanks skipped.
-pub fn word_at(s: &[u8], at: usize) -> Lexed
+fn word_at(s: &[u8], at: usize) -> Lexed
     ensures { λ r. ⌜ Lexes (now (s .entry)) at r ⌝ }
 {
     let start = skip_blank(s, at);
@@ -315,4 +335,32 @@ pub fn word_at(s: &[u8], at: usize) -> Lexed
         });
     }
     Lexed::Refused(3)
+}
+
+// ---- the reader
+
+// A script and a place in it.
+pub struct Reader<'a> {
+    pub src: &'a [u8],
+    pub at: usize,
+}
+
+pub fn new<'a>(src: &'a [u8], at: usize) -> Reader<'a>
+    ensures { λ r. ⌜ (r .src ≡ src .entry) × (r .at ≡ at) ⌝ }
+{
+    Reader { src, at }
+}
+
+// The next word from the reader's place on.
+pub fn next<'a>(r: Reader<'a>) -> Lexed
+    ensures { λ x. ⌜ Lexes (now (r .entry .src)) (r .entry .at) x ⌝ }
+{
+    word_at(r.src, r.at)
+}
+
+// The next word of a reader at that place.
+pub fn read_word(s: &[u8], at: usize) -> Lexed
+    ensures { λ r. ⌜ Lexes (now (s .entry)) at r ⌝ }
+{
+    next(new(s, at))
 }

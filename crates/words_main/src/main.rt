@@ -85,7 +85,7 @@ fn put_words(out: &mut [u8], s: &[u8]) -> usize
     let mut to = 0;
     let mut at = 0;
     loop {
-        match words::word_at(s, at) {
+        match words::read_word(s, at) {
             Lexed::Found(w) => {
                 let kind = w.kind;
                 let next = w.next;

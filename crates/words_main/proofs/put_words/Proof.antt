@@ -17,8 +17,8 @@ abbrev μ-loop : tie.MeasureT-loop
 loop-holds : tie.Need-loop-holds Inv-loop μ-loop
 loop-holds c = search needs
 
-word-at-requires : tie.Need-word-at-requires Inv-loop μ-loop
-word-at-requires c κs = search needs
+read-word-requires : tie.Need-read-word-requires Inv-loop μ-loop
+read-word-requires c κs = search needs
 
 enum-known-w : tie.Need-enum-known-w Inv-loop μ-loop
 enum-known-w c = search needs
@@ -36,10 +36,10 @@ put-word-requires : tie.Need-put-word-requires Inv-loop μ-loop
 put-word-requires c κs = search needs
 
 loop-less : tie.Need-loop-less Inv-loop μ-loop
-loop-less c = omega (arith, forward (c .before .before .before .before .before .before .before .before .word-at .ensures) (c .before .before .before .before .before .before .w .given .1) (c .before .before .before .before .before .before .before .before .before .loop .inv .0) (c .before .before .before .before .if1 .left))
+loop-less c = omega (arith, forward (c .before .before .before .before .before .before .before .before .read-word .ensures) (c .before .before .before .before .before .before .w .given .1) (c .before .before .before .before .before .before .before .before .before .loop .inv .0) (c .before .before .before .before .if1 .left))
 
 loop-again : tie.Need-loop-again Inv-loop μ-loop
-loop-again c = (forward (c .before .before .before .before .before .before .before .before .word-at .ensures) (c .before .before .before .before .before .before .w .given .1) (c .before .before .before .before .before .before .before .before .before .loop .inv .0) (c .before .before .before .before .if1 .left) .1, search needs, search needs)
+loop-again c = (forward (c .before .before .before .before .before .before .before .before .read-word .ensures) (c .before .before .before .before .before .before .w .given .1) (c .before .before .before .before .before .before .before .before .before .loop .inv .0) (c .before .before .before .before .if1 .left) .1, search needs, search needs)
 
 enum-known-number : tie.Need-enum-known-number Inv-loop μ-loop
 enum-known-number c = search needs
@@ -63,7 +63,7 @@ put-words-spec =
     Inv-loop
     μ-loop
     loop-holds
-    word-at-requires
+    read-word-requires
     enum-known-w
     put-end-requires
     same-length

@@ -41,7 +41,7 @@ abbrev pub parse-if-below : ℕ → In 3 parse-if-kinds.ps
 parse-if-below t = and 3 parse-if-kinds.ps (falls 3 parse-if-kinds.ps _<_ μ-parse-if t) parse-if.Pre
 
 abbrev pub μ-parse-statement : Measures 3 parse-statement-kinds.ps ℕ
-μ-parse-statement κs a = 5 * a .1 .1 .1 .1 .1 .0
+μ-parse-statement κs a = 5 * a .1 .1 .1 .1 .1 .1 .0
 
 abbrev pub parse-statement-at : ℕ → In 3 parse-statement-kinds.ps
 parse-statement-at t = and 3 parse-statement-kinds.ps (is 3 parse-statement-kinds.ps μ-parse-statement t) parse-statement.Pre

@@ -5,7 +5,7 @@ use mathlib.Core.Path.{sym, _∙_}
 use borrow.Author.Needs.{needs}
 use lib.ListN.{length}
 use mathlib.Core.Path.{refl}
-use Rattle.statements.proofs.Cycle.{Going, going-start, going-none, going-ends, going-no, going-less, going-on, block-no, block-in, block-no2, block-yes, else-none, else-bare, else-in, else-arm, else-no, else-in2, else-no2, else-in3, else-inside, else-join, else-sorted, else-yes, if-no, if-in, if-no2, if-in2, if-no3, if-in3, if-no4, if-in4, if-arm, if-yes, state-none, state-in, state-return, state-deep, state-if, state-expr}
+use Rattle.statements.proofs.Cycle.{Going, going-start, going-none, going-ends, going-no, going-less, going-on, block-no, block-in, block-no2, block-yes, else-none, else-bare, else-in, else-arm, else-no, else-in2, else-no2, else-in3, else-inside, else-join, else-sorted, else-yes, if-no, if-in, if-no2, if-in2, if-no3, if-in3, if-no4, if-in4, if-arm, if-yes, state-in, state-return, state-deep, state-if, state-expr}
 use Rattle.statements.proofs.parse_statement.Reads as parse-statement
 use Rattle.statements.proofs.parse_statements.Reads as parse-statements
 use Rattle.statements.proofs.at_end.Reads as at-end-reads
@@ -51,29 +51,29 @@ same-length-4 t c = c .before .before .before .loop .inv .long-w
 pub returns-2 : (t : ℕ) → lts.Need-returns-2 (calls t) (parse-statements-at t) parse-statements.Post Inv-loop μ-loop
 returns-2 t c = going-ends (c .before .before .before .loop .inv) (c .before .before .at-end .ensures) (c .enum-told .given .1)
 
-pub enum-told-2 : (t : ℕ) → lts.Need-enum-told-2 (calls t) (parse-statements-at t) parse-statements.Post Inv-loop μ-loop
-enum-told-2 t c = search needs
+pub enum-known-x : (t : ℕ) → lts.Need-enum-known-x (calls t) (parse-statements-at t) parse-statements.Post Inv-loop μ-loop
+enum-known-x t c = search needs
 
 pub parse-statement-requires : (t : ℕ) → lts.Need-parse-statement-requires (calls t) (parse-statements-at t) parse-statements.Post Inv-loop μ-loop
-parse-statement-requires t c κs = (omega (arith, c .before .before .before .before .before .before .before .before .before .pre .0), (c .before .before .before .before .before .loop .inv .here, c .before .before .before .before .before .before .before .before .before .pre .1 .1))
+parse-statement-requires t c κs = (omega (arith, c .before .before .before .before .before .before .before .before .before .before .pre .0), (c .before .before .before .before .before .before .loop .inv .here, (c .before .before .before .before .before .before .before .before .before .before .pre .1 .1, c .before .before .before .before .before .at-end .ensures .next _ (c .before .before .before .x .given .1))))
 
 pub enum-known-e-2 : (t : ℕ) → lts.Need-enum-known-e-2 (calls t) (parse-statements-at t) parse-statements.Post Inv-loop μ-loop
 enum-known-e-2 t c = search needs
 
 pub same-length-5 : (t : ℕ) → lts.Need-same-length-5 (calls t) (parse-statements-at t) parse-statements.Post Inv-loop μ-loop
-same-length-5 t c = c .before .before .before .before .before .before .before .parse-statement .kept .1 .0 ∙ c .before .before .before .before .before .before .before .before .before .before .before .before .before .loop .inv .long-m
+same-length-5 t c = c .before .before .before .before .before .before .before .parse-statement .kept .1 .0 ∙ c .before .before .before .before .before .before .before .before .before .before .before .before .before .before .loop .inv .long-m
 
 pub same-length-6 : (t : ℕ) → lts.Need-same-length-6 (calls t) (parse-statements-at t) parse-statements.Post Inv-loop μ-loop
-same-length-6 t c = c .before .before .before .before .before .before .before .parse-statement .kept .1 .1 .0 ∙ c .before .before .before .before .before .before .before .before .before .before .before .before .before .loop .inv .long-w
+same-length-6 t c = c .before .before .before .before .before .before .before .parse-statement .kept .1 .1 .0 ∙ c .before .before .before .before .before .before .before .before .before .before .before .before .before .before .loop .inv .long-w
 
 pub returns-3 : (t : ℕ) → lts.Need-returns-3 (calls t) (parse-statements-at t) parse-statements.Post Inv-loop μ-loop
-returns-3 t c = going-no (c .before .before .before .before .before .before .before .before .before .before .before .before .before .loop .inv) (c .before .before .before .before .before .before .before .before .before .before .before .before .at-end .ensures) (c .before .before .before .before .before .before .before .before .before .before .enum-told2 .given .1) (c .before .before .before .before .before .before .before .parse-statement .ensures) (c .before .e2 .given .1)
+returns-3 t c = going-no (c .before .before .before .before .before .before .before .before .before .before .before .before .before .before .loop .inv) (c .before .before .before .before .before .before .before .before .before .before .before .before .before .at-end .ensures) (c .before .before .before .before .before .before .before .before .before .before .before .x .given .1) (c .before .before .before .before .before .before .before .parse-statement .ensures) (c .before .e2 .given .1)
 
 pub enum-known-c1 : (t : ℕ) → lts.Need-enum-known-c1 (calls t) (parse-statements-at t) parse-statements.Post Inv-loop μ-loop
 enum-known-c1 t c = search needs
 
 pub loop-less : (t : ℕ) → lts.Need-loop-less (calls t) (parse-statements-at t) parse-statements.Post Inv-loop μ-loop
-loop-less t c = going-less (c .before .before .before .before .before .before .before .before .before .before .before .before .before .loop .inv) (c .before .before .before .before .before .before .before .before .before .before .before .before .at-end .ensures) (c .before .before .before .before .before .before .before .before .before .before .enum-told2 .given .1) (c .before .before .before .before .before .before .before .parse-statement .ensures) (c .before .c1 .given .1)
+loop-less t c = going-less (c .before .before .before .before .before .before .before .before .before .before .before .before .before .before .loop .inv) (c .before .before .before .before .before .before .before .before .before .before .before .before .before .at-end .ensures) (c .before .before .before .before .before .before .before .before .before .before .before .x .given .1) (c .before .before .before .before .before .before .before .parse-statement .ensures) (c .before .c1 .given .1)
 
 pub loop-again : (t : ℕ) → lts.Need-loop-again (calls t) (parse-statements-at t) parse-statements.Post Inv-loop μ-loop
-loop-again t c = going-on (c .before .before .before .before .before .before .before .before .before .before .before .before .before .loop .inv) (c .before .before .before .before .before .before .before .before .before .before .before .before .at-end .ensures) (c .before .before .before .before .before .before .before .before .before .before .enum-told2 .given .1) (c .before .before .before .before .before .before .before .parse-statement .ensures) (c .before .c1 .given .1) (c .before .before .before .before .before .before .before .parse-statement .kept .1 .0) (c .before .before .before .before .before .before .before .parse-statement .kept .1 .1 .0)
+loop-again t c = going-on (c .before .before .before .before .before .before .before .before .before .before .before .before .before .before .loop .inv) (c .before .before .before .before .before .before .before .before .before .before .before .before .before .at-end .ensures) (c .before .before .before .before .before .before .before .before .before .before .before .x .given .1) (c .before .before .before .before .before .before .before .parse-statement .ensures) (c .before .c1 .given .1) (c .before .before .before .before .before .before .before .parse-statement .kept .1 .0) (c .before .before .before .before .before .before .before .parse-statement .kept .1 .1 .0)

@@ -6,8 +6,8 @@ use Rattle.expressions.proofs.Ways.{group-no, group-open, group-yes}
 use Rattle.expressions.proofs.parse_expr.Reads as parse-expr
 use Rattle.expressions.proofs.parse_group.Reads as parse-group
 use Rattle.parser.proofs.expect.Reads as expect-reads
-use Rattle.expressions.proofs.+parse_arg+parse_args+parse_call+parse_expr+parse_group+parse_ivar+parse_member+parse_name+parse_primary+parse_right+parse_suffix+parse_suffixes.Lts-parse_group as lts
-use Rattle.expressions.proofs.+parse_arg+parse_args+parse_call+parse_expr+parse_group+parse_ivar+parse_member+parse_name+parse_primary+parse_right+parse_suffix+parse_suffixes.Proof.Measures.{parse-group-at, parse-expr-below}
+use Rattle.expressions.proofs.+parse_arg+parse_args+parse_call+parse_expr+parse_from+parse_group+parse_ivar+parse_member+parse_name+parse_primary+parse_right+parse_suffix+parse_suffixes.Lts-parse_group as lts
+use Rattle.expressions.proofs.+parse_arg+parse_args+parse_call+parse_expr+parse_from+parse_group+parse_ivar+parse_member+parse_name+parse_primary+parse_right+parse_suffix+parse_suffixes.Proof.Measures.{parse-group-at, parse-expr-below}
 
 abbrev pub calls : ℕ → lts.Claims
 calls t = (parse-expr-below t, parse-expr.Post, expect-reads.Asked, expect-reads.Learnt)

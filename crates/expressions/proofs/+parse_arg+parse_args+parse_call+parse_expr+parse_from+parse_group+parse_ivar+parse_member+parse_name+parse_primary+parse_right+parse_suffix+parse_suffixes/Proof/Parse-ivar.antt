@@ -14,8 +14,8 @@ use Rattle.parser.proofs.expect_ident.Reads as expect-ident-reads
 use Rattle.parser.proofs.get_ivar.Reads as get-ivar-reads
 use Rattle.parser.proofs.match_token.Reads as match-token-reads
 use Rattle.parser.proofs.set_ivar.Reads as set-ivar-reads
-use Rattle.expressions.proofs.+parse_arg+parse_args+parse_call+parse_expr+parse_group+parse_ivar+parse_member+parse_name+parse_primary+parse_right+parse_suffix+parse_suffixes.Lts-parse_ivar as lts
-use Rattle.expressions.proofs.+parse_arg+parse_args+parse_call+parse_expr+parse_group+parse_ivar+parse_member+parse_name+parse_primary+parse_right+parse_suffix+parse_suffixes.Proof.Measures.{parse-ivar-at, parse-expr-below}
+use Rattle.expressions.proofs.+parse_arg+parse_args+parse_call+parse_expr+parse_from+parse_group+parse_ivar+parse_member+parse_name+parse_primary+parse_right+parse_suffix+parse_suffixes.Lts-parse_ivar as lts
+use Rattle.expressions.proofs.+parse_arg+parse_args+parse_call+parse_expr+parse_from+parse_group+parse_ivar+parse_member+parse_name+parse_primary+parse_right+parse_suffix+parse_suffixes.Proof.Measures.{parse-ivar-at, parse-expr-below}
 
 abbrev pub calls : ℕ → lts.Claims
 calls t = (expect-ident-reads.Asked, expect-ident-reads.Learnt, match-token-reads.Asked, match-token-reads.Learnt, parse-expr-below t, parse-expr.Post, set-ivar-reads.Asked, set-ivar-reads.Learnt, get-ivar-reads.Asked, get-ivar-reads.Learnt)

@@ -11,8 +11,8 @@ use Rattle.expressions.proofs.parse_arg.Reads as parse-arg
 use Rattle.expressions.proofs.parse_args.Reads as parse-args
 use Rattle.expressions.proofs.taken.Reads as taken-reads
 use Rattle.parser.proofs.expect.Reads as expect-reads
-use Rattle.expressions.proofs.+parse_arg+parse_args+parse_call+parse_expr+parse_group+parse_ivar+parse_member+parse_name+parse_primary+parse_right+parse_suffix+parse_suffixes.Lts-parse_args as lts
-use Rattle.expressions.proofs.+parse_arg+parse_args+parse_call+parse_expr+parse_group+parse_ivar+parse_member+parse_name+parse_primary+parse_right+parse_suffix+parse_suffixes.Proof.Measures.{parse-args-at, parse-arg-below}
+use Rattle.expressions.proofs.+parse_arg+parse_args+parse_call+parse_expr+parse_from+parse_group+parse_ivar+parse_member+parse_name+parse_primary+parse_right+parse_suffix+parse_suffixes.Lts-parse_args as lts
+use Rattle.expressions.proofs.+parse_arg+parse_args+parse_call+parse_expr+parse_from+parse_group+parse_ivar+parse_member+parse_name+parse_primary+parse_right+parse_suffix+parse_suffixes.Proof.Measures.{parse-args-at, parse-arg-below}
 
 abbrev pub calls : ℕ → lts.Claims
 calls t = (parse-arg-below t, parse-arg.Post, expect-reads.Asked, expect-reads.Learnt, taken-reads.Asked, taken-reads.Learnt)

@@ -13,8 +13,8 @@ use Rattle.terms.proofs.send.Reads as send-reads
 use Rattle.parser.proofs.expect_ident.Reads as expect-ident-reads
 use Rattle.parser.proofs.match_token.Reads as match-token-reads
 use Rattle.parser.proofs.read_attr.Reads as read-attr-reads
-use Rattle.expressions.proofs.+parse_arg+parse_args+parse_call+parse_expr+parse_group+parse_ivar+parse_member+parse_name+parse_primary+parse_right+parse_suffix+parse_suffixes.Lts-parse_member as lts
-use Rattle.expressions.proofs.+parse_arg+parse_args+parse_call+parse_expr+parse_group+parse_ivar+parse_member+parse_name+parse_primary+parse_right+parse_suffix+parse_suffixes.Proof.Measures.{parse-member-at, parse-args-below}
+use Rattle.expressions.proofs.+parse_arg+parse_args+parse_call+parse_expr+parse_from+parse_group+parse_ivar+parse_member+parse_name+parse_primary+parse_right+parse_suffix+parse_suffixes.Lts-parse_member as lts
+use Rattle.expressions.proofs.+parse_arg+parse_args+parse_call+parse_expr+parse_from+parse_group+parse_ivar+parse_member+parse_name+parse_primary+parse_right+parse_suffix+parse_suffixes.Proof.Measures.{parse-member-at, parse-args-below}
 
 abbrev pub calls : ℕ → lts.Claims
 calls t = (expect-ident-reads.Asked, expect-ident-reads.Learnt, match-token-reads.Asked, match-token-reads.Learnt, parse-args-below t, parse-args.Post, send-reads.Asked, send-reads.Learnt, read-attr-reads.Asked, read-attr-reads.Learnt)

@@ -9,8 +9,8 @@ use Rattle.expressions.proofs.Turns.{taken-here, call-no, call-yes}
 use Rattle.expressions.proofs.parse_args.Reads as parse-args
 use Rattle.expressions.proofs.parse_call.Reads as parse-call
 use Rattle.parser.proofs.bare_call.Reads as bare-call-reads
-use Rattle.expressions.proofs.+parse_arg+parse_args+parse_call+parse_expr+parse_group+parse_ivar+parse_member+parse_name+parse_primary+parse_right+parse_suffix+parse_suffixes.Lts-parse_call as lts
-use Rattle.expressions.proofs.+parse_arg+parse_args+parse_call+parse_expr+parse_group+parse_ivar+parse_member+parse_name+parse_primary+parse_right+parse_suffix+parse_suffixes.Proof.Measures.{parse-call-at, parse-args-below}
+use Rattle.expressions.proofs.+parse_arg+parse_args+parse_call+parse_expr+parse_from+parse_group+parse_ivar+parse_member+parse_name+parse_primary+parse_right+parse_suffix+parse_suffixes.Lts-parse_call as lts
+use Rattle.expressions.proofs.+parse_arg+parse_args+parse_call+parse_expr+parse_from+parse_group+parse_ivar+parse_member+parse_name+parse_primary+parse_right+parse_suffix+parse_suffixes.Proof.Measures.{parse-call-at, parse-args-below}
 
 abbrev pub calls : ℕ → lts.Claims
 calls t = (parse-args-below t, parse-args.Post, bare-call-reads.Asked, bare-call-reads.Learnt)

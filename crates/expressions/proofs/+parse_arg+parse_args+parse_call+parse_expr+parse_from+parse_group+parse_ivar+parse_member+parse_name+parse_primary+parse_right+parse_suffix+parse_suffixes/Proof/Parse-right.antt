@@ -11,8 +11,8 @@ use Rattle.expressions.proofs.Turns.{right-no, right-yes}
 use Rattle.expressions.proofs.parse_expr.Reads as parse-expr
 use Rattle.expressions.proofs.parse_right.Reads as parse-right
 use Rattle.parser.proofs.push.Reads as push-reads
-use Rattle.expressions.proofs.+parse_arg+parse_args+parse_call+parse_expr+parse_group+parse_ivar+parse_member+parse_name+parse_primary+parse_right+parse_suffix+parse_suffixes.Lts-parse_right as lts
-use Rattle.expressions.proofs.+parse_arg+parse_args+parse_call+parse_expr+parse_group+parse_ivar+parse_member+parse_name+parse_primary+parse_right+parse_suffix+parse_suffixes.Proof.Measures.{parse-right-at, parse-expr-below}
+use Rattle.expressions.proofs.+parse_arg+parse_args+parse_call+parse_expr+parse_from+parse_group+parse_ivar+parse_member+parse_name+parse_primary+parse_right+parse_suffix+parse_suffixes.Lts-parse_right as lts
+use Rattle.expressions.proofs.+parse_arg+parse_args+parse_call+parse_expr+parse_from+parse_group+parse_ivar+parse_member+parse_name+parse_primary+parse_right+parse_suffix+parse_suffixes.Proof.Measures.{parse-right-at, parse-expr-below}
 
 abbrev pub calls : ℕ → lts.Claims
 calls t = (parse-expr-below t, parse-expr.Post, push-reads.Asked, push-reads.Learnt)

@@ -9,8 +9,8 @@ use Rattle.program.specs.View.{limitsOf}
 use Rattle.expressions.proofs.Turns.{SuffixInv, suffixes-start, suffixes-less, suffixes-again, suffixes-done, suffixes-no}
 use Rattle.expressions.proofs.parse_suffix.Reads as parse-suffix
 use Rattle.expressions.proofs.parse_suffixes.Reads as parse-suffixes
-use Rattle.expressions.proofs.+parse_arg+parse_args+parse_call+parse_expr+parse_group+parse_ivar+parse_member+parse_name+parse_primary+parse_right+parse_suffix+parse_suffixes.Lts-parse_suffixes as lts
-use Rattle.expressions.proofs.+parse_arg+parse_args+parse_call+parse_expr+parse_group+parse_ivar+parse_member+parse_name+parse_primary+parse_right+parse_suffix+parse_suffixes.Proof.Measures.{parse-suffixes-at, parse-suffix-below}
+use Rattle.expressions.proofs.+parse_arg+parse_args+parse_call+parse_expr+parse_from+parse_group+parse_ivar+parse_member+parse_name+parse_primary+parse_right+parse_suffix+parse_suffixes.Lts-parse_suffixes as lts
+use Rattle.expressions.proofs.+parse_arg+parse_args+parse_call+parse_expr+parse_from+parse_group+parse_ivar+parse_member+parse_name+parse_primary+parse_right+parse_suffix+parse_suffixes.Proof.Measures.{parse-suffixes-at, parse-suffix-below}
 
 abbrev pub calls : ℕ → lts.Claims
 calls t = (parse-suffix-below t, parse-suffix.Post)

@@ -12,8 +12,8 @@ use Rattle.expressions.proofs.again.Reads as again-reads
 use Rattle.parser.proofs.move_to.Reads as move-to-reads
 use Rattle.parser.proofs.peek.Reads as peek-reads
 use Rattle.parser.proofs.suffix_of.Reads as suffix-of-reads
-use Rattle.expressions.proofs.+parse_arg+parse_args+parse_call+parse_expr+parse_group+parse_ivar+parse_member+parse_name+parse_primary+parse_right+parse_suffix+parse_suffixes.Lts-parse_suffix as lts
-use Rattle.expressions.proofs.+parse_arg+parse_args+parse_call+parse_expr+parse_group+parse_ivar+parse_member+parse_name+parse_primary+parse_right+parse_suffix+parse_suffixes.Proof.Measures.{parse-suffix-at, parse-call-below, parse-member-below, parse-right-below}
+use Rattle.expressions.proofs.+parse_arg+parse_args+parse_call+parse_expr+parse_from+parse_group+parse_ivar+parse_member+parse_name+parse_primary+parse_right+parse_suffix+parse_suffixes.Lts-parse_suffix as lts
+use Rattle.expressions.proofs.+parse_arg+parse_args+parse_call+parse_expr+parse_from+parse_group+parse_ivar+parse_member+parse_name+parse_primary+parse_right+parse_suffix+parse_suffixes.Proof.Measures.{parse-suffix-at, parse-call-below, parse-member-below, parse-right-below}
 
 abbrev pub calls : ℕ → lts.Claims
 calls t = (peek-reads.Asked, peek-reads.Learnt, suffix-of-reads.Asked, suffix-of-reads.Learnt, move-to-reads.Asked, move-to-reads.Learnt, parse-right-below t, parse-right.Post, again-reads.Asked, again-reads.Learnt, parse-call-below t, parse-call.Post, parse-member-below t, parse-member.Post)
