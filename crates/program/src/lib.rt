@@ -205,7 +205,7 @@ fn opnd_words(o: Opnd) -> OpndWords
     }
 }
 
-fn op_from(tag: usize, x: usize, y: usize) -> Op
+pub fn op_from(tag: usize, x: usize, y: usize) -> Op
     ensures { λ r. ⌜ r ≡ opFrom tag x y ⌝ }
 {
     match tag {

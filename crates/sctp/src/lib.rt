@@ -1,12 +1,15 @@
 // The analysis of a program that was read: chains and users, the start, and the run to its end.
 use program::Counts;
+use state::Regs;
 use state::Sizes;
 use state::Went;
 ghost use mathlib.Core.Path.{_≡_};
 ghost use lib.ListN.{length};
 ghost use Rattle.program.specs.View.{Ready};
+ghost use Rattle.state.specs.View.{Ready as StateReady};
 ghost use Rattle.answer.specs.Layout.{answerLen};
 ghost use Rattle.analysed.specs.Analysed.{Indexed, Analysed};
+ghost use Rattle.steps.specs.Runs.{Reaching, Ran};
 ghost use Rattle.starts.specs.Starts.{Cleared};
 ghost use Rattle.sctp.specs.Sctp.{tablesOf, chainsOf, Given, Chained, Aside, StartsAside, Begins, Ends, Analyses};
 
@@ -82,6 +85,25 @@ fn begin(
     r
 }
 
+// The run over a table of its own: the instructions that were drafted are appended to it, and it is lent.
+fn run_lent(
+    s: &[u8],
+    p: &[usize],
+    c: Counts,
+    x: &[usize],
+    u: &[usize],
+    m: &mut [usize],
+    z: Sizes,
+    q: Regs,
+) -> Went
+    requires { ⌜ Analysed (now s) (now p) c (now x) (now u) z × StateReady z (now m) q × Reaching (now s) (now p) c z (now m) q ⌝ }
+    ensures { λ r. ⌜ Ran (now (s .entry)) (now (p .entry)) c z (now (m .exit)) r ⌝ }
+{
+    let mut t = records::empty();
+    records::commit(&mut t, p, c);
+    steps::run(&t, s, p, c, x, u, m, z, q)
+}
+
 // The start, then the run.
 fn analyse(
     s: &[u8],
@@ -99,7 +121,7 @@ fn analyse(
 {
     let b = begin(s, p, c, x, u, m, z);
     match b {
-        Went::On(q) => steps::run(s, p, c, x, u, m, z, q),
+        Went::On(q) => run_lent(s, p, c, x, u, m, z, q),
         Went::No(n) => Went::No(n),
     }
 }

@@ -1,2 +1,4 @@
 pub mod Stepping
 pub mod Running
+pub mod Shared
+pub mod Facts

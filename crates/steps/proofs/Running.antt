@@ -1,12 +1,12 @@
--- The loop of the run. Assumes nothing.
-use mathlib.Core.Bool.{Bool as 𝔹, true, false}
-use mathlib.Core.Path.{_≡_, refl, sym, ap, _∙_}
+-- The turns of the run. Assumes nothing.
+use mathlib.Core.Bool.{Bool as 𝔹, true, false, not}
+use mathlib.Core.Path.{_≡_, refl, sym, ap, _∙_, subst}
 use mathlib.Core.List.{List}
 use Prim.Native.Nat.{ℕ, _+_, _-_, _^_, _≤_, _<_}
 use native.Mathlib.Omega.{arith}
 use borrow.Author.Tests.{eqb-true}
 use lib.Dec.{eqb}
-use lib.ListN.{length}
+use lib.ListN.{length, getD}
 use Rattle.rules.specs.Actions.{answered, refused}
 use Rattle.rules.specs.Program.{Limits}
 use Rattle.rules.specs.Bound.{bound}
@@ -16,6 +16,8 @@ use Rattle.rules.proofs.Exactness.Loop.{at-below, at-step, at-rest, at-refused}
 use Rattle.rules.proofs.Exactness.Theorem.{exact}
 use Rattle.program.specs.View as P
 use Rattle.program.specs.declared.Counts.{Counts}
+use Rattle.records.specs.Records.{none, recordAt, Holds}
+use Rattle.records.specs.declared.Insn.{Insn}
 use Rattle.state.specs.declared.Sizes.{Sizes}
 use Rattle.state.specs.declared.Regs.{Regs}
 use Rattle.state.specs.declared.Went.{Went}
@@ -26,17 +28,9 @@ use Rattle.state.proofs.Pushes.{rest-told}
 use Rattle.blocks.specs.Blocks.{Stepped}
 use Rattle.analysed.specs.Analysed.{Suited, Analysed, Fits, Reached, Steady}
 use Rattle.analysed.proofs.States.{attrs, attrs-fit, at-of, steady-at, bound-fits}
-use Rattle.steps.specs.Runs.{Reaching, Ran}
+use Rattle.steps.specs.Runs.{blockNext, RecordOf, Front, Reaching, Ran, Ahead, Going, Outcome, Under, left, Turned}
+use Rattle.steps.specs.declared.Turn.{Turn}
 use Rattle.steps.proofs.Stepping.{positive}
-
--- the run at its loop's head
-pub record Going (s p : List ℕ) (c : Counts) (z : Sizes) (m₀ m : List ℕ) (q : Regs) : Type 0 where
-  pub long : length m ≡ length m₀
-  pub ready : Ready z m q
-  pub reaching : Reaching s p c z m q
-
-pub going-start : {s p : List ℕ} {c : Counts} {z : Sizes} {m : List ℕ} {q : Regs} → Ready z m q → Reaching s p c z m q → Going s p c z m m q
-going-start r g = record { long = refl; ready = r; reaching = g }
 
 same : {x y : State} → answered x ≡ answered y → x ≡ y
 same e = cc
@@ -45,16 +39,19 @@ same e = cc
 abbrev Waits : Regs → 𝔹 → Type 0
 Waits q t = (z : Sizes) (v : Attrs) (m : List ℕ) → t ≡ atRest (view z v m q)
 
-module _ {s p : List ℕ} {c : Counts} {z : Sizes} {m₀ m : List ℕ} {q : Regs} (g : Going s p c z m₀ m q) where
+module _ {s p : List ℕ} {c : Counts} {z : Sizes} {m : List ℕ} {q : Regs} (g : Going s p c z m q) where
   at-once : (L : Limits) (S : Suited s p c L) → Reached L (P.view s p c) (view z (attrs s p c L S) m q)
   at-once L S = g .reaching .at L S (attrs s p c L S) (attrs-fit s p c L S)
-
-  pub going-lens : (q .insns .len ≤ 16384) × (q .blocks .len ≤ 16384)
-  going-lens = let r = g .ready in (r .insnLen, r .blockLen)
 
   module _ {x u : List ℕ} (a : Analysed s p c x u z) where
     pub going-steady : Steady s p c z m
     going-steady = steady-at s p c (a .indexed .limits) (a .indexed .suited) z (attrs s p c (a .indexed .limits) (a .indexed .suited)) m q (at-once (a .indexed .limits) (a .indexed .suited))
+
+    pub going-count : q .count < 2 ^ 63
+    going-count =
+        let S = a .indexed .suited in
+        let y = at-of s p c (a .indexed .limits) S (view z (attrs s p c (a .indexed .limits) S) m q) (at-once (a .indexed .limits) S) .going .spent in
+        omega (arith, y, bound-fits s p c (a .indexed .limits) S)
 
     module _ {t : 𝔹} (w : Waits q t) (f : t ≡ false) where
       pub going-below : q .count < bound (P.view s p c)
@@ -82,8 +79,8 @@ module _ {s p : List ℕ} {c : Counts} {z : Sizes} {m₀ m : List ℕ} {q : Regs
         let n = at-step L (S .room .classes) (P.view s p c) (S .finished) (h .from) (view z v m q) (view z v m' q') (at-of s p c L S (view z v m q) h) (sym (w z v m) ∙ f) i in
         record { from = h .from; starts = h .starts; there = n .0 .there }
 
-    pub going-on : {q' : Regs} → r ≡ On q' → length m' ≡ length m → Going s p c z m₀ m' q'
-    going-on e len = record { long = len ∙ g .long; ready = (rw e at d) .ok .ready; reaching = record { at = next-at e } }
+    pub going-on : {q' : Regs} → r ≡ On q' → Going s p c z m' q'
+    going-on e = record { ready = (rw e at d) .ok .ready; reaching = record { at = next-at e } }
 
     pub going-falls : {x u : List ℕ} {q' : Regs} → Analysed s p c x u z → r ≡ On q' → bound (P.view s p c) - q' .count < bound (P.view s p c) - q .count
     going-falls a e = omega (arith, going-below a w f, (rw e at d) .ok .count)
@@ -110,6 +107,84 @@ module _ {s p : List ℕ} {c : Counts} {z : Sizes} {m₀ m : List ℕ} {q : Regs
       count = let S = A .indexed .suited in let y = at-of s p c (A .indexed .limits) S (view z (attrs s p c (A .indexed .limits) S) m q) (at-once (A .indexed .limits) S) .going .spent in omega (arith, y);
     };
   }
+
+-- ---- where the run stands
+
+flip : {x : 𝔹} (y : 𝔹) → x ≡ not y → not x ≡ y
+flip true e = ap not e
+flip false e = ap not e
+
+never : {A : Type 0} → false ≡ true → A
+never e = absurd (let z : _≡_ {A = ℕ} 0 1 = cc in omega arith)
+
+waits : {z : Sizes} {m : List ℕ} {q : Regs} {a : Turn} → Ahead z m q a → Waits q (not (a .going))
+waits {z} {m} {q} h y v w = flip (atRest (view y v w q)) (h .goes y v w)
+
+pub ahead-at : {z : Sizes} {m : List ℕ} {q : Regs} {i : ℕ} {t : 𝔹} → Front z m q i → Waits q t → Ahead z m q (record { going = not t; insn = i; went = On q })
+ahead-at f w = record { went = refl; goes = λ y v n. ap not (w y v n); front = f }
+
+pub under-at : {s p : List ℕ} {c : Counts} {z : Sizes} {m : List ℕ} {q : Regs} {a : Turn} → Going s p c z m q → Ahead z m q a → Under s p c z m a
+under-at {s} {p} {c} {z} {m} {q} {a} g h = record { below = h .front .below; outcome = subst (Outcome s p c z m a) (sym (h .went)) (g, h) }
+
+module _ {s p : List ℕ} {c : Counts} {z : Sizes} {m : List ℕ} {a : Turn} where
+  pub under-on : {q : Regs} → Under s p c z m a → a .went ≡ On q → Going s p c z m q × Ahead z m q a
+  under-on U e = subst (Outcome s p c z m a) e (U .outcome)
+
+  -- a run that goes on was not refused
+  pub under-no : {A : Type 0} {n : ℕ} → Under s p c z m a → a .going ≡ true → a .went ≡ No n → A
+  under-no U g e = never (sym (subst (Outcome s p c z m a) e (U .outcome) .0) ∙ g)
+
+  -- one that does not go on has its outcome
+  pub under-over : {x u : List ℕ} → Analysed s p c x u z → Under s p c z m a → a .going ≡ false → Ran s p c z m (a .went)
+  under-over A U f = go (a .went) (U .outcome)
+    where
+      go : (w : Went) → Outcome s p c z m a w → Ran s p c z m w
+      go (On q) o = going-done (o .0) A (waits (o .1)) (ap not f)
+      go (No n) o = o .1
+
+  -- ---- a turn
+
+  module _ {q : Regs} (U : Under s p c z m a) (e : a .went ≡ On q) (g : a .going ≡ true) {x u : List ℕ} (A : Analysed s p c x u z) where
+    waiting : Waits q false
+    waiting = subst (Waits q) (ap not g) (waits (under-on U e .1))
+
+    pub turn-ready : Ready z m q
+    turn-ready = let G = under-on U e .0 in G .ready
+
+    pub turn-steady : Steady s p c z m
+    turn-steady = going-steady (under-on U e .0) A
+
+    pub turn-small : (0 < q .insns .len + q .blocks .len) × (q .count < 2 ^ 63)
+    turn-small = going-small (under-on U e .0) A waiting refl
+
+    pub turn-record : {r : Insn} → (a .insn < c .insns → r ≡ recordAt p (a .insn)) → blockNext q ≡ false → RecordOf p m q r
+    turn-record h b i l k = let F = under-on U e .1 .front in h (omega (arith, F .inside b, A .indexed .sized .insns)) ∙ ap (recordAt p) (sym (F .is b i l k))
+
+    module _ {w : List ℕ} {r : Went} (d : Stepped z (Fits s p c) step m q w r) where
+      pub turn-on : {n : Regs} → r ≡ On n → Going s p c z w n
+      turn-on f = going-on (under-on U e .0) waiting refl d f
+
+      pub turned-on : {n : Regs} {b : Turn} → r ≡ On n → Ahead z w n b → Turned s p c z a w b
+      turned-on {n} {b} f h = record {
+        under = under-at (turn-on f) h;
+        less = subst (λ (y : Went). left (bound (P.view s p c)) (b .went) < left (bound (P.view s p c)) y) (sym e)
+            (subst (λ (y : Went). left (bound (P.view s p c)) y < bound (P.view s p c) - q .count) (sym (h .went)) (going-falls (under-on U e .0) waiting refl d A f));
+      }
+
+      pub turned-no : {n : ℕ} → r ≡ No n → Turned s p c z a w (record { going = false; insn = 0; went = No n })
+      turned-no {n} f = record {
+        under = record { below = omega arith; outcome = (refl, going-refused (under-on U e .0) waiting refl d f) };
+        less = subst (λ (y : Went). 0 < left (bound (P.view s p c)) y) (sym e) (let l = going-below (under-on U e .0) A waiting refl in omega (arith, l));
+      }
+
+-- ---- the table
+
+module _ {t : List Insn} {p : List ℕ} {c : Counts} (holds : Holds t p c) where
+  pub turn-place : {s : List ℕ} {z : Sizes} {m : List ℕ} {a : Turn} → Under s p c z m a → a .insn < length t
+  turn-place U = omega (arith, U .below, holds .len-table)
+
+  pub turn-read : {r : Insn} (i : ℕ) → r ≡ getD t i none → i < c .insns → r ≡ recordAt p i
+  turn-read i e l = e ∙ holds .records i l
 
 -- ---- demand 3: what a run answers is exact, and its count is within the bound
 

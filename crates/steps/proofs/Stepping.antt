@@ -20,9 +20,14 @@ use Rattle.state.specs.View.{Attrs, insnsOf, blocksOf, view, Ready}
 use Rattle.state.specs.Changes.{went, ReadyAfter, Did, TookInsn}
 use Rattle.blocks.specs.Blocks.{HasCode, CodeIs, blocksIn, ReadyNext, Stepped}
 use Rattle.blocks.proofs.Indexed.{has-code, code-is}
+use Rattle.program.specs.View.{ReadsInsn}
 use Rattle.program.specs.declared.Counts.{Counts}
+use Rattle.program.specs.declared.Row.{Row}
+use Rattle.records.specs.Records.{rowOf}
+use Rattle.records.specs.declared.Insn.{Insn}
+use Rattle.records.proofs.Rows.{record-row}
 use Rattle.analysed.specs.Analysed.{Analysed, Fits}
-use Rattle.steps.specs.Runs.{insnsIn, blockNext}
+use Rattle.steps.specs.Runs.{insnsIn, blockNext, RecordOf, Front}
 
 -- ---- the chains of blocks
 
@@ -37,6 +42,18 @@ module _ {s p : List ℕ} {c : Counts} {x u : List ℕ} {z : Sizes} {m : List �
   code-fits P v f = subst (λ (Q : Program). CodeIs z x Q v) (sym (f .is)) (code-is z p c x (a .indexed .index) (a .indexed .sized .insns) few s v)
 
 -- ---- the instruction in front
+
+-- its row, from its record
+pub front-row : {s p : List ℕ} {c : Counts} {x u : List ℕ} {z : Sizes} {m : List ℕ} {q a : Regs} {i : ℕ} {r : Insn} {w : Row} → Analysed s p c x u z → TookInsn z m q i a → RecordOf p m q r → w ≡ rowOf r → ReadsInsn p c i w
+front-row {s} {p} {c} {x} {u} {z} {m} {q} {a} {i} A t h e =
+    subst (ReadsInsn p c i) (sym (e ∙ ap rowOf (h i (insnsOf m a) (t .is)))) (record-row i (A .indexed .ready) (omega (arith, t .below, A .indexed .sized .insns)))
+
+first-of : {i x : ℕ} {l k : List ℕ} → i ∷ l ≡ x ∷ k → i ≡ x
+first-of e = cc
+
+-- the instruction that is taken is the one in front
+pub front-insn : {z : Sizes} {m : List ℕ} {q a : Regs} {i : ℕ} → Ready z m q → TookInsn z m q i a → Front z m q i
+front-insn r t = record { below = let h = r .held in omega (arith, t .below, h .insns); inside = λ _. t .below; is = λ _ j l e. first-of (sym e ∙ t .is) }
 
 next-ready : (z : Sizes) (q a : Regs) (w : List ℕ) (r : Went) → a .count ≡ q .count + 1 → ReadyAfter z a w r → ReadyNext z q w r
 next-ready z q a w (On b) e h = record { ready = h .ready; count = h .count ∙ e }
@@ -94,6 +111,9 @@ pub positive : (n : ℕ) → eqb n 0 ≡ false → 0 < n
 positive zero e = absurd (let z : _≡_ {A = ℕ} 0 1 = cc in omega arith)
 positive (suc n) e = omega arith
 
+differ : true ≡ false → ⊥
+differ e = let z : _≡_ {A = ℕ} 0 1 = cc in omega arith
+
 block-by : (d b i : 𝔹) → ((d && not b) || i) ≡ true → (i ≡ true) ⊎ ((d ≡ true) × (b ≡ false))
 block-by true true true h = inl refl
 block-by true false true h = inl refl
@@ -125,6 +145,9 @@ module _ (z : Sizes) (m : List ℕ) (q : Regs) where
 
   pub some-insn : {t : 𝔹} → t ≡ blockNext q → t ≡ false → 0 < q .insns .len
   some-insn e h = positive (q .insns .len) (insn-by (q .draining) (eqb (q .blocks .len) 0) (eqb (q .insns .len) 0) (sym e ∙ h) .0)
+
+  pub front-block : {t : 𝔹} → t ≡ blockNext q → t ≡ true → Front z m q 0
+  front-block e h = record { below = omega arith; inside = λ b. absurd (differ (sym h ∙ e ∙ b)); is = λ b. absurd (differ (sym h ∙ e ∙ b)) }
 
   pub block-step : {fits less : Program → Attrs → Type 0} {t : 𝔹} {w : List ℕ} {r : Went} → t ≡ blockNext q → t ≡ true → ((P : Program) (v : Attrs) → less P v → fits P v)
       → Stepped z fits (λ L P s. takeBlock L P (blocksIn s) s) m q w r → Stepped z less step m q w r

@@ -1,22 +1,25 @@
 -- What a step and a run promise of the memory that they change. Assumes nothing.
-use mathlib.Core.Bool.{Bool as 𝔹, not, _&&_, _||_}
+use mathlib.Core.Bool.{Bool as 𝔹, true, false, not, _&&_, _||_}
 use mathlib.Core.Path.{_≡_}
-use mathlib.Core.List.{List}
-use Prim.Native.Nat.{ℕ, _+_, _≤_}
+use mathlib.Core.List.{List, _∷_}
+use Prim.Native.Nat.{ℕ, _+_, _-_, _≤_, _<_}
 use lib.Dec.{eqb}
 use Rattle.rules.specs.Actions.{answered}
 use Rattle.rules.specs.Program.{Limits}
 use Rattle.rules.specs.Bound.{bound}
-use Rattle.rules.specs.Machine.{State, stateOf, start, run}
+use Rattle.rules.specs.Machine.{State, atRest, stateOf, start, run}
 use Rattle.program.specs.View as P
 use Rattle.program.specs.declared.Counts.{Counts}
+use Rattle.records.specs.Records.{recordAt}
+use Rattle.records.specs.declared.Insn.{Insn}
 use Rattle.state.specs.declared.Sizes.{Sizes}
 use Rattle.state.specs.declared.Regs.{Regs}
 use Rattle.state.specs.declared.Went.{Went}
 use Rattle.state.specs.declared.Went.the-variants.{On, No}
-use Rattle.state.specs.View.{Attrs, view, Ready}
+use Rattle.state.specs.View.{Attrs, insnsOf, view, Ready}
 use Rattle.state.specs.Changes.{went}
 use Rattle.analysed.specs.Analysed.{Suited, Fits, Reached}
+use Rattle.steps.specs.declared.Turn.{Turn}
 
 abbrev pub insnsIn : State → List ℕ
 insnsIn s = s .insnWorklist
@@ -24,6 +27,16 @@ insnsIn s = s .insnWorklist
 -- whether the next entry is a block: while blocks are being taken and any waits, or where no instruction waits
 abbrev pub blockNext : Regs → 𝔹
 blockNext q = (q .draining && not (eqb (q .blocks .len) 0)) || eqb (q .insns .len) 0
+
+-- x is the record of the instruction in front
+abbrev pub RecordOf : List ℕ → List ℕ → Regs → Insn → Type 0
+RecordOf p m q x = (i : ℕ) (l : List ℕ) → insnsOf m q ≡ i ∷ l → x ≡ recordAt p i
+
+-- where an instruction is next, r is the one in front
+pub record Front (z : Sizes) (m : List ℕ) (q : Regs) (r : ℕ) : Type 0 where
+  pub below : r < 2048
+  pub inside : blockNext q ≡ false → r < z .insns
+  pub is : blockNext q ≡ false → (i : ℕ) (l : List ℕ) → insnsOf m q ≡ i ∷ l → i ≡ r
 
 -- under all limits that suit, the steps so far have led to the state of the memory and the registers
 pub record Reaching (s p : List ℕ) (c : Counts) (z : Sizes) (m : List ℕ) (q : Regs) : Type 0 where
@@ -44,3 +57,36 @@ pub record Ran (s p : List ℕ) (c : Counts) (z : Sizes) (w : List ℕ) (r : Wen
   pub is : (L : Limits) → Suited s p c L → (v : Attrs) → Fits s p c (P.view s p c) v → (t : State) → start L (P.view s p c) ≡ answered t
       → stateOf L (P.view s p c) (went z v w r) ≡ run L (P.view s p c) (bound (P.view s p c)) t
   pub ok : RestedIf s p c z w r
+
+-- ---- where a run stands
+
+-- with the registers q: it goes on while anything waits
+pub record Ahead (z : Sizes) (m : List ℕ) (q : Regs) (a : Turn) : Type 0 where
+  pub went : a .went ≡ On q
+  pub goes : (y : Sizes) (v : Attrs) (w : List ℕ) → a .going ≡ not (atRest (view y v w q))
+  pub front : Front z m q (a .insn)
+
+-- what a step relies on, of a run that has come to q
+pub record Going (s p : List ℕ) (c : Counts) (z : Sizes) (m : List ℕ) (q : Regs) : Type 0 where
+  pub ready : Ready z m q
+  pub reaching : Reaching s p c z m q
+
+-- it has come to registers, or was refused as the run is
+abbrev pub Outcome : List ℕ → List ℕ → Counts → Sizes → List ℕ → Turn → Went → Type 0
+Outcome s p c z m a (On q) = Going s p c z m q × Ahead z m q a
+Outcome s p c z m a (No n) = (a .going ≡ false) × Ran s p c z m (No n)
+
+-- before and after each turn
+pub record Under (s p : List ℕ) (c : Counts) (z : Sizes) (m : List ℕ) (a : Turn) : Type 0 where
+  pub below : a .insn < 2048
+  pub outcome : Outcome s p c z m a (a .went)
+
+-- the steps that are left of a bound; none after a refusal
+abbrev pub left : ℕ → Went → ℕ
+left b (On q) = b - q .count
+left b (No n) = 0
+
+-- a turn, after which fewer steps are left
+pub record Turned (s p : List ℕ) (c : Counts) (z : Sizes) (a : Turn) (m : List ℕ) (r : Turn) : Type 0 where
+  pub under : Under s p c z m r
+  pub less : left (bound (P.view s p c)) (r .went) < left (bound (P.view s p c)) (a .went)

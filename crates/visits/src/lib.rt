@@ -18,7 +18,7 @@ ghost use mathlib.Core.Path.{_≡_};
 ghost use Prim.Native.Nat.{_+_, _≤_, _<_};
 ghost use Rattle.rules.specs.Machine.{visit as visited};
 ghost use Rattle.program.specs.Rows.{opndOf, nth};
-ghost use Rattle.program.specs.View.{Ready as Read};
+ghost use Rattle.program.specs.View.{Ready as Read, ReadsInsn};
 ghost use Rattle.state.specs.View.{Ready};
 ghost use Rattle.state.specs.Changes.{Did};
 ghost use Rattle.analysed.specs.Analysed.{Analysed, Fits, Steady};
@@ -379,7 +379,7 @@ fn rule(
     }
 }
 
-// Instruction i is visited.
+// Instruction i is visited; row is its row.
 pub fn visit(
     s: &[u8],
     p: &[usize],
@@ -390,14 +390,15 @@ pub fn visit(
     z: Sizes,
     q: Regs,
     i: InsnId,
+    row: Row,
 ) -> Went
     requires { ⌜ Analysed (now s) (now p) c (now x) (now u) z ⌝ }
     requires { ⌜ Steady (now s) (now p) c z (now m) ⌝ }
     requires { ⌜ Ready z (now m) q ⌝ }
     requires { ⌜ i .0 < z .insns ⌝ }
+    requires { ⌜ ReadsInsn (now p) c (i .0) row ⌝ }
     ensures { λ r. ⌜ Did z (Fits (now (s .entry)) (now (p .entry)) c) (λ L P. visited L P (i .0)) (now (m .entry)) q (now (m .exit)) r ⌝ }
 {
-    let row = program::read_insn(p, c, i);
     let r = rule(s, p, c, x, m, z, q, i, row);
     match r {
         Ruled::On(next, k) => analysed::store(p, c, u, m, z, next, i, k),

@@ -11,8 +11,8 @@ begin-requires c κs = (c .before .before .before .before .before .before .befor
 enum-known-b : tie.Need-enum-known-b
 enum-known-b c = search needs
 
-run-requires : tie.Need-run-requires
-run-requires c κs = (record { indexed = c .before .before .before .before .before .before .before .before .before .before .before .before .before .before .before .before .before .pre .0 .indexed; users = users-kept (c .before .before .before .before .before .before .before .before .before .before .before .before .before .before .before .before .before .pre .0 .indexed .ready .insns) (search needs) (c .before .before .before .before .before .before .before .before .before .begin .ensures .aside) (c .before .before .before .before .before .before .before .before .before .before .before .before .before .before .before .before .before .pre .0 .users) }, (begun-ready (c .before .before .before .before .before .before .before .before .before .begin .ensures) (c .before .before .before .b .given .1), started-reaching (c .before .before .before .before .before .before .before .before .before .begin .ensures .started) (c .before .before .before .b .given .1)))
+run-lent-requires : tie.Need-run-lent-requires
+run-lent-requires c κs = (record { indexed = c .before .before .before .before .before .before .before .before .before .before .before .before .before .before .before .before .before .pre .0 .indexed; users = users-kept (c .before .before .before .before .before .before .before .before .before .before .before .before .before .before .before .before .before .pre .0 .indexed .ready .insns) (search needs) (c .before .before .before .before .before .before .before .before .before .begin .ensures .aside) (c .before .before .before .before .before .before .before .before .before .before .before .before .before .before .before .before .before .pre .0 .users) }, begun-ready (c .before .before .before .before .before .before .before .before .before .begin .ensures) (c .before .before .before .b .given .1), started-reaching (c .before .before .before .before .before .before .before .before .before .begin .ensures .started) (c .before .before .before .b .given .1))
 
 enum-known-b-2 : tie.Need-enum-known-b-2
 enum-known-b-2 c = search needs
@@ -24,7 +24,7 @@ same-length-2 : tie.Need-same-length-2
 same-length-2 c = search needs
 
 returns : tie.Need-returns
-returns c = run-ended (c .before .before .before .before .before .before .before .before .before .before .before .before .begin .ensures) (c .before .before .before .before .before .before .b .given .1) (c .before .before .run .ensures)
+returns c = run-ended (c .before .before .before .before .before .before .before .before .before .before .before .before .begin .ensures) (c .before .before .before .before .before .before .b .given .1) (c .before .before .run-lent .ensures)
 
 same-length-3 : tie.Need-same-length-3
 same-length-3 c = search needs
@@ -41,7 +41,7 @@ analyse-spec =
     (tie.spec
     begin-requires
     enum-known-b
-    run-requires
+    run-lent-requires
     enum-known-b-2
     same-length
     same-length-2

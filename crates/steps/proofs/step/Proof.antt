@@ -1,5 +1,6 @@
 -- `steps::step` meets its contract. Assumes nothing.
 use Rattle.steps.proofs.Stepping.{code-held, code-fits, some-block, some-insn, block-step, insn-step}
+use mathlib.Core.Path.{sym, _∙_}
 use borrow.Author.Needs.{needs}
 use Rattle.steps.proofs.step.Statement.{statement}
 use Rattle.steps.proofs.step.Tie as tie
@@ -8,7 +9,7 @@ block-next-requires : tie.Need-block-next-requires
 block-next-requires c κs = search needs
 
 step-block-requires : tie.Need-step-block-requires
-step-block-requires c κs = (c .before .before .before .before .before .before .before .before .pre .1 .1 .0, (code-held (c .before .before .before .before .before .before .before .before .pre .0) (c .before .before .before .before .before .before .before .before .pre .1 .1 .0), (some-block (c .before .before .before .before .before .before .before .before .args .z) (c .before .before .before .before .before .before .before .before .args .m .now) (c .before .before .before .before .before .before .before .before .args .q) (c .before .before .block-next .ensures) (c .before .if1 .taken) (c .before .before .before .before .before .before .before .before .pre .1 .1 .1 .0), c .before .before .before .before .before .before .before .before .pre .1 .1 .1 .1)))
+step-block-requires c κs = (c .before .before .before .before .before .before .before .before .pre .1 .1 .0, (code-held (c .before .before .before .before .before .before .before .before .pre .0) (c .before .before .before .before .before .before .before .before .pre .1 .1 .0), (some-block (c .before .before .before .before .before .before .before .before .args .z) (c .before .before .before .before .before .before .before .before .args .m .now) (c .before .before .before .before .before .before .before .before .args .q) (c .before .before .block-next .ensures) (c .before .if1 .taken) (c .before .before .before .before .before .before .before .before .pre .1 .1 .1 .0 .0), c .before .before .before .before .before .before .before .before .pre .1 .1 .1 .0 .1)))
 
 same-length : tie.Need-same-length
 same-length c = search needs
@@ -17,7 +18,7 @@ returns : tie.Need-returns
 returns c = block-step (c .before .before .before .before .before .before .before .before .before .before .before .args .z) (c .before .before .before .before .before .before .before .before .before .before .before .args .m .now) (c .before .before .before .before .before .before .before .before .before .before .before .args .q) (c .before .before .before .before .before .block-next .ensures) (c .before .before .before .before .if1 .taken) (code-fits (c .before .before .before .before .before .before .before .before .before .before .before .pre .0) (c .before .before .before .before .before .before .before .before .before .before .before .pre .1 .1 .0)) (c .before .before .step-block .ensures)
 
 step-insn-requires : tie.Need-step-insn-requires
-step-insn-requires c κs = (c .before .before .before .before .before .before .before .before .pre .0, (c .before .before .before .before .before .before .before .before .pre .1 .0, (c .before .before .before .before .before .before .before .before .pre .1 .1 .0, (some-insn (c .before .before .before .before .before .before .before .before .args .z) (c .before .before .before .before .before .before .before .before .args .m .now) (c .before .before .before .before .before .before .before .before .args .q) (c .before .before .block-next .ensures) (c .before .if1 .left), c .before .before .before .before .before .before .before .before .pre .1 .1 .1 .1))))
+step-insn-requires c κs = (c .before .before .before .before .before .before .before .before .pre .0, (c .before .before .before .before .before .before .before .before .pre .1 .0, (c .before .before .before .before .before .before .before .before .pre .1 .1 .0, ((some-insn (c .before .before .before .before .before .before .before .before .args .z) (c .before .before .before .before .before .before .before .before .args .m .now) (c .before .before .before .before .before .before .before .before .args .q) (c .before .before .block-next .ensures) (c .before .if1 .left), c .before .before .before .before .before .before .before .before .pre .1 .1 .1 .0 .1), c .before .before .before .before .before .before .before .before .pre .1 .1 .1 .1 (sym (c .before .before .block-next .ensures) ∙ c .before .if1 .left)))))
 
 same-length-2 : tie.Need-same-length-2
 same-length-2 c = search needs

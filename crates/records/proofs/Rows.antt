@@ -1,0 +1,49 @@
+-- The record of an instruction, and what it means. Assumes nothing.
+use mathlib.Core.Path.{_≡_, refl, sym, ap, _∙_, subst}
+use mathlib.Core.List.{List}
+use Prim.Native.Nat.{ℕ, _+_, _*_, _%_, _^_, _<_}
+use native.Mathlib.Omega.{arith}
+use lib.ListN.{length, getD}
+use Rattle.program.specs.Rows.{opFrom}
+use Rattle.program.specs.View.{Ready, ReadsInsn}
+use Rattle.program.specs.declared.Counts.{Counts}
+use Rattle.program.specs.declared.Op.{Op}
+use Rattle.program.specs.declared.Row.{Row}
+use Rattle.program.proofs.Reading.{insn-read}
+use Rattle.records.specs.Records.{none, recordAt, rowOf, Holds}
+use Rattle.records.specs.declared.Insn.{Insn}
+
+-- ---- the record of six words, and the row of a record
+
+pub record-is : (m : List ℕ) (i : ℕ)
+    → record {
+      tag = getD m (0 + 6 * i) 0;
+      block = getD m (0 + 6 * i + 1) 0;
+      x = getD m (0 + 6 * i + 2) 0;
+      y = getD m (0 + 6 * i + 3) 0;
+      first = getD m (0 + 6 * i + 4) 0;
+      count = getD m (0 + 6 * i + 5) 0;
+    }
+    ≡ recordAt m i
+unfolding recordAt
+record-is m i = refl
+
+pub row-is : (x : Insn) {o : Op} → o ≡ opFrom (x .tag) (x .x) (x .y) → record { block = record { 0 = x .block % 2 ^ 32 }; op = o; first = x .first; count = x .count } ≡ rowOf x
+unfolding rowOf
+row-is x e = rw e refl
+
+-- ---- what a record that is read means
+
+module _ {m : List ℕ} {c : Counts} (i : ℕ) (r : Ready m c) where
+  pub record-row : i < c .insns → ReadsInsn m c i (rowOf (recordAt m i))
+  unfolding recordAt rowOf
+  record-row h = insn-read i r h refl
+
+  module _ {t : List Insn} (holds : Holds t m c) where
+    -- a place of the table
+    pub holds-place : i < c .insns → i < length t
+    holds-place h = omega (arith, h, r .insns, holds .len-table)
+
+    -- what is read there, and what it means
+    pub holds-read : {x : Insn} {w : Row} → i < c .insns → x ≡ getD t i none → w ≡ rowOf x → ReadsInsn m c i w
+    holds-read h e f = subst (ReadsInsn m c i) (sym (f ∙ ap rowOf (e ∙ holds .records i h))) (record-row h)
