@@ -1,14 +1,15 @@
 -- What each way through the functions shows, on plain values. Assumes nothing.
 use Prim.Native.Nat.{ℕ, zero, suc, _+_, _-_, _*_, _/_, _≤_, _<_}
 use mathlib.Core.Path.{_≡_, refl, sym, ap, subst, _∙_}
-use mathlib.Core.Bool.{Bool, true, false}
+use mathlib.Core.Bool.{Bool, true, false, cond}
 use mathlib.Core.List.{List, [], _∷_, _++_}
 use mathlib.Core.Option.{some}
-use native.Mathlib.Decide.{ℕ-discrete}
+use native.Mathlib.Decide.{ℕ-discrete, decLt}
 use native.Mathlib.Numerals.{add-one}
 use native.Mathlib.Omega.{arith}
 use lib.Dec.{eqb}
-use lib.ListN.{length, getD}
+use lib.ListN.{length, getD, set, replicate, length-set}
+use lib.Seq.{getD-set-same, getD-set-other}
 use borrow.Author.Tests.{eqb-false}
 use Rattle.kinds.specs.Kinds.{kindFrom}
 use Rattle.rules.specs.Lists.{same, precedes}
@@ -16,13 +17,13 @@ use Rattle.rules.specs.Program.{Name, Opnd}
 use Rattle.rules.specs.Reading.{Env, lookup, bind}
 use Rattle.words.specs.Names.{name}
 use Rattle.scopes.specs.Order as Order
-use Rattle.scopes.specs.Order.{impossible, same-eq, stands}
+use Rattle.scopes.specs.Order.{impossible, same-eq, same-self, below-differ, below-same, stands}
 use Rattle.scopes.specs.Sorted.{Above, Sorted, above-trans, lookup-here, lookup-on}
 use Rattle.scopes.specs.Made.{over, envOf, env-sorted, lookup-env}
 use Rattle.scopes.specs.Joins.{rows-done, rows-left, rows-right, rows-both}
-use Rattle.scopes.specs.Rows.{Below, below-trans, sorted-below, bind-at, bind-between}
+use Rattle.scopes.specs.Rows.{Below, below-trans, sorted-below, sorted-rest, bind-at, bind-between}
 use Rattle.env.specs.Memory.{size, startIn, lengthIn, tagIn, nameIn, opndFrom, Entry, entryOf, entry, put, bindingIn, made, vars, row, Kept}
-use Rattle.env.specs.Promises.{Packed, Tagged, Binds, BindsAgain, IsAt, Finds, Values, Stands, Belongs, Sought, Lifted, Inserts, Leaves, Turned, Joins, Nexts}
+use Rattle.env.specs.Promises.{Packed, Tagged, Binds, BindsAgain, IsAt, Finds, Values, Stands, Belongs, Sought, Lifted, Inserts, Leaves, Turned, latest, Blank, Noted, Fills, Since, Notes, Full, Passes, NotesRow, NotesBoth, Joins, Nexts}
 use Rattle.env.specs.declared.Stored.{Stored}
 use Rattle.env.specs.declared.Found.{Found}
 use Rattle.env.specs.declared.Found.the-variants.{At, Nothing}
@@ -145,15 +146,55 @@ module _ (s m : List ℕ) (n w : ℕ) {a k : ℕ} {r : Found} (p : a ≡ startIn
   unfolding nameIn opndFrom kindFrom
   value-nil e = record { is = rw (← p, ← q, ← g .is, e); small = omega arith }
 
--- ---- seek, at its loop's head: the name is below all that was seen
+-- ---- names of a row
 
-pub record Seeking (s m : List ℕ) (lo n w i : ℕ) : Type 0 where
-  pub high : i ≤ n
-  pub below : Above (nameIn s w) (row s m (lo + i) (n - i))
+module _ (s m : List ℕ) where
+  -- the name at a row's head is below the rest
+  rest-above : (lo n : ℕ) → Sorted (row s m lo n) → 0 < n → Above (nameIn s (entry m lo .word)) (row s m (lo + 1) (n - 1))
+  rest-above lo n t h = (let t' : Sorted (bindingIn s (entry m lo) ∷ row s m (lo + 1) (n - 1)) = rw (row-first s m lo n h) at t in t') .0
 
-pub seek-start : (s m : List ℕ) (lo n w : ℕ) → Seeking s m lo n w n
+  -- a name below the first of a row is below all of it
+  above-row : (w lo n : ℕ) → Sorted (row s m lo n) → 0 < n → precedes (nameIn s w) (nameIn s (getD m lo 0)) ≡ true → Above (nameIn s w) (row s m lo n)
+  unfolding entry
+  above-row w lo n t h p = rw (row-first s m lo n h) (p, above-trans (nameIn s w) (nameIn s (getD m lo 0)) (row s m (lo + 1) (n - 1)) p (rest-above lo n t h))
+
+  sorted-from : (lo n j : ℕ) → j ≤ n → Sorted (row s m lo n) → Sorted (row s m (lo + j) (n - j))
+  sorted-from lo n j h t = sorted-rest (row s m lo j) _ (rw (cut s m lo n j h) at t)
+
+  above-at : (k : Name) (lo n p : ℕ) → Above k (row s m lo n) → lo ≤ p → p < lo + n → precedes k (nameIn s (entry m p .word)) ≡ true
+  unfolding row
+  above-at k lo zero p a l h = absurd (omega arith)
+  above-at k lo (suc n) p a l h = elim (ℕ-discrete p lo) [
+    | yes e ↦ rw e (a .0)
+    | no e ↦ above-at k (lo + 1) n p (a .1) (omega arith) (omega arith)
+  ]
+
+  below-at : (k : Name) (lo n p : ℕ) → Below (row s m lo n) k → lo ≤ p → p < lo + n → precedes (nameIn s (entry m p .word)) k ≡ true
+  unfolding row
+  below-at k lo zero p a l h = absurd (omega arith)
+  below-at k lo (suc n) p a l h = elim (ℕ-discrete p lo) [
+    | yes e ↦ rw e (a .0)
+    | no e ↦ below-at k (lo + 1) n p (a .1) (omega arith) (omega arith)
+  ]
+
+  -- an earlier entry has a lower name
+  rising : (lo n p q : ℕ) → Sorted (row s m lo n) → lo ≤ p → p < q → q < lo + n → precedes (nameIn s (entry m p .word)) (nameIn s (entry m q .word)) ≡ true
+  rising lo n p q t a b c =
+      let e : lo + (p - lo) ≡ p = omega arith in
+      let t' : Sorted (row s m p (n - (p - lo))) = rw e at (sorted-from lo n (p - lo) (omega arith) t) in
+      above-at (nameIn s (entry m p .word)) (p + 1) (n - (p - lo) - 1) q (rest-above p (n - (p - lo)) t' (omega arith)) (omega arith) (omega arith)
+
+-- ---- seek, at its loop's head: the name is below all from b on, and above the one before a
+
+pub record Seeking (s m : List ℕ) (lo n w a b : ℕ) : Type 0 where
+  pub low : a ≤ b
+  pub high : b ≤ n
+  pub below : Above (nameIn s w) (row s m (lo + b) (n - b))
+  pub above : 0 < a → precedes (nameIn s (entry m (lo + (a - 1)) .word)) (nameIn s w) ≡ true
+
+pub seek-start : (s m : List ℕ) (lo n w : ℕ) → Seeking s m lo n w 0 n
 unfolding row
-seek-start s m lo n w = record { high = omega arith; below = let e : n - n ≡ 0 = omega arith in rw e tt }
+seek-start s m lo n w = record { low = omega arith; high = omega arith; below = (let e : n - n ≡ 0 = omega arith in rw e tt); above = λ z. absurd (omega arith) }
 
 module _ {s m : List ℕ} {lo n w i : ℕ} where
   sought-at : Stands s m lo n w i → Sought s m lo n w (Spot.the-variants.At i)
@@ -162,31 +203,34 @@ module _ {s m : List ℕ} {lo n w i : ℕ} where
   sought-new : Belongs s m lo n w i → Sought s m lo n w (Spot.the-variants.New i)
   sought-new g = record { at = λ j e. (let z : _≡_ {A = ℕ} 0 1 = cc in absurd (omega arith)); new = λ j e. let f : i ≡ j = cc in rw f at g }
 
-module _ {s m : List ℕ} {lo n w i : ℕ} (g : Seeking s m lo n w i) where
-  pub seek-none : i ≤ 0 → Sought s m lo n w (Spot.the-variants.New 0)
-  seek-none h = let e : i ≡ 0 = omega arith in sought-new (record { inside = omega arith; below = rw e at (g .below); above = λ z. absurd (omega arith) })
+module _ {s m : List ℕ} {lo n w a b : ℕ} (g : Seeking s m lo n w a b) where
+  pub seek-none : b ≤ a → Sought s m lo n w (Spot.the-variants.New a)
+  seek-none h = let e : b ≡ a = omega (arith, g .low) in sought-new (record { inside = omega (arith, g .high); below = rw e at (g .below); above = g .above })
 
-  module _ {r : Bool} (h : 0 < i) (e : r ≡ precedes (nameIn s w) (nameIn s (getD m (lo + (i - 1)) 0))) where
-    pub seek-more : r ≡ true → Seeking s m lo n w (i - 1)
-    unfolding entry
-    seek-more f = record {
+  module _ {j : ℕ} (h : (a ≤ j) × (j < b)) {r : Bool} (e : r ≡ precedes (nameIn s w) (nameIn s (getD m (lo + j) 0))) where
+    pub seek-down : Sorted (row s m lo n) → r ≡ true → Seeking s m lo n w a j
+    seek-down t f = record {
+      low = h .0;
       high = omega (arith, g .high);
-      below =
-          let c : (lo + (i - 1)) + 1 ≡ lo + i = omega arith in
-          let d : (n - (i - 1)) - 1 ≡ n - i = omega (arith, g .high) in
-          rw (row-first s m (lo + (i - 1)) (n - (i - 1)) (omega (arith, g .high)), c, d) (sym e ∙ f, g .below);
+      below = above-row s m w (lo + j) (n - j) (sorted-from s m lo n j (omega (arith, g .high)) t) (omega (arith, g .high)) (sym e ∙ f);
+      above = g .above;
     }
 
-    module _ (f : r ≡ false) {t : Bool} (u : t ≡ same (nameIn s (getD m (lo + (i - 1)) 0)) (nameIn s w)) where
-      pub seek-at : t ≡ true → Sought s m lo n w (Spot.the-variants.At (i - 1))
+    module _ (f : r ≡ false) {t : Bool} (u : t ≡ same (nameIn s (getD m (lo + j) 0)) (nameIn s w)) where
+      pub seek-at : t ≡ true → Sought s m lo n w (Spot.the-variants.At j)
       unfolding entry
       seek-at v = sought-at (record { inside = omega (arith, g .high); is = same-eq _ _ (sym u ∙ v) })
 
-      pub seek-new : t ≡ false → Sought s m lo n w (Spot.the-variants.New i)
+      pub seek-up : t ≡ false → Seeking s m lo n w (j + 1) b
       unfolding entry
-      seek-new v = sought-new (record { inside = g .high; below = g .below; above = λ z. by (stands (nameIn s (getD m (lo + (i - 1)) 0)) (nameIn s w)) })
+      seek-up v = record {
+        low = omega arith;
+        high = g .high;
+        below = g .below;
+        above = λ z. let d : (j + 1) - 1 ≡ j = omega arith in rw d (by (stands (nameIn s (getD m (lo + j) 0)) (nameIn s w)));
+      }
         where
-          by : Order.Stands (nameIn s (getD m (lo + (i - 1)) 0)) (nameIn s w) → precedes (nameIn s (getD m (lo + (i - 1)) 0)) (nameIn s w) ≡ true
+          by : Order.Stands (nameIn s (getD m (lo + j) 0)) (nameIn s w) → precedes (nameIn s (getD m (lo + j) 0)) (nameIn s w) ≡ true
           by (Order.before a b c d) = a
           by (Order.equal a b c) = impossible c (sym u ∙ v)
           by (Order.behind a b c d) = impossible b (sym e ∙ f)
@@ -245,6 +289,18 @@ around s m lo n j h =
     let e : n ≡ j + (n - j) = omega arith in
     ap (row s m lo) e ∙ (row-split s m lo j (n - j) ∙ ap (λ l. row s m lo j ++ l) (row-first s m (lo + j) (n - j) (omega arith)))
 
+below-row : (s m : List ℕ) (lo n w i : ℕ) → Sorted (row s m lo n) → Belongs s m lo n w i → Below (row s m lo i) (nameIn s w)
+unfolding row
+below-row s m lo n w zero sorted g = tt
+below-row s m lo n w (suc i) sorted g =
+    let h : suc i - 1 ≡ i = omega arith in
+    let y = bindingIn s (entry m (lo + i)) in
+    let t : Sorted (row s m lo i ++ y ∷ row s m (lo + i + 1) (n - i - 1)) = rw (around s m lo n i (g .inside)) at sorted in
+    let up : precedes (y .0) (nameIn s w) ≡ true = rw h at (g .above (omega arith)) in
+    let z : suc i ≡ i + 1 = omega arith in
+    subst (λ l. Below l (nameIn s w)) (sym (ap (row s m lo) z ∙ row-split s m lo i 1))
+    (below-append (row s m lo i) y (nameIn s w) (below-trans (row s m lo i) (y .0) (nameIn s w) (sorted-below (row s m lo i) y (row s m (lo + i + 1) (n - i - 1)) t) up) up)
+
 module _ (s : List ℕ) (lo n w x : ℕ) (m : List ℕ) (room : (size ≤ length m) × (lo + n < 16384)) (sorted : Sorted (row s m lo n)) where
   pub insert-at : {r : Spot} (j : ℕ) (m' : List ℕ) → Sought s m lo n w r → r ≡ Spot.the-variants.At j → m' ≡ put m (lo + j) w x → Inserts s lo n w x m m' n
   insert-at j m' sought o e =
@@ -267,18 +323,6 @@ module _ (s : List ℕ) (lo n w x : ℕ) (m : List ℕ) (room : (size ≤ length
         low = kept-put 0 lo m (lo + j) w x (omega arith) (omega arith) (λ i a b z. omega arith);
       })
 
-  below-row : (i : ℕ) → Belongs s m lo n w i → Below (row s m lo i) (nameIn s w)
-  unfolding row
-  below-row zero g = tt
-  below-row (suc i) g =
-      let h : suc i - 1 ≡ i = omega arith in
-      let y = bindingIn s (entry m (lo + i)) in
-      let t : Sorted (row s m lo i ++ y ∷ row s m (lo + i + 1) (n - i - 1)) = rw (around s m lo n i (g .inside)) at sorted in
-      let up : precedes (y .0) (nameIn s w) ≡ true = rw h at (g .above (omega arith)) in
-      let z : suc i ≡ i + 1 = omega arith in
-      subst (λ l. Below l (nameIn s w)) (sym (ap (row s m lo) z ∙ row-split s m lo i 1))
-      (below-append (row s m lo i) y (nameIn s w) (below-trans (row s m lo i) (y .0) (nameIn s w) (sorted-below (row s m lo i) y (row s m (lo + i + 1) (n - i - 1)) t) up) up)
-
   pub insert-new : {r : Spot} (i : ℕ) (m1 m' : List ℕ) → Sought s m lo n w r → r ≡ Spot.the-variants.New i → Lifted (lo + i) (n - i) m m1 → m' ≡ put m1 (lo + i) w x
       → Inserts s lo n w x m m' (n + 1)
   insert-new i m1 m' sought o l e =
@@ -298,7 +342,7 @@ module _ (s : List ℕ) (lo n w x : ℕ) (m : List ℕ) (room : (size ≤ length
       rw e (record {
         len-same = put-length m1 (lo + i) w x ∙ len1;
         is = around s p lo (n + 1) i (omega arith) ∙ (rw (front, rest, back, this)
-            (sym (bind-between (nameIn s w) (opndFrom (tagIn w) x) (row s m lo i) (row s m (lo + i) (n - i)) (below-row i g) (g .below)))
+            (sym (bind-between (nameIn s w) (opndFrom (tagIn w) x) (row s m lo i) (row s m (lo + i) (n - i)) (below-row s m lo n w i sorted g) (g .below)))
             ∙ ap (bind (nameIn s w) (opndFrom (tagIn w) x)) (sym whole));
         more = omega arith;
         low = kept-trans (kept-part 0 (lo + i) 0 lo m m1 (omega arith) (omega arith) (l .low)) (kept-put 0 lo m1 (lo + i) w x (omega arith) (omega arith) (λ j a b z. omega arith));
@@ -338,6 +382,283 @@ module _ {s : List ℕ} {mark k to : ℕ} {m₀ : List ℕ} {i n : ℕ} {m : Lis
         low = kept-trans (g .low) (f .low);
       }
 
+-- ---- notes
+
+module _ (s m : List ℕ) (k : Name) where
+  -- a lookup in all bindings is one in those up to the latest, which has the name
+  record Latest (n i : ℕ) : Type 0 where
+    pub finding : Finding s m n k i
+    pub same : 0 < i → same (nameIn s (getD m (i - 1) 0)) k ≡ true
+
+  latest-is : (n : ℕ) → Latest n (latest s m k n)
+  unfolding latest made entry
+  latest-is zero = record { finding = find-start s m 0 k; same = λ h. absurd (omega arith) }
+  latest-is (suc n) = by (same (nameIn s (getD m n 0)) k) refl (latest-is n)
+    where
+      by : (t : Bool) → same (nameIn s (getD m n 0)) k ≡ t → Latest n (latest s m k n) → Latest (suc n) (cond t (suc n) (latest s m k n))
+      by true e g = record { finding = find-start s m (suc n) k; same = λ h. let d : suc n - 1 ≡ n = omega arith in rw d e }
+      by false e g =
+          let z : 0 + n ≡ n = omega arith in
+          record {
+            finding = record { high = omega (arith, g .finding .high); same = g .finding .same ∙ sym (rw z (lookup-on k (bindingIn s (entry m n)) (made s m 0 n) e)) };
+            same = g .same;
+          }
+
+-- the latest binding of a name is not before any of that name
+latest-least : (s m : List ℕ) (k : Name) (n i : ℕ) → i < n → same (nameIn s (getD m i 0)) k ≡ true → i < latest s m k n
+unfolding latest entry
+latest-least s m k zero i l e = absurd (omega arith)
+latest-least s m k (suc n) i l e = by (same (nameIn s (getD m n 0)) k) refl (latest-least s m k n i)
+  where
+    by : (t : Bool) → same (nameIn s (getD m n 0)) k ≡ t → (i < n → same (nameIn s (getD m i 0)) k ≡ true → i < latest s m k n) → i < cond t (suc n) (latest s m k n)
+    by true f h = omega arith
+    by false f h = elim (ℕ-discrete i n) [
+      | yes z ↦ impossible (rw z at e) f
+      | no z ↦ h (omega arith) e
+    ]
+
+latest-kept : (s m m' : List ℕ) (k : Name) (n : ℕ) → Kept 0 n m m' → latest s m' k n ≡ latest s m k n
+unfolding latest
+latest-kept s m m' k zero h = refl
+latest-kept s m m' k (suc n) h = rw (h .same n (omega arith) (omega arith), latest-kept s m m' k n (kept-part 0 (suc n) 0 n m m' (omega arith) (omega arith) h))
+
+-- what is noted for a row holds of a part of it, and where the bindings and the row stay
+pub noted-part : {s m : List ℕ} {base lo n : ℕ} {g : List ℕ} (x : ℕ) → x ≤ n → Noted s m base lo n g → Noted s m base (lo + x) (n - x) g
+noted-part x h f = record { is = λ p a b. f .is p (omega arith) (omega arith) }
+
+pub noted-kept : {s m : List ℕ} {base lo n : ℕ} {g : List ℕ} (m' : List ℕ) → Kept 0 base m m' → Kept 8192 16384 m m' → 8192 ≤ lo → lo + n ≤ 16384 → Noted s m base lo n g → Noted s m' base lo n g
+noted-kept {s} {m} {base} m' old aside a b f = record {
+  is = λ p c d e. rw (aside .same p (omega arith) (omega arith), latest-kept s m m' (nameIn s (entry m p .word)) base old) (f .is p c d e);
+}
+
+pub noted-none : (s m : List ℕ) (base lo n : ℕ) → Noted s m base lo n []
+noted-none s m base lo n = record { is = λ p a b c. absurd (omega arith) }
+
+pub zeros-blank : (n : ℕ) → Blank (replicate n 0)
+zeros-blank n = record { is = at n }
+  where
+    at : (n i : ℕ) → _≡_ {A = ℕ} (getD (replicate n 0) i 0) 0
+    at zero i = refl
+    at (suc n) zero = refl
+    at (suc n) (suc i) = at n i
+
+pub noted-blank : {g : List ℕ} (s m : List ℕ) (lo n : ℕ) → Blank g → Noted s m 0 lo n g
+unfolding latest
+noted-blank s m lo n f = record { is = λ p a b c. f .is (p - 8192) }
+
+fills-none : (lo n : ℕ) (g : List ℕ) → Fills lo n g g
+fills-none lo n g = record { len-same = refl; more = λ i e. e; before = λ p a b. refl; behind = λ p a. refl }
+
+fills-trans : {lo n : ℕ} {g g' g'' : List ℕ} → Fills lo n g g' → Fills lo n g' g'' → Fills lo n g g''
+fills-trans e f = record {
+  len-same = f .len-same ∙ e .len-same;
+  more = λ i z. e .more i (f .more i z);
+  before = λ p a b. f .before p a b ∙ e .before p a b;
+  behind = λ p a. f .behind p a ∙ e .behind p a;
+}
+
+abbrev name-at : List ℕ → List ℕ → ℕ → Name
+name-at s m p = nameIn s (entry m p .word)
+
+module _ {s m : List ℕ} {lo n i : ℕ} (g : List ℕ) (room : (size ≤ length m) × ((8192 ≤ length g) × (i < 16384))) (place : (8192 ≤ lo) × (lo + n ≤ 16384))
+    (sorted : Sorted (row s m lo n)) {r : Spot} (u : Sought s m lo n (getD m i 0) r) where
+  -- an entry whose name binding i has not
+  other : (base p : ℕ) → Since s m base (i + 1) lo n g → lo ≤ p → p < lo + n → same (nameIn s (getD m i 0)) (name-at s m p) ≡ false → i < latest s m (name-at s m p) base
+      → getD g (p - 8192) 0 ≡ latest s m (name-at s m p) base
+  other base p f a b e l = elim (ℕ-discrete (latest s m (name-at s m p) base) (i + 1)) [
+    | yes z ↦ (let d : latest s m (name-at s m p) base - 1 ≡ i = omega arith in impossible (rw d at (latest-is s m (name-at s m p) base .same (omega arith))) e)
+    | no z ↦ f .noted p a b (omega arith)
+  ]
+
+  pub note-new : {j : ℕ} → r ≡ Spot.the-variants.New j → Notes s m i lo n g g
+  note-new {j} o =
+      let w = getD m i 0 in
+      let bl = u .new j o in
+      let j-in : j ≤ n = bl .inside in
+      record {
+        fills = fills-none lo n g;
+        is = λ base l f. record {
+          noted = λ p a b h. other base p f a b (elim (decLt p (lo + j)) [
+            | yes y ↦ below-differ (name-at s m p) (nameIn s w) (below-at s m (nameIn s w) lo j p (below-row s m lo n w j sorted bl) a y)
+            | no y ↦ below-same (nameIn s w) (name-at s m p) (above-at s m (nameIn s w) (lo + j) (n - j) p (bl .below) (omega arith) (omega arith))
+          ]) h;
+          blank = λ p a b h. f .blank p a b (omega arith);
+        };
+      }
+
+  module _ {j : ℕ} (o : r ≡ Spot.the-variants.At j) where
+    at-in : j < n
+    at-in = u .at j o .inside
+
+    this : (base : ℕ) → i < base → i < latest s m (name-at s m (lo + j)) base
+    this base l = latest-least s m (name-at s m (lo + j)) base i l (rw (u .at j o .is) (same-self (nameIn s (getD m i 0))))
+
+    apart : (p : ℕ) → lo ≤ p → p < lo + n → (p ≡ lo + j → ⊥) → same (nameIn s (getD m i 0)) (name-at s m p) ≡ false
+    apart p a b z = rw (← u .at j o .is) (elim (decLt p (lo + j)) [
+      | yes y ↦ below-differ (name-at s m p) (name-at s m (lo + j)) (rising s m lo n p (lo + j) sorted a y (omega (arith, at-in)))
+      | no y ↦ below-same (name-at s m (lo + j)) (name-at s m p) (rising s m lo n (lo + j) p sorted (omega arith) (omega arith) b)
+    ])
+
+    place-of : (lo + j) - 8192 ≡ lo - 8192 + j
+    place-of = omega arith
+
+    pub note-other : (getD g (lo - 8192 + j) 0 ≡ 0 → ⊥) → Notes s m i lo n g g
+    note-other v = record {
+      fills = fills-none lo n g;
+      is = λ base l f. record {
+        noted = λ p a b h. elim (ℕ-discrete p (lo + j)) [
+          | yes z ↦ elim (decLt (i + 1) (latest s m (name-at s m p) base)) [
+            | yes y ↦ f .noted p a b y
+            | no y ↦ (let d : p - 8192 ≡ lo - 8192 + j = omega arith in absurd (v (rw d at (f .blank p a b (omega arith)))))
+          ]
+          | no z ↦ other base p f a b (apart p a b z) h
+        ];
+        blank = λ p a b h. f .blank p a b (omega arith);
+      };
+    }
+
+    module _ {g' : List ℕ} (v : getD g (lo - 8192 + j) 0 ≡ 0) (e : g' ≡ set g (lo - 8192 + j) (i + 1)) where
+      set-here : getD g' (lo - 8192 + j) 0 ≡ i + 1
+      set-here = rw e (getD-set-same g (lo - 8192 + j) (i + 1) 0 (omega (arith, at-in)))
+
+      set-there : (q : ℕ) → (q ≡ lo - 8192 + j → ⊥) → getD g' q 0 ≡ getD g q 0
+      set-there q z = rw e (getD-set-other g (lo - 8192 + j) q (i + 1) 0 z)
+
+      -- no later binding has the name
+      alone : (base : ℕ) → i < base → Since s m base (i + 1) lo n g → latest s m (name-at s m (lo + j)) base ≡ i + 1
+      alone base l f = elim (decLt (i + 1) (latest s m (name-at s m (lo + j)) base)) [
+        | yes y ↦ absurd (omega (arith, v, rw place-of at (f .noted (lo + j) (omega arith) (omega (arith, at-in)) y)))
+        | no y ↦ omega (arith, this base l)
+      ]
+
+      pub note-first : Notes s m i lo n g g'
+      note-first = record {
+        fills = record {
+          len-same = rw e (length-set g (lo - 8192 + j) (i + 1));
+          more = λ q z. elim (ℕ-discrete q (lo - 8192 + j)) [
+            | yes y ↦ rw y v
+            | no y ↦ sym (set-there q y) ∙ z
+          ];
+          before = λ p a b. set-there (p - 8192) (λ y. omega arith);
+          behind = λ p a. set-there (p - 8192) (λ y. omega (arith, at-in));
+        };
+        is = λ base l f. record {
+          noted = λ p a b h. elim (ℕ-discrete p (lo + j)) [
+            | yes z ↦ rw (z, place-of) (set-here ∙ sym (alone base l f))
+            | no z ↦ set-there (p - 8192) (λ y. z (omega arith)) ∙ other base p f a b (apart p a b z) h
+          ];
+          blank = λ p a b h. elim (ℕ-discrete p (lo + j)) [
+            | yes z ↦ absurd (omega (arith, this base l, rw z at h))
+            | no z ↦ set-there (p - 8192) (λ y. z (omega arith)) ∙ f .blank p a b (omega arith)
+          ];
+        };
+      }
+
+module _ (g : List ℕ) (lo n u : ℕ) (room : (8192 ≤ length g) × ((8192 ≤ lo) × ((lo + n ≤ 16384) × (u < n)))) where
+  pub pass-none : Passes g lo n u u
+  pass-none = record { high = omega arith; full = λ f. f }
+
+  pub pass-one : (getD g (lo - 8192 + u) 0 ≡ 0 → ⊥) → Passes g lo n u (u + 1)
+  pass-one v = record {
+    high = omega arith;
+    full = λ f. record {
+      is = λ p a b z. elim (ℕ-discrete p (lo + u)) [
+        | yes y ↦ (let d : p - 8192 ≡ lo - 8192 + u = omega arith in v (rw d at z))
+        | no y ↦ f .is p a (omega arith) z
+      ];
+    };
+  }
+
+-- note_row, at its loop's head: the bindings from i on are noted, and the first u entries have notes
+pub record Noting (s m : List ℕ) (base lo n : ℕ) (g₀ : List ℕ) (i u : ℕ) (g : List ℕ) : Type 0 where
+  pub high : i ≤ base
+  pub up : u ≤ n
+  pub full : Full lo u g
+  pub fills : Fills lo n g₀ g
+  pub is : Since s m base i lo n g
+
+pub noting-start : {s m g : List ℕ} {lo n : ℕ} (base : ℕ) → (8192 ≤ lo) × (lo + n ≤ 16384) → 8192 ≤ length g → Noted s m 0 lo n g → Noting s m base lo n g base 0 g
+unfolding latest
+noting-start {s} {m} {g} {lo} {n} base place room f = record {
+  high = omega arith;
+  up = omega arith;
+  full = record { is = λ p a b. absurd (omega arith) };
+  fills = fills-none lo n g;
+  is = record {
+    noted = λ p a b h. absurd (omega (arith, latest-is s m (nameIn s (entry m p .word)) base .finding .high));
+    blank = λ p a b h. f .is p a b (omega arith);
+  };
+}
+
+module _ {s m : List ℕ} {base lo n : ℕ} {g₀ : List ℕ} {i u : ℕ} {g : List ℕ} (h : Noting s m base lo n g₀ i u g) where
+  pub noting-more : {g' : List ℕ} {v : ℕ} → 0 < i → Notes s m (i - 1) lo n g g' → Passes g' lo n u v → Noting s m base lo n g₀ (i - 1) v g'
+  noting-more l f e =
+      let d : (i - 1) + 1 ≡ i = omega arith in
+      record {
+        high = omega (arith, h .high);
+        up = e .high;
+        full = e .full (record { is = λ p a b z. h .full .is p a b (f .fills .more (p - 8192) z) });
+        fills = fills-trans (h .fills) (f .fills);
+        is = f .is base (omega (arith, h .high)) (rw d (h .is));
+      }
+
+  pub noting-all : u ≡ n → NotesRow s m base lo n g₀ g
+  noting-all e = record {
+    fills = h .fills;
+    is = record {
+      is = λ p a b c. elim (decLt i (latest s m (nameIn s (entry m p .word)) base)) [
+        | yes y ↦ h .is .noted p a b y
+        | no y ↦ absurd (h .full .is p a (omega arith) (h .is .blank p a b (omega arith)))
+      ];
+    };
+  }
+
+  pub noting-done : i ≤ 0 → NotesRow s m base lo n g₀ g
+  noting-done e = record {
+    fills = h .fills;
+    is = record {
+      is = λ p a b c. elim (decLt 0 (latest s m (nameIn s (entry m p .word)) base)) [
+        | yes y ↦ h .is .noted p a b (omega arith)
+        | no y ↦ h .is .blank p a b (omega arith) ∙ (let d : 0 ≡ latest s m (nameIn s (entry m p .word)) base = omega arith in d)
+      ];
+    };
+  }
+
+module _ {s m : List ℕ} {base lo n hi k : ℕ} {g g1 : List ℕ} (place : (8192 ≤ lo) × ((lo + n ≤ hi) × (hi + k ≤ 16384))) (blank : Blank g) (f : NotesRow s m base lo n g g1) where
+  pub note-second : Noted s m 0 hi k g1
+  unfolding latest
+  note-second = record { is = λ p a b c. f .fills .behind p (omega arith) ∙ blank .is (p - 8192) }
+
+  pub note-both : {g2 : List ℕ} → NotesRow s m base hi k g1 g2 → NotesBoth s m base lo n hi k g2
+  note-both e = record {
+    left = record { is = λ p a b c. e .fills .before p (omega arith) (omega arith) ∙ f .is .is p a b (omega (arith, e .fills .len-same)) };
+    right = e .is;
+  }
+
+-- ---- value_at
+
+module _ {s m : List ℕ} {n p : ℕ} {g : List ℕ} (f : Noted s m n p 1 g) (h : p - 8192 < length g) {i : ℕ} (e : i ≡ getD g (p - 8192) 0) where
+  noted-is : i ≡ latest s m (nameIn s (entry m p .word)) n
+  noted-is = e ∙ f .is p (omega arith) (omega arith) h
+
+  noted-latest : Latest s m (nameIn s (entry m p .word)) n i
+  noted-latest = rw (noted-is) (latest-is s m (nameIn s (entry m p .word)) n)
+
+  pub noted-low : n ≤ 16384 → i - 1 < 16384
+  noted-low h = omega (arith, noted-latest .finding .high)
+
+  pub value-none : i ≡ 0 → Values s m n (entry m p .word) (record { tag = 1; bits = 0 })
+  unfolding nameIn
+  value-none z = value-nil s m n (entry m p .word) refl refl (find-none (noted-latest .finding) (omega arith)) refl
+
+  pub value-noted : {o : Stored} → (i ≡ 0 → ⊥) → IsAt m (i - 1) o → Values s m n (entry m p .word) o
+  unfolding nameIn
+  value-noted z u = value-found s m n (entry m p .word) refl refl (find-hit (noted-latest .finding) (omega arith) refl (noted-latest .same (omega arith)) u) refl
+
+pub value-looked : {s : List ℕ} {n : ℕ} {o : Stored} (m : List ℕ) (p : ℕ) → Values s m n (getD m p 0) o → Values s m n (entry m p .word) o
+unfolding entry
+value-looked m p f = f
+
 -- ---- turn
 
 number : Side → ℕ
@@ -351,14 +672,6 @@ no-side : {A : Type 0} (a b : Side) → eqb (number a) (number b) ≡ false → 
 no-side a b f e = absurd (eqb-false (number a) (number b) f (ap number e))
 
 module _ (s m : List ℕ) (lo n hi k : ℕ) (sorted : Sorted (row s m lo n) × Sorted (row s m hi k)) where
-  -- a name below the first of a row is below all of it
-  above-row : (w lo n : ℕ) → Sorted (row s m lo n) → 0 < n → precedes (nameIn s w) (nameIn s (getD m lo 0)) ≡ true → Above (nameIn s w) (row s m lo n)
-  unfolding entry
-  above-row w lo n t h p =
-      let f = row-first s m lo n h in
-      let t' : Sorted (bindingIn s (entry m lo) ∷ row s m (lo + 1) (n - 1)) = rw f at t in
-      rw f (p, above-trans (nameIn s w) (nameIn s (getD m lo 0)) (row s m (lo + 1) (n - 1)) p (t' .0))
-
   is-left : (0 < n) × Above (nameIn s (entry m lo .word)) (row s m hi k) → Turned s m lo n hi k Left
   unfolding number
   is-left g = record { left = λ e. g; right = no-side Left Right refl; both = no-side Left Both refl; done = no-side Left Done refl }
@@ -382,12 +695,12 @@ module _ (s m : List ℕ) (lo n hi k : ℕ) (sorted : Sorted (row s m lo n) × S
   module _ {r : Bool} (p : n ≡ 0 → ⊥) (q : k ≡ 0 → ⊥) (e : r ≡ precedes (nameIn s (getD m lo 0)) (nameIn s (getD m hi 0))) where
     pub turn-left : r ≡ true → Turned s m lo n hi k Left
     unfolding entry
-    turn-left f = is-left (omega arith, above-row (getD m lo 0) hi k (sorted .1) (omega arith) (sym e ∙ f))
+    turn-left f = is-left (omega arith, above-row s m (getD m lo 0) hi k (sorted .1) (omega arith) (sym e ∙ f))
 
     module _ (f : r ≡ false) {t : Bool} (u : t ≡ precedes (nameIn s (getD m hi 0)) (nameIn s (getD m lo 0))) where
       pub turn-right : t ≡ true → Turned s m lo n hi k Right
       unfolding entry
-      turn-right v = is-right (omega arith, above-row (getD m hi 0) lo n (sorted .0) (omega arith) (sym u ∙ v))
+      turn-right v = is-right (omega arith, above-row s m (getD m hi 0) lo n (sorted .0) (omega arith) (sym u ∙ v))
 
       pub turn-both : t ≡ false → Turned s m lo n hi k Both
       unfolding entry number
@@ -415,14 +728,16 @@ module _ (s m : List ℕ) (base lo n hi k : ℕ) (sorted : Sorted (row s m lo n)
   abbrev first : ℕ → Name × Opnd
   first i = bindingIn s (entry m i)
 
-  -- the name at a row's head is below the rest
-  rest-above : (lo n : ℕ) → Sorted (row s m lo n) → 0 < n → Above (first lo .0) (row s m (lo + 1) (n - 1))
-  rest-above lo n t h = (let t' : Sorted (first lo ∷ row s m (lo + 1) (n - 1)) = rw (row-first s m lo n h) at t in t') .0
-
   stay : (lo n : ℕ) → row s m (lo + 0) (n - 0) ≡ row s m lo n
   stay lo n = let a : lo + 0 ≡ lo = omega arith in let b : n - 0 ≡ n = omega arith in rw (a, b)
 
-  pub next-left : {o v : Stored} → r ≡ Left → IsAt m lo o → Values s m base (getD m lo 0) v
+  pub noted-left : {t : List ℕ} → r ≡ Left → NotesBoth s m base lo n hi k t → Noted s m base lo 1 t
+  noted-left e f = record { is = λ p a b. f .left .is p a (omega (arith, g .left e .0)) }
+
+  pub noted-right : {t : List ℕ} → r ≡ Right → NotesBoth s m base lo n hi k t → Noted s m base hi 1 t
+  noted-right e f = record { is = λ p a b. f .right .is p a (omega (arith, g .right e .0)) }
+
+  pub next-left : {o v : Stored} → r ≡ Left → IsAt m lo o → Values s m base (entry m lo .word) v
       → Nexts s m base lo n hi k (Next.the-variants.Join (record { word = getD m lo 0; left = o; right = v; lefts = 1; rights = 0 }))
   unfolding entry
   next-left {o} {v} e u w =
@@ -436,10 +751,10 @@ module _ (s m : List ℕ) (base lo n hi k : ℕ) (sorted : Sorted (row s m lo n)
         right = w .small;
         is = λ L b c st.
             rw (row-first s m lo n h, stay hi k, u .tag, u .bits, w .is)
-            (rows-left L b c (vars s m base) (first lo) (row s m (lo + 1) (n - 1)) (row s m hi k) st (rest-above lo n (sorted .0) h) (f .1));
+            (rows-left L b c (vars s m base) (first lo) (row s m (lo + 1) (n - 1)) (row s m hi k) st (rest-above s m lo n (sorted .0) h) (f .1));
       })
 
-  pub next-right : {o v : Stored} → r ≡ Right → Values s m base (getD m hi 0) v → IsAt m hi o
+  pub next-right : {o v : Stored} → r ≡ Right → Values s m base (entry m hi .word) v → IsAt m hi o
       → Nexts s m base lo n hi k (Next.the-variants.Join (record { word = getD m hi 0; left = v; right = o; lefts = 0; rights = 1 }))
   unfolding entry
   next-right {o} {v} e w u =
@@ -453,7 +768,7 @@ module _ (s m : List ℕ) (base lo n hi k : ℕ) (sorted : Sorted (row s m lo n)
         right = u .small;
         is = λ L b c st.
             rw (row-first s m hi k h, stay lo n, u .tag, u .bits, w .is)
-            (rows-right L b c (vars s m base) (first hi) (row s m lo n) (row s m (hi + 1) (k - 1)) st (f .1) (rest-above hi k (sorted .1) h));
+            (rows-right L b c (vars s m base) (first hi) (row s m lo n) (row s m (hi + 1) (k - 1)) st (f .1) (rest-above s m hi k (sorted .1) h));
       })
 
   pub next-both : {o v : Stored} → r ≡ Both → IsAt m lo o → IsAt m hi v
@@ -472,7 +787,7 @@ module _ (s m : List ℕ) (base lo n hi k : ℕ) (sorted : Sorted (row s m lo n)
         is = λ L b c st.
             rw (row-first s m lo n h, row-first s m hi k h', u .tag, u .bits, w .tag, w .bits)
             (rows-both L b c (vars s m base) (first lo) (first hi) (row s m (lo + 1) (n - 1)) (row s m (hi + 1) (k - 1)) st (f .1 .1)
-            (rest-above lo n (sorted .0) h) (rw (f .1 .1) (rest-above hi k (sorted .1) h')));
+            (rest-above s m lo n (sorted .0) h) (rw (f .1 .1) (rest-above s m hi k (sorted .1) h')));
       })
 
   pub next-done : r ≡ Done → Nexts s m base lo n hi k Next.the-variants.Done

@@ -1,11 +1,11 @@
 -- What each function promises. Assumes nothing.
-use mathlib.Core.Bool.{true}
+use mathlib.Core.Bool.{true, cond}
 use mathlib.Core.Path.{_≡_}
 use mathlib.Core.List.{List}
 use mathlib.Core.Option.{Option, none, some}
-use Prim.Native.Nat.{ℕ, _+_, _-_, _≤_, _<_}
-use lib.ListN.{length}
-use Rattle.rules.specs.Lists.{precedes}
+use Prim.Native.Nat.{ℕ, zero, suc, _+_, _-_, _≤_, _<_}
+use lib.ListN.{length, getD}
+use Rattle.rules.specs.Lists.{same, precedes}
 use Rattle.rules.specs.Program.{Limits, Name, Opnd}
 use Rattle.rules.specs.Actions.{answered, ifAnswered}
 use Rattle.rules.specs.Reading.{Parser, lookup, bind, valueOrNil}
@@ -113,6 +113,55 @@ pub record Turned (s m : List ℕ) (lo n hi k : ℕ) (r : Side) : Type 0 where
   pub right : r ≡ Right → (0 < k) × Above (nameIn s (entry m hi .word)) (row s m lo n)
   pub both : r ≡ Both → (0 < n) × ((0 < k) × (nameIn s (entry m lo .word) ≡ nameIn s (entry m hi .word)))
   pub done : r ≡ Done → (n ≡ 0) × (k ≡ 0)
+
+-- ---- notes
+
+-- the number of the latest of n bindings that has the name k, counted from 1; 0 where none has
+unfoldable pub latest : List ℕ → List ℕ → Name → ℕ → ℕ
+latest s m k zero = 0
+latest s m k (suc n) = cond (same (nameIn s (entry m n .word)) k) (suc n) (latest s m k n)
+
+pub record Blank (g : List ℕ) : Type 0 where
+  pub is : (i : ℕ) → getD g i 0 ≡ 0
+
+-- g has the latest of base bindings for each of n entries from lo on, as far as it reaches
+pub record Noted (s m : List ℕ) (base lo n : ℕ) (g : List ℕ) : Type 0 where
+  pub is : (p : ℕ) → lo ≤ p → p < lo + n → p - 8192 < length g → getD g (p - 8192) 0 ≡ latest s m (nameIn s (entry m p .word)) base
+
+-- g gets notes for n entries from lo on: none is taken back, and other entries' stay
+pub record Fills (lo n : ℕ) (g g' : List ℕ) : Type 0 where
+  pub len-same : length g' ≡ length g
+  pub more : (i : ℕ) → getD g' i 0 ≡ 0 → getD g i 0 ≡ 0
+  pub before : (p : ℕ) → 8192 ≤ p → p < lo → getD g' (p - 8192) 0 ≡ getD g (p - 8192) 0
+  pub behind : (p : ℕ) → lo + n ≤ p → getD g' (p - 8192) 0 ≡ getD g (p - 8192) 0
+
+-- of base bindings those from i on are noted for n entries from lo on
+pub record Since (s m : List ℕ) (base i lo n : ℕ) (g : List ℕ) : Type 0 where
+  pub noted : (p : ℕ) → lo ≤ p → p < lo + n → i < latest s m (nameIn s (entry m p .word)) base → getD g (p - 8192) 0 ≡ latest s m (nameIn s (entry m p .word)) base
+  pub blank : (p : ℕ) → lo ≤ p → p < lo + n → latest s m (nameIn s (entry m p .word)) base ≤ i → getD g (p - 8192) 0 ≡ 0
+
+-- binding i is noted after those behind it
+pub record Notes (s m : List ℕ) (i lo n : ℕ) (g g' : List ℕ) : Type 0 where
+  pub fills : Fills lo n g g'
+  pub is : (base : ℕ) → i < base → Since s m base (i + 1) lo n g → Since s m base i lo n g'
+
+-- the u entries from lo on have notes
+pub record Full (lo u : ℕ) (g : List ℕ) : Type 0 where
+  pub is : (p : ℕ) → lo ≤ p → p < lo + u → getD g (p - 8192) 0 ≡ 0 → ⊥
+
+-- where the first u have notes, the first r have
+pub record Passes (g : List ℕ) (lo n u r : ℕ) : Type 0 where
+  pub high : r ≤ n
+  pub full : Full lo u g → Full lo r g
+
+-- all base bindings are noted
+pub record NotesRow (s m : List ℕ) (base lo n : ℕ) (g g' : List ℕ) : Type 0 where
+  pub fills : Fills lo n g g'
+  pub is : Noted s m base lo n g'
+
+pub record NotesBoth (s m : List ℕ) (base lo n hi k : ℕ) (g : List ℕ) : Type 0 where
+  pub left : Noted s m base lo n g
+  pub right : Noted s m base hi k g
 
 -- what is left of the join of two rows, after its next name
 pub record Joins (s m : List ℕ) (base lo n hi k : ℕ) (x : Joint) : Type 0 where

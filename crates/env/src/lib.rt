@@ -5,11 +5,14 @@ ghost use lib.ListN.{length};
 ghost use Rattle.rules.specs.Lists.{same as same_of, precedes as precedes_of};
 ghost use Rattle.words.specs.Names.{name};
 ghost use Rattle.scopes.specs.Sorted.{Sorted};
-ghost use Rattle.env.specs.Memory.{size, startIn, lengthIn, tagIn, nameIn, put as put_of, row};
-ghost use Rattle.env.specs.Promises.{Packed, Tagged, Binds, BindsAgain, IsAt, Finds, Values, Sought, Lifted, Inserts, Leaves, Turned, Nexts};
+ghost use Rattle.env.specs.Memory.{size, startIn, lengthIn, tagIn, nameIn, entry, put as put_of, row};
+ghost use Rattle.env.specs.Promises.{Packed, Tagged, Binds, BindsAgain, IsAt, Finds, Values, Sought, Lifted, Inserts, Leaves, Turned, Blank, Noted, Notes, Passes, NotesRow, NotesBoth, Nexts};
 
 // Where the second column begins.
 const OPERANDS: usize = 16384;
+
+// Where the rows begin.
+const ROWS: usize = 8192;
 
 // An operand as it is stored.
 pub struct Stored {
@@ -175,24 +178,34 @@ fn value(s: &[u8], m: &[usize], n: usize, w: usize) -> Stored
 
 // ---- rows: entries from a place on, in rising order of names
 
+// Which of the entries from a up to b of a row of n is looked at next: first the row's last, since names often come in rising order.
+fn probe(a: usize, b: usize, n: usize) -> usize
+    requires { ⌜ (a < b) × (b ≤ 16384) ⌝ }
+    ensures { λ r. ⌜ (a ≤ r) × (r < b) ⌝ }
+{
+    if b == n { b - 1 } else { (a + b) / 2 }
+}
+
 // Where the name of w stands, or belongs, in the row of n entries from lo on.
 fn seek(s: &[u8], m: &[usize], lo: usize, n: usize, w: usize) -> Spot
     requires { ⌜ (size ≤ length (now m)) × (lo + n ≤ 16384) ⌝ }
+    requires { ⌜ Sorted (row (now s) (now m) lo n) ⌝ }
     ensures { λ r. ⌜ Sought (now (s .entry)) (now (m .entry)) lo n w r ⌝ }
 {
-    let mut i = n;
-    while 0 < i {
-        let j = i - 1;
+    let mut a = 0;
+    let mut b = n;
+    while a < b {
+        let j = probe(a, b, n);
         let v = m[lo + j];
         if precedes(s, w, v) {
-            i = j;
+            b = j;
         } else if same(s, v, w) {
             return Spot::At(j);
         } else {
-            return Spot::New(i);
+            a = j + 1;
         }
     }
-    Spot::New(0)
+    Spot::New(a)
 }
 
 // k entries from at on move up by one.
@@ -247,6 +260,102 @@ pub fn set_aside(s: &[u8], m: &mut [usize], mark: usize, k: usize, to: usize) ->
     n
 }
 
+// ---- notes: for each entry of a row the number of the latest binding of its name, counted from 1; 0 for none
+
+fn wide(x: u16) -> usize
+    ensures { λ r. ⌜ r ≡ x ⌝ }
+{
+    x as usize
+}
+
+// Binding i is noted for the entry of its name, if the row of n entries from lo on has one and no other is noted for it.
+fn note(s: &[u8], m: &[usize], g: &mut [u16], lo: usize, n: usize, i: usize)
+    requires { ⌜ (size ≤ length (now m)) × ((8192 ≤ length (now g)) × (i < 16384)) ⌝ }
+    requires { ⌜ (8192 ≤ lo) × (lo + n ≤ 16384) ⌝ }
+    requires { ⌜ Sorted (row (now s) (now m) lo n) ⌝ }
+    ensures { λ r. ⌜ Notes (now (s .entry)) (now (m .entry)) i lo n (now (g .entry)) (now (g .exit)) ⌝ }
+{
+    let w = m[i];
+    match seek(s, m, lo, n, w) {
+        Spot::At(j) => {
+            let q = lo - ROWS + j;
+            if g[q] == 0 {
+                g[q] = (i + 1) as u16;
+            }
+        }
+        Spot::New(_) => {}
+    }
+}
+
+// How many entries from lo on are known to have notes, if the first u have: one more is looked at.
+fn pass(g: &[u16], lo: usize, n: usize, u: usize) -> usize
+    requires { ⌜ (8192 ≤ length (now g)) × ((8192 ≤ lo) × ((lo + n ≤ 16384) × (u < n))) ⌝ }
+    ensures { λ r. ⌜ Passes (now (g .entry)) lo n u r ⌝ }
+{
+    if g[lo - ROWS + u] == 0 { u } else { u + 1 }
+}
+
+// The base bindings are noted for a row for which none is noted, the latest first, until each entry has a note.
+fn note_row(s: &[u8], m: &[usize], g: &mut [u16], base: usize, lo: usize, n: usize)
+    requires { ⌜ (size ≤ length (now m)) × ((8192 ≤ length (now g)) × (base ≤ 16384)) ⌝ }
+    requires { ⌜ (8192 ≤ lo) × (lo + n ≤ 16384) ⌝ }
+    requires { ⌜ Sorted (row (now s) (now m) lo n) ⌝ }
+    requires { ⌜ Noted (now s) (now m) 0 lo n (now g) ⌝ }
+    ensures { λ r. ⌜ NotesRow (now (s .entry)) (now (m .entry)) base lo n (now (g .entry)) (now (g .exit)) ⌝ }
+{
+    let mut i = base;
+    let mut u = 0;
+    while 0 < i {
+        if u == n {
+            return;
+        }
+        i -= 1;
+        note(s, m, g, lo, n, i);
+        u = pass(g, lo, n, u);
+    }
+}
+
+// The base bindings are noted for two rows, n entries from lo on and k from hi on.
+pub fn note_rows(
+    s: &[u8],
+    m: &[usize],
+    g: &mut [u16],
+    base: usize,
+    lo: usize,
+    n: usize,
+    hi: usize,
+    k: usize,
+)
+    requires { ⌜ (size ≤ length (now m)) × ((8192 ≤ length (now g)) × (base ≤ 16384)) ⌝ }
+    requires { ⌜ (8192 ≤ lo) × ((lo + n ≤ hi) × (hi + k ≤ 16384)) ⌝ }
+    requires { ⌜ Sorted (row (now s) (now m) lo n) × Sorted (row (now s) (now m) hi k) ⌝ }
+    requires { ⌜ Blank (now g) ⌝ }
+    ensures { λ r. ⌜ NotesBoth (now (s .entry)) (now (m .entry)) base lo n hi k (now (g .exit)) ⌝ }
+{
+    note_row(s, m, g, base, lo, n);
+    note_row(s, m, g, base, hi, k);
+}
+
+// What the name of entry p is among n bindings; nil if it is unbound. An entry that g has no place for is looked up.
+fn value_at(s: &[u8], m: &[usize], g: &[u16], n: usize, p: usize) -> Stored
+    requires { ⌜ (size ≤ length (now m)) × ((n ≤ 16384) × ((8192 ≤ p) × (p < 16384))) ⌝ }
+    requires { ⌜ Noted (now s) (now m) n p 1 (now g) ⌝ }
+    ensures { λ r. ⌜ Values (now (s .entry)) (now (m .entry)) n (entry (now (m .entry)) p .word) r ⌝ }
+{
+    let q = p - ROWS;
+    if q < g.len() {
+        let i = wide(g[q]);
+        if i == 0 {
+            return Stored { tag: 1, bits: 0 };
+        }
+        return operand(m, i - 1);
+    }
+    let w = m[p];
+    value(s, m, n, w)
+}
+
+// ---- joins
+
 // Which of two rows, n entries from lo on and k from hi on, has the least name.
 fn turn(s: &[u8], m: &[usize], lo: usize, n: usize, hi: usize, k: usize) -> Side
     requires { ⌜ (size ≤ length (now m)) × ((lo + n ≤ 16384) × (hi + k ≤ 16384)) ⌝ }
@@ -273,25 +382,28 @@ fn turn(s: &[u8], m: &[usize], lo: usize, n: usize, hi: usize, k: usize) -> Side
     Side::Both
 }
 
-// The next name of two rows, which the arms set over base bindings.
+// The next name of two rows, which the arms set over base bindings; g has the rows' notes, or is empty.
 pub fn next_join(
     s: &[u8],
     m: &[usize],
+    g: &[u16],
     base: usize,
     lo: usize,
     n: usize,
     hi: usize,
     k: usize,
 ) -> Next
-    requires { ⌜ (size ≤ length (now m)) × ((base ≤ 16384) × ((lo + n ≤ 16384) × (hi + k ≤ 16384))) ⌝ }
+    requires { ⌜ (size ≤ length (now m)) × (base ≤ 16384) ⌝ }
+    requires { ⌜ ((8192 ≤ lo) × (lo + n ≤ 16384)) × ((8192 ≤ hi) × (hi + k ≤ 16384)) ⌝ }
     requires { ⌜ Sorted (row (now s) (now m) lo n) × Sorted (row (now s) (now m) hi k) ⌝ }
+    requires { ⌜ NotesBoth (now s) (now m) base lo n hi k (now g) ⌝ }
     ensures { λ r. ⌜ Nexts (now (s .entry)) (now (m .entry)) base lo n hi k r ⌝ }
 {
     match turn(s, m, lo, n, hi, k) {
         Side::Left => {
             let word = m[lo];
             let left = operand(m, lo);
-            let right = value(s, m, base, word);
+            let right = value_at(s, m, g, base, lo);
             Next::Join(Joint {
                 word,
                 left,
@@ -302,7 +414,7 @@ pub fn next_join(
         }
         Side::Right => {
             let word = m[hi];
-            let left = value(s, m, base, word);
+            let left = value_at(s, m, g, base, hi);
             let right = operand(m, hi);
             Next::Join(Joint {
                 word,

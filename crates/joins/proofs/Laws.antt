@@ -24,15 +24,16 @@ use Rattle.scopes.specs.Made.{over, envOf, env-sorted}
 use Rattle.scopes.specs.Rows.{sorted-rest}
 use Rattle.scopes.specs.Sorted.{Sorted}
 use Rattle.scopes.specs.Joins.{joinOne, joinRows, join-rows}
-use Rattle.env.specs.Memory.{opndFrom, made, vars, row, Kept}
+use Rattle.env.specs.Memory.{size, opndFrom, made, vars, row, Kept}
 use Rattle.env.specs.Promises as E
-use Rattle.env.specs.Promises.{Binds, BindsAgain, Leaves, Joins, Nexts}
+use Rattle.env.specs.Promises.{Binds, BindsAgain, Leaves, Blank, NotesBoth, Joins, Nexts}
 use Rattle.env.specs.declared.Found.{Found}
 use Rattle.env.specs.declared.Found.the-variants as F
 use Rattle.env.specs.declared.Stored.{Stored}
 use Rattle.env.specs.declared.Joint.{Joint}
 use Rattle.env.specs.declared.Next as Next
 use Rattle.env.specs.declared.Next.{Next}
+use Rattle.env.proofs.Laws.{noted-part, noted-kept, noted-none}
 use Rattle.env.proofs.Entries.{kept-all, kept-trans, kept-part, vars-kept, vars-split, row-kept, cut}
 use Rattle.program.specs.Rows.{opndOf}
 use Rattle.program.specs.View.{view, Ready, limitsOf, Did, pushOf, moreInsns, insnOf, unchanged}
@@ -167,7 +168,8 @@ module _ (l : Limits) (q : Blocks) (n : ℕ) (x : Joint) (m p : List ℕ) (c : C
 
 -- ---- join_rows, at its loop's head: what is left to join comes to what the whole comes to
 
-pub record Joining (s : List ℕ) (l : Limits) (q : Blocks) (base : ℕ) (x : Sides) (m₀ p₀ : List ℕ) (c : Counts) (m p : List ℕ) (n : ℕ) (d : Counts) (lo ln hi rn : ℕ) : Type 0 where
+pub record Joining (s : List ℕ) (l : Limits) (q : Blocks) (base : ℕ) (x : Sides) (m₀ p₀ t : List ℕ) (c : Counts) (m p : List ℕ) (n : ℕ) (d : Counts) (lo ln hi rn : ℕ) : Type 0 where
+  pub big : size ≤ length m
   pub len-same : length m ≡ length m₀
   pub len-prog : length p ≡ length p₀
   pub low : Kept 0 base m₀ m
@@ -183,13 +185,16 @@ pub record Joining (s : List ℕ) (l : Limits) (q : Blocks) (base : ℕ) (x : Si
   pub right : hi + rn ≤ 16384
   pub sorted-left : Sorted (row s m₀ lo ln)
   pub sorted-right : Sorted (row s m₀ hi rn)
+  pub noted : NotesBoth s m₀ base lo ln hi rn t
   pub same : (r : Parser) → r .block ≡ q .at .0
       → joinRows (limitsOf l) (q .left .0) (q .right .0) (vars s m₀ base) (row s m₀ lo ln) (row s m₀ hi rn) (state s m n p d r)
       ≡ joinRows (limitsOf l) (q .left .0) (q .right .0) (vars s m₀ base) (row s m₀ (x .lo) (x .ln)) (row s m₀ (x .hi) (x .rn)) (state s m₀ base p₀ c r)
 
-pub join-start : (s : List ℕ) (l : Limits) (q : Blocks) (base : ℕ) (x : Sides) (m p : List ℕ) (c : Counts) → Ready p c → Fit base x
-    → Sorted (row s m (x .lo) (x .ln)) × Sorted (row s m (x .hi) (x .rn)) → Joining s l q base x m p c m p base c (x .lo) (x .ln) (x .hi) (x .rn)
-join-start s l q base x m p c ok f t = record {
+pub join-start : (s : List ℕ) (l : Limits) (q : Blocks) (base : ℕ) (x : Sides) (m p t : List ℕ) (c : Counts) → size ≤ length m → Ready p c → Fit base x
+    → Sorted (row s m (x .lo) (x .ln)) × Sorted (row s m (x .hi) (x .rn)) → NotesBoth s m base (x .lo) (x .ln) (x .hi) (x .rn) t
+    → Joining s l q base x m p t c m p base c (x .lo) (x .ln) (x .hi) (x .rn)
+join-start s l q base x m p t c h ok f o k = record {
+  big = h;
   len-same = refl;
   len-prog = refl;
   low = kept-all 0 base m;
@@ -203,13 +208,14 @@ join-start s l q base x m p c ok f t = record {
   left = f .left;
   right-low = f .right-low;
   right = f .right;
-  sorted-left = t .0;
-  sorted-right = t .1;
+  sorted-left = o .0;
+  sorted-right = o .1;
+  noted = k;
   same = λ r h. refl;
 }
 
-module _ {s : List ℕ} {l : Limits} {q : Blocks} {base : ℕ} {x : Sides} {m₀ p₀ : List ℕ} {c : Counts} {m p : List ℕ} {n : ℕ} {d : Counts} {lo ln hi rn : ℕ}
-    (g : Joining s l q base x m₀ p₀ c m p n d lo ln hi rn) where
+module _ {s : List ℕ} {l : Limits} {q : Blocks} {base : ℕ} {x : Sides} {m₀ p₀ t : List ℕ} {c : Counts} {m p : List ℕ} {n : ℕ} {d : Counts} {lo ln hi rn : ℕ}
+    (g : Joining s l q base x m₀ p₀ t c m p n d lo ln hi rn) where
   same-base : vars s m base ≡ vars s m₀ base
   same-base = vars-kept s m₀ m base 0 base (g .low) (omega arith) (omega arith)
 
@@ -218,6 +224,12 @@ module _ {s : List ℕ} {l : Limits} {q : Blocks} {base : ℕ} {x : Sides} {m₀
 
   pub join-sorted : Sorted (row s m lo ln) × Sorted (row s m hi rn)
   join-sorted = (rw (same-row lo ln (g .left-low) (g .left)) (g .sorted-left), rw (same-row hi rn (g .right-low) (g .right)) (g .sorted-right))
+
+  pub join-noted : NotesBoth s m base lo ln hi rn t
+  join-noted = record {
+    left = noted-kept m (g .low) (g .aside) (g .left-low) (g .left) (g .noted .left);
+    right = noted-kept m (g .low) (g .aside) (g .right-low) (g .right) (g .noted .right);
+  }
 
   pub join-done : {y : Next} → Nexts s m base lo ln hi rn y → y ≡ Next.the-variants.Done → Rows s l q base x m₀ p₀ c m p (Joined.the-variants.On n d)
   join-done {y} a e = record {
@@ -259,10 +271,11 @@ module _ {s : List ℕ} {l : Limits} {q : Blocks} {base : ℕ} {x : Sides} {m₀
     }
 
     pub join-more : {n' : ℕ} {d' : Counts} → j ≡ Joined.the-variants.On n' d' → length p' ≡ length p
-        → Joining s l q base x m₀ p₀ c m' p' n' d' (lo + z .lefts) (ln - z .lefts) (hi + z .rights) (rn - z .rights)
+        → Joining s l q base x m₀ p₀ t c m' p' n' d' (lo + z .lefts) (ln - z .lefts) (hi + z .rights) (rn - z .rights)
     join-more {n'} {d'} i len =
         let ok = rw i at (o .ready) in
         record {
+          big = omega (arith, g .big, o .len-same);
           len-same = o .len-same ∙ g .len-same;
           len-prog = len ∙ g .len-prog;
           low = kept-trans (g .low) (kept-part 0 n 0 base m m' (omega arith) (g .old) (o .old));
@@ -278,6 +291,7 @@ module _ {s : List ℕ} {l : Limits} {q : Blocks} {base : ℕ} {x : Sides} {m₀
           right = omega (arith, g .right, turn .rights);
           sorted-left = sorted-rest (row s m₀ lo (z .lefts)) _ (rw (cut s m₀ lo ln (z .lefts) (turn .lefts)) at (g .sorted-left));
           sorted-right = sorted-rest (row s m₀ hi (z .rights)) _ (rw (cut s m₀ hi rn (z .rights) (turn .rights)) at (g .sorted-right));
+          noted = record { left = noted-part (z .lefts) (turn .lefts) (g .noted .left); right = noted-part (z .rights) (turn .rights) (g .noted .right) };
           same = λ r h. rw i at (rest r h);
         }
 
@@ -288,9 +302,6 @@ less-most p c lo hi hi' (Joined.the-variants.On n d) h r = (r .0, (r .1 .0, (r .
 less-most p c lo hi hi' (Joined.the-variants.Refused e) h r = tt
 
 module _ {mark n top ln : ℕ} (f : Arms mark n top ln) where
-  pub arms-part : (mark + (n - mark) ≤ top + ln) × ((top + ln) + (n - mark) ≤ 16384)
-  arms-part = (omega (arith, f .old, f .low, f .room), omega (arith, f .old, f .room))
-
   module _ {s m m1 : List ℕ} {rn : ℕ} (v : Leaves s mark (n - mark) (top + ln) m m1 rn) where
     pub arms-fit : Fit mark (record { lo = top; ln = ln; hi = top + ln; rn = rn })
     arms-fit = record {
@@ -306,6 +317,12 @@ module _ {mark n top ln : ℕ} (f : Arms mark n top ln) where
 
     pub arms-sorted : Sorted (row s m top ln) → Sorted (row s m1 top ln) × Sorted (row s m1 (top + ln) rn)
     arms-sorted t = (rw same-left t, rw (v .is) (env-sorted (made s m mark (n - mark))))
+
+    pub arms-place : (8192 ≤ top) × ((top + ln ≤ top + ln) × ((top + ln) + rn ≤ 16384))
+    arms-place = (f .low, (omega arith, omega (arith, f .old, f .room, v .less)))
+
+    pub arms-none : NotesBoth s m1 mark top ln (top + ln) rn []
+    arms-none = record { left = noted-none s m1 mark top ln; right = noted-none s m1 mark (top + ln) rn }
 
     pub arms-done : {l : Limits} {q : Blocks} {p : List ℕ} {c : Counts} {m' p' : List ℕ} {j : Joined}
         → Rows s l q mark (record { lo = top; ln = ln; hi = top + ln; rn = rn }) m1 p c m' p' j → IfEnd s l q mark n top ln m p c m' p' j

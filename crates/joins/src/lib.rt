@@ -17,7 +17,7 @@ ghost use lib.ListN.{length};
 ghost use Rattle.words.specs.Names.{name};
 ghost use Rattle.scopes.specs.Sorted.{Sorted};
 ghost use Rattle.env.specs.Memory.{size, row};
-ghost use Rattle.env.specs.Promises.{opndOf as stored_of};
+ghost use Rattle.env.specs.Promises.{opndOf as stored_of, NotesBoth};
 ghost use Rattle.program.specs.Rows.{opndOf};
 ghost use Rattle.program.specs.View.{Ready, Small};
 ghost use Rattle.joins.specs.Joining.{IsStored, Sets, Finds, Phis, One, Fit, Rows, Arms, IfEnd};
@@ -93,6 +93,9 @@ pub fn get_var(s: &[u8], m: &[usize], n: usize, a: usize, k: usize) -> Var
 
 // ---- joins
 
+// For more names than these the bindings are noted before the join; so many are looked up one by one.
+const FEW: usize = 8;
+
 // The block that takes instructions, and the blocks of the two sides.
 pub struct Blocks {
     pub at: BlockId,
@@ -157,11 +160,12 @@ fn join_one(
     }
 }
 
-// What the two rows set over base bindings is joined, in rising order of names.
+// What the two rows set over base bindings is joined, in rising order of names; g has the rows' notes, or is empty.
 fn join_rows(
     s: &[u8],
     m: &mut [usize],
     p: &mut [usize],
+    g: &[u16],
     c: Counts,
     l: Limits,
     q: Blocks,
@@ -174,6 +178,7 @@ fn join_rows(
     requires { ⌜ size ≤ length (now m) ⌝ }
     requires { ⌜ Fit base x ⌝ }
     requires { ⌜ Sorted (row (now s) (now m) (x .lo) (x .ln)) × Sorted (row (now s) (now m) (x .hi) (x .rn)) ⌝ }
+    requires { ⌜ NotesBoth (now s) (now m) base (x .lo) (x .ln) (x .hi) (x .rn) (now g) ⌝ }
     ensures { λ r. ⌜ Rows (now (s .entry)) l q base x (now (m .entry)) (now (p .entry)) c (now (m .exit)) (now (p .exit)) r ⌝ }
 {
     let mut n = base;
@@ -183,7 +188,7 @@ fn join_rows(
     let mut hi = x.hi;
     let mut rn = x.rn;
     loop {
-        match env::next_join(s, m, base, lo, ln, hi, rn) {
+        match env::next_join(s, m, g, base, lo, ln, hi, rn) {
             Next::Join(y) => {
                 match join_one(m, p, d, l, q, n, y) {
                     Joined::On(n1, d1) => {
@@ -229,19 +234,17 @@ pub fn join_arms(
 {
     let hi = top + ln;
     let rn = env::set_aside(s, m, mark, n - mark, hi);
-    join_rows(
-        s,
-        m,
-        p,
-        c,
-        l,
-        q,
-        mark,
-        Sides {
-            lo: top,
-            ln,
-            hi,
-            rn,
-        },
-    )
+    let x = Sides {
+        lo: top,
+        ln,
+        hi,
+        rn,
+    };
+    if ln + rn <= FEW {
+        let none = [0u16; 0];
+        return join_rows(s, m, p, &none, c, l, q, mark, x);
+    }
+    let mut g = [0u16; 8192];
+    env::note_rows(s, m, &mut g, mark, top, ln, hi, rn);
+    join_rows(s, m, p, &g, c, l, q, mark, x)
 }

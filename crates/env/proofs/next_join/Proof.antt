@@ -1,4 +1,4 @@
-use Rattle.env.proofs.Laws.{next-left, next-right, next-both, next-done}
+use Rattle.env.proofs.Laws.{noted-left, noted-right, next-left, next-right, next-both, next-done}
 use native.Mathlib.Omega.{arith}
 use borrow.Author.Needs.{needs}
 use Rattle.env.proofs.next_join.Statement.{statement}
@@ -19,8 +19,8 @@ shared-slice-read-word c = search needs
 operand-requires : tie.Need-operand-requires
 operand-requires c κs = omega (arith, c .before .before .before .turn .ensures .left (c .before .enum-told .given .1) .0)
 
-value-requires : tie.Need-value-requires
-value-requires c κs = search needs
+value-at-requires : tie.Need-value-at-requires
+value-at-requires c κs = (omega (arith, c .before .before .before .before .turn .ensures .left (c .before .before .enum-told .given .1) .0), search noted-left)
 
 enum-told-2 : tie.Need-enum-told-2
 enum-told-2 c = search needs
@@ -31,8 +31,8 @@ mul-word-2 c = search needs
 shared-slice-read-word-2 : tie.Need-shared-slice-read-word-2
 shared-slice-read-word-2 c = search needs
 
-value-requires-2 : tie.Need-value-requires-2
-value-requires-2 c κs = search needs
+value-at-requires-2 : tie.Need-value-at-requires-2
+value-at-requires-2 c κs = (omega (arith, c .before .before .before .turn .ensures .right (c .before .enum-told2 .given .1) .0), search noted-right)
 
 operand-requires-2 : tie.Need-operand-requires-2
 operand-requires-2 c κs = omega (arith, c .before .before .before .before .turn .ensures .right (c .before .before .enum-told2 .given .1) .0)
@@ -76,11 +76,11 @@ next-join-spec =
     mul-word
     shared-slice-read-word
     operand-requires
-    value-requires
+    value-at-requires
     enum-told-2
     mul-word-2
     shared-slice-read-word-2
-    value-requires-2
+    value-at-requires-2
     operand-requires-2
     enum-told-3
     mul-word-3

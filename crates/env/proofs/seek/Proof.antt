@@ -1,19 +1,20 @@
-use Rattle.env.proofs.Laws.{Seeking, seek-start, seek-none, seek-more, seek-at, seek-new}
+use Rattle.env.proofs.Laws.{Seeking, seek-start, seek-none, seek-down, seek-at, seek-up}
+use Prim.Native.Nat.{_-_}
 use borrow.Author.Needs.{needs}
 use Rattle.env.proofs.seek.Statement.{statement}
 use Rattle.env.proofs.seek.Tie as tie
 
 abbrev Inv-loop : tie.InvT-loop
-Inv-loop s m lo n w i₀ i = Seeking s m lo n w i
+Inv-loop s m lo n w a₀ b₀ a b = Seeking s m lo n w a b
 
 abbrev μ-loop : tie.MeasureT-loop
-μ-loop s m lo n w i₀ i = i
+μ-loop s m lo n w a₀ b₀ a b = b - a
 
 loop-holds : tie.Need-loop-holds Inv-loop μ-loop
 loop-holds c = search seek-start
 
-sub-j : tie.Need-sub-j Inv-loop μ-loop
-sub-j c = search needs
+probe-requires : tie.Need-probe-requires Inv-loop μ-loop
+probe-requires c κs = search needs
 
 add-v : tie.Need-add-v Inv-loop μ-loop
 add-v c = search needs
@@ -31,7 +32,7 @@ loop-less : tie.Need-loop-less Inv-loop μ-loop
 loop-less c = search needs
 
 loop-again : tie.Need-loop-again Inv-loop μ-loop
-loop-again c = search seek-more
+loop-again c = search seek-down
 
 same-requires : tie.Need-same-requires Inv-loop μ-loop
 same-requires c κs = search needs
@@ -39,11 +40,17 @@ same-requires c κs = search needs
 returns : tie.Need-returns Inv-loop μ-loop
 returns c = search seek-at
 
-returns-2 : tie.Need-returns-2 Inv-loop μ-loop
-returns-2 c = search seek-new
+add-a : tie.Need-add-a Inv-loop μ-loop
+add-a c = search needs
 
-returns-3 : tie.Need-returns-3 Inv-loop μ-loop
-returns-3 c = search seek-none
+loop-less-2 : tie.Need-loop-less-2 Inv-loop μ-loop
+loop-less-2 c = search needs
+
+loop-again-2 : tie.Need-loop-again-2 Inv-loop μ-loop
+loop-again-2 c = search seek-up
+
+returns-2 : tie.Need-returns-2 Inv-loop μ-loop
+returns-2 c = search seek-none
 
 pub seek-spec : {M : Type 1} → statement M
 seek-spec =
@@ -52,7 +59,7 @@ seek-spec =
     Inv-loop
     μ-loop
     loop-holds
-    sub-j
+    probe-requires
     add-v
     mul-v
     shared-slice-read-v
@@ -61,5 +68,7 @@ seek-spec =
     loop-again
     same-requires
     returns
-    returns-2
-    returns-3)
+    add-a
+    loop-less-2
+    loop-again-2
+    returns-2)

@@ -1,4 +1,8 @@
-use Rattle.joins.proofs.Laws.{arms-part, arms-fit, arms-sorted, arms-done}
+use Rattle.joins.proofs.Laws.{arms-fit, arms-sorted, arms-place, arms-none, arms-done}
+use Rattle.env.proofs.Laws.{zeros-blank}
+use Prim.Native.Nat.{ℕ}
+use native.Mathlib.Omega.{arith}
+use lib.ListN.{length-replicate}
 use borrow.Author.Needs.{needs}
 use Rattle.joins.proofs.join_arms.Statement.{statement}
 use Rattle.joins.proofs.join_arms.Tie as tie
@@ -10,10 +14,16 @@ sub-set-aside : tie.Need-sub-set-aside
 sub-set-aside c = search needs
 
 set-aside-requires : tie.Need-set-aside-requires
-set-aside-requires c κs = (search needs, search arms-part)
+set-aside-requires c κs = search needs
+
+add-if1 : tie.Need-add-if1
+add-if1 c = search needs
+
+slice-aggregate-join-rows : tie.Need-slice-aggregate-join-rows
+slice-aggregate-join-rows c = search needs
 
 join-rows-requires : tie.Need-join-rows-requires
-join-rows-requires c κs = (search needs, (search needs, (search needs, (search needs, (search arms-fit, arms-sorted (c .before .before .before .before .before .before .before .before .before .pre .1 .1 .1 .1 .0) (c .before .before .before .before .set-aside .ensures) (c .before .before .before .before .before .before .before .before .before .pre .1 .1 .1 .1 .1))))))
+join-rows-requires c κs = (search needs, (search needs, (search needs, (search needs, (arms-fit (c .before .before .before .before .before .before .before .before .before .before .before .pre .1 .1 .1 .1 .0) (c .before .before .before .before .before .before .set-aside .ensures), (arms-sorted (c .before .before .before .before .before .before .before .before .before .before .before .pre .1 .1 .1 .1 .0) (c .before .before .before .before .before .before .set-aside .ensures) (c .before .before .before .before .before .before .before .before .before .before .before .pre .1 .1 .1 .1 .1), arms-none (c .before .before .before .before .before .before .before .before .before .before .before .pre .1 .1 .1 .1 .0) (c .before .before .before .before .before .before .set-aside .ensures)))))))
 
 same-length : tie.Need-same-length
 same-length c = search needs
@@ -22,7 +32,28 @@ same-length-2 : tie.Need-same-length-2
 same-length-2 c = search needs
 
 returns : tie.Need-returns
-returns c = search arms-done
+returns c = arms-done (c .before .before .before .before .before .before .before .before .before .before .before .before .before .before .before .before .pre .1 .1 .1 .1 .0) (c .before .before .before .before .before .before .before .before .before .before .before .set-aside .ensures) (c .before .before .before .before .join-rows .ensures)
+
+slice-aggregate-note-rows : tie.Need-slice-aggregate-note-rows
+slice-aggregate-note-rows c = search needs
+
+note-rows-requires : tie.Need-note-rows-requires
+note-rows-requires c κs = (omega (arith, length-replicate {A = ℕ} 8192 0), (arms-place (c .before .before .before .before .before .before .before .before .before .before .pre .1 .1 .1 .1 .0) (c .before .before .before .before .before .set-aside .ensures), (arms-sorted (c .before .before .before .before .before .before .before .before .before .before .pre .1 .1 .1 .1 .0) (c .before .before .before .before .before .set-aside .ensures) (c .before .before .before .before .before .before .before .before .before .before .pre .1 .1 .1 .1 .1), zeros-blank 8192)))
+
+slice-aggregate-join-rows-2 : tie.Need-slice-aggregate-join-rows-2
+slice-aggregate-join-rows-2 c = search needs
+
+join-rows-requires-2 : tie.Need-join-rows-requires-2
+join-rows-requires-2 c κs = (search needs, (search needs, (search needs, (search needs, (arms-fit (c .before .before .before .before .before .before .before .before .before .before .before .before .before .before .before .pre .1 .1 .1 .1 .0) (c .before .before .before .before .before .before .before .before .before .before .set-aside .ensures), (arms-sorted (c .before .before .before .before .before .before .before .before .before .before .before .before .before .before .before .pre .1 .1 .1 .1 .0) (c .before .before .before .before .before .before .before .before .before .before .set-aside .ensures) (c .before .before .before .before .before .before .before .before .before .before .before .before .before .before .before .pre .1 .1 .1 .1 .1), c .before .before .before .before .note-rows .ensures))))))
+
+same-length-3 : tie.Need-same-length-3
+same-length-3 c = search needs
+
+same-length-4 : tie.Need-same-length-4
+same-length-4 c = search needs
+
+returns-2 : tie.Need-returns-2
+returns-2 c = arms-done (c .before .before .before .before .before .before .before .before .before .before .before .before .before .before .before .before .before .before .before .before .pre .1 .1 .1 .1 .0) (c .before .before .before .before .before .before .before .before .before .before .before .before .before .before .before .set-aside .ensures) (c .before .before .before .before .join-rows2 .ensures)
 
 pub join-arms-spec : {M : Type 1} → statement M
 join-arms-spec =
@@ -31,7 +62,16 @@ join-arms-spec =
     add-hi
     sub-set-aside
     set-aside-requires
+    add-if1
+    slice-aggregate-join-rows
     join-rows-requires
     same-length
     same-length-2
-    returns)
+    returns
+    slice-aggregate-note-rows
+    note-rows-requires
+    slice-aggregate-join-rows-2
+    join-rows-requires-2
+    same-length-3
+    same-length-4
+    returns-2)

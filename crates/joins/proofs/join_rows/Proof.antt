@@ -1,4 +1,4 @@
-use Rattle.joins.proofs.Laws.{Joining, join-start, join-sorted, join-done, join-stop, join-more}
+use Rattle.joins.proofs.Laws.{Joining, join-start, join-sorted, join-noted, join-done, join-stop, join-more}
 use Prim.Native.Nat.{_+_}
 use mathlib.Core.Path.{_∙_}
 use native.Mathlib.Omega.{arith}
@@ -7,22 +7,22 @@ use Rattle.joins.proofs.join_rows.Statement.{statement}
 use Rattle.joins.proofs.join_rows.Tie as tie
 
 abbrev Inv-loop : tie.InvT-loop
-Inv-loop s m₀ p₀ l q base n₀ d₀ lo₀ ln₀ hi₀ rn₀ m p n d lo ln hi rn = Joining s l q base (record { lo = lo₀; ln = ln₀; hi = hi₀; rn = rn₀ }) m₀ p₀ d₀ m p n d lo ln hi rn
+Inv-loop s m₀ p₀ g l q base n₀ d₀ lo₀ ln₀ hi₀ rn₀ m p n d lo ln hi rn = Joining s l q base (record { lo = lo₀; ln = ln₀; hi = hi₀; rn = rn₀ }) m₀ p₀ g d₀ m p n d lo ln hi rn
 
 abbrev μ-loop : tie.MeasureT-loop
-μ-loop s m₀ p₀ l q base n₀ d₀ lo₀ ln₀ hi₀ rn₀ m p n d lo ln hi rn = ln + rn
+μ-loop s m₀ p₀ g l q base n₀ d₀ lo₀ ln₀ hi₀ rn₀ m p n d lo ln hi rn = ln + rn
 
 loop-holds : tie.Need-loop-holds Inv-loop μ-loop
 loop-holds c = search join-start
 
 next-join-requires : tie.Need-next-join-requires Inv-loop μ-loop
-next-join-requires c κs = (omega (arith, c .before .loop .inv .len-same), join-sorted (c .before .loop .inv))
+next-join-requires c κs = (search needs, (search needs, (join-sorted (c .before .loop .inv), join-noted (c .before .loop .inv))))
 
 enum-known-y : tie.Need-enum-known-y Inv-loop μ-loop
 enum-known-y c = search needs
 
 join-one-requires : tie.Need-join-one-requires Inv-loop μ-loop
-join-one-requires c κs = (c .before .before .before .before .before .before .before .loop .inv .ready, (search needs, (omega (arith, c .before .before .before .before .before .before .before .loop .inv .grown), omega (arith, c .before .before .before .before .before .before .before .loop .inv .len-same, c .before .before .before .before .before .before .before .loop .inv .room, c .before .before .before .before .before .before .before .loop .inv .most, c .before .before .before .before .before .next-join .ensures .join _ (c .before .before .before .y .given .1)))))
+join-one-requires c κs = (c .before .before .before .before .before .before .before .loop .inv .ready, (search needs, (omega (arith, c .before .before .before .before .before .before .before .loop .inv .grown), omega (arith, c .before .before .before .before .before .before .before .loop .inv .big, c .before .before .before .before .before .before .before .loop .inv .room, c .before .before .before .before .before .before .before .loop .inv .most, c .before .before .before .before .before .next-join .ensures .join _ (c .before .before .before .y .given .1)))))
 
 enum-known-n1 : tie.Need-enum-known-n1 Inv-loop μ-loop
 enum-known-n1 c = search needs
@@ -67,7 +67,7 @@ same-length-4 : tie.Need-same-length-4 Inv-loop μ-loop
 same-length-4 c = search needs
 
 returns-2 : tie.Need-returns-2 Inv-loop μ-loop
-returns-2 c = search join-done
+returns-2 c = join-done (c .before .before .before .before .loop .inv) (c .before .before .next-join .ensures) (c .enum-told .given .1)
 
 pub join-rows-spec : {M : Type 1} → statement M
 join-rows-spec =
