@@ -1,6 +1,6 @@
 -- The arguments of a function's callers, and a Param's kind. Assumes nothing.
 use mathlib.Core.Bool.{Bool as 𝔹, true, false, cond}
-use mathlib.Core.Path.{_≡_, refl, sym, ap, _∙_}
+use mathlib.Core.Path.{_≡_, refl, sym, ap, subst, _∙_}
 use mathlib.Core.Option.{none, some}
 use mathlib.Core.List.{List, [], _∷_, map}
 use Prim.Native.Nat.{ℕ, zero, suc, _+_, _-_, _*_, _≤_, _<_}
@@ -9,14 +9,16 @@ use native.Mathlib.Omega.{arith}
 use borrow.Author.Tests.{ltb-true, ltb-false}
 use mir.Syntax.{w32}
 use mir.Val.{Fits as FitsIn}
+use lib.Bits.{bitOr}
 use lib.Dec.{ltb}
 use lib.ListN.{length, getD, drop, drop-of-length-le, List·getD-eq-default}
 use lib.Seq.{drop-cons, getD-drop}
 use Rattle.sets.specs.declared.InsnId.{InsnId}
 use Rattle.sets.proofs.Bits.{Either, yes, no, either}
 use Rattle.kinds.specs.declared.Kind.{Kind}
-use Rattle.kinds.specs.declared.Kind.the-variants.{Empty, Any, Nil}
+use Rattle.kinds.specs.declared.Kind.the-variants.{Empty, Any, Nil, Objects}
 use Rattle.kinds.specs.declared.Joined.{Joined}
+use Rattle.kinds.specs.declared.Joined.the-variants.{Of}
 use Rattle.kinds.specs.Kinds.{isAny}
 use Rattle.kinds.specs.Union.{unionAll}
 use Rattle.rules.specs.Actions.{lift}
@@ -45,9 +47,12 @@ use Rattle.opnds.specs.Reads.{Inside, kindIn, Reads}
 use Rattle.opnds.proofs.Given.{kind-of}
 use Rattle.flows.specs.declared.Pass.{Pass}
 use Rattle.flows.specs.declared.Tally.the-variants.{Nothing as None}
+use Rattle.flows.specs.declared.AsSet.{AsSet}
+use Rattle.flows.specs.declared.AsSet.the-variants.{Set, Other}
 use Rattle.flows.specs.Tally.{Nothing, least, takeAll, finish, unionOver, FitsAt, Fits}
-use Rattle.flows.specs.Flows.{tallyOf, Passed, skipOf, Argues, Sound, Known, PassedIn, ParamIs}
+use Rattle.flows.specs.Flows.{tallyOf, Passed, skipOf, Argues, Sound, Known, PassedIn, asSet, joinSets, SetsFrom, ParamIs}
 use Rattle.flows.proofs.Whole.{union-over}
+use Rattle.flows.proofs.Sets.{sets-union}
 use Rattle.flows.proofs.Tallied.{passed-none, passed-append}
 
 -- ---- arguments
@@ -158,6 +163,44 @@ module _ {m : List ℕ} {c : Counts} {z : Sizes} (w : List ℕ) {f k : ℕ} {s :
 pub callers-start : (m : List ℕ) (c : Counts) (z : Sizes) (w : List ℕ) (f n : ℕ) (x : Pass) → Passing m c z w f n x x 0
 callers-start m c z w f n x y p = p
 
+-- ---- join_sets at its loop's head
+
+abbrev pub Summing : List ℕ → Counts → Sizes → List ℕ → ℕ → ℕ → ℕ → ℕ → Type 0
+Summing m c z w f n s k = (y : AsSet) → SetsFrom m c z w f n k s y → SetsFrom m c z w f n 0 0 y
+
+pub sets-start : (m : List ℕ) (c : Counts) (z : Sizes) (w : List ℕ) (f n : ℕ) → Summing m c z w f n 0 0
+sets-start m c z w f n y p = p
+
+join-step : (ks : List Kind) (s : ℕ) (o : P.Opnd) (l : List P.Opnd) {x : AsSet} → asSet (kindIn ks o) ≡ x
+    → joinSets ks s (o ∷ l) ≡ elim x [ Set t ↦ joinSets ks (bitOr s t) l | Other ↦ Other ]
+unfolding joinSets
+join-step ks s o l e = ap (λ (y : AsSet). elim y [ Set t ↦ joinSets ks (bitOr s t) l | Other ↦ Other ]) e
+
+join-none : (ks : List Kind) (s : ℕ) → joinSets ks s [] ≡ Set s
+unfolding joinSets
+join-none ks s = refl
+
+module _ {m : List ℕ} {c : Counts} {z : Sizes} (w : List ℕ) {f k : ℕ} {x : NextInsn} (q : Known m c z (calledOf z w))
+    (h : Following (calledOf z w) f (z .insns) k x) (n s : ℕ) (g : Summing m c z w f n s k) where
+  pub sets-done : x ≡ Done → SetsFrom m c z w f n 0 0 (Set s)
+  sets-done e = g (Set s) (record { passed = λ L u _. rw (next-is w q h e .is) (sym (join-none (kindsOf z w) s)) })
+
+  module _ (i : InsnId) {o : Opnd} {j : Kind} {y : AsSet} (e : x ≡ Place i) (a : Argues m c (i .0) n o) (ej : j ≡ kindIn (kindsOf z w) (opndOf o)) (ey : y ≡ asSet j) where
+    step : (L : Limits) (u : List ℕ) → Sound (view u m c) (z .insns) (calledOf z w) → {v : AsSet} → y ≡ v
+        → joinSets (kindsOf z w) s (map (argument L (view u m c) n) (marksFrom (calledOf z w) f k))
+        ≡ elim v [ Set t ↦ joinSets (kindsOf z w) (bitOr s t) (map (argument L (view u m c) n) (marksFrom (calledOf z w) f (i .0 + 1))) | Other ↦ Other ]
+    step L u so ev =
+        let b : opndOf o ≡ argument L (view u m c) n (i .0) = a .is L u (so .calls f (i .0) (mark-is (calledOf z w) f k (i .0) (next-is w q h e .is))) in
+        let t : marksFrom (calledOf z w) f k ≡ i .0 ∷ marksFrom (calledOf z w) f (i .0 + 1) = next-is w q h e .is ∙ ap (λ (j : ℕ). i .0 ∷ marksFrom (calledOf z w) f j) (sym (add-one (i .0))) in
+        rw t (join-step (kindsOf z w) s (argument L (view u m c) n (i .0)) (map (argument L (view u m c) n) (marksFrom (calledOf z w) f (i .0 + 1)))
+        (ap (λ (p : P.Opnd). asSet (kindIn (kindsOf z w) p)) (sym b) ∙ ap asSet (sym ej) ∙ sym ey ∙ ev))
+
+    pub sets-more : (t : ℕ) → y ≡ Set t → Summing m c z w f n (bitOr s t) (i .0 + 1)
+    sets-more t ev v p = g v (record { passed = λ L u so. p .passed L u so ∙ sym (step L u so ev) })
+
+    pub sets-other : y ≡ Other → SetsFrom m c z w f n 0 0 Other
+    sets-other ev = g Other (record { passed = λ L u so. sym (step L u so ev) })
+
 -- ---- a Param
 
 all-callers : (t : List (List 𝔹)) (L : Limits) (p : Program) (s : State) (f : ℕ) → s .calledBy ≡ t → marksFrom t f 0 ≡ callersOf L p s f
@@ -187,8 +230,8 @@ finish-same ks n a (Rattle.flows.specs.Tally.One w j) = refl
 finish-same ks n a (Rattle.flows.specs.Tally.Many j) = refl
 
 -- two passes over the same operands come to the union of their set
-pub two-passes : (ks : List Kind) (n : ℕ) (l : List P.Opnd) {x y : Pass} {r : Joined} → Passed ks l (record { second = false; least = n; tally = None }) x
-    → Passed ks l (record { second = true; least = x .least; tally = None }) y → r ≡ finish [] n (x .least) (tallyOf (y .tally)) → Fits n l
+pub two-passes : (ks : List Kind) (n : ℕ) (l : List P.Opnd) {x y : Pass} {r : Joined} → Passed ks l (record { bound = n; least = n; tally = None }) x
+    → Passed ks l (record { bound = x .least; least = x .least; tally = None }) y → r ≡ finish [] n (x .least) (tallyOf (y .tally)) → Fits n l
     → r ≡ unionAll Empty (map (kindIn ks) (opndSet l))
 unfolding unionOver
 two-passes ks n l {x} {y} {r} px py e f =
@@ -197,19 +240,41 @@ two-passes ks n l {x} {y} {r} px py e f =
     let h : r ≡ unionOver ks n l = e ∙ finish-same ks n (x .least) (tallyOf (y .tally)) ∙ rw (t, a) in
     h ∙ union-over ks n l f
 
-pub param-kind : (m : List ℕ) (c : Counts) (z : Sizes) (w : List ℕ) (f n : ℕ) {x y : Pass} {r : Joined}
-    → PassedIn m c z w f n 0 (record { second = false; least = z .insns; tally = None }) x
-    → PassedIn m c z w f n 0 (record { second = true; least = x .least; tally = None }) y
-    → r ≡ finish [] (z .insns) (x .least) (tallyOf (y .tally))
+-- the union of the arguments, in the rule's words
+param-union : (m : List ℕ) (c : Counts) (z : Sizes) (w : List ℕ) (f n : ℕ) {r : Joined}
+    → ((L : Limits) (u : List ℕ) → Sound (view u m c) (z .insns) (calledOf z w)
+    → r ≡ unionAll Empty (map (kindIn (kindsOf z w)) (opndSet (map (argument L (view u m c) n) (marksFrom (calledOf z w) f 0)))))
     → (i : ℕ) → Reads z (ParamIs m c z (calledOf z w) i f n) (λ L p. rule L p i (Param n)) w r
-param-kind m c z w f n {x} {y} {r} px py e i = record {
+param-union m c z w f n {r} h i = record {
   is = λ L p v g q.
       let u = view (g .script) m c in
       let s = stateView z v w q in
       let l = map (argument L u n) (marksFrom (calledOf z w) f 0) in
-      let k : r ≡ unionAll Empty (map (kindOf s) (opndSet l)) =
-      two-passes (kindsOf z w) (z .insns) l (px .passed L (g .script) (g .sound)) (py .passed L (g .script) (g .sound)) e
-      (arguments-fit L u z (calledOf z w) n (marksFrom (calledOf z w) f 0) (g .sound)) ∙ ap (unionAll Empty) (kinds-of s (opndSet l)) in
+      let k : r ≡ unionAll Empty (map (kindOf s) (opndSet l)) = h L (g .script) (g .sound) ∙ ap (unionAll Empty) (kinds-of s (opndSet l)) in
       let b : l ≡ map (argument L u n) (callersOf L u s (functionOf u i)) = ap (map (argument L u n)) (all-callers (calledOf z w) L u s f refl ∙ ap (callersOf L u s) (sym (g .function))) in
       rw (g .program) (ap (λ (j : Joined). lift (toAnswer j) s) (k ∙ ap (λ (o : List P.Opnd). unionAll Empty (map (kindOf s) (opndSet o))) b) ∙ sym (param-is L u i n s (g .op)));
 }
+
+pub param-kind : (m : List ℕ) (c : Counts) (z : Sizes) (w : List ℕ) (f n : ℕ) {x y : Pass} {r : Joined}
+    → PassedIn m c z w f n 0 (record { bound = z .insns; least = z .insns; tally = None }) x
+    → PassedIn m c z w f n 0 (record { bound = x .least; least = x .least; tally = None }) y
+    → r ≡ finish [] (z .insns) (x .least) (tallyOf (y .tally))
+    → (i : ℕ) → Reads z (ParamIs m c z (calledOf z w) i f n) (λ L p. rule L p i (Param n)) w r
+param-kind m c z w f n px py e =
+    param-union m c z w f n (λ L u so.
+    let l = map (argument L (view u m c) n) (marksFrom (calledOf z w) f 0) in
+    two-passes (kindsOf z w) (z .insns) l (px .passed L u so) (py .passed L u so) e (arguments-fit L (view u m c) z (calledOf z w) n (marksFrom (calledOf z w) f 0) so))
+
+-- where the first pass finds no Any, a second would take the same
+pub param-once : (m : List ℕ) (c : Counts) (z : Sizes) (w : List ℕ) (f n : ℕ) {x : Pass} {r : Joined}
+    → PassedIn m c z w f n 0 (record { bound = z .insns; least = z .insns; tally = None }) x → x .least ≡ z .insns → r ≡ finish [] (z .insns) (x .least) (tallyOf (x .tally))
+    → (i : ℕ) → Reads z (ParamIs m c z (calledOf z w) i f n) (λ L p. rule L p i (Param n)) w r
+param-once m c z w f n {x} px e =
+    param-kind m c z w f n px (subst (λ (a : ℕ). PassedIn m c z w f n 0 (record { bound = a; least = a; tally = None }) x) (sym e) px)
+
+pub param-set : (m : List ℕ) (c : Counts) (z : Sizes) (w : List ℕ) (f n : ℕ) {x : AsSet} {s : ℕ} → SetsFrom m c z w f n 0 0 x → x ≡ Set s → 0 < s
+    → (i : ℕ) → Reads z (ParamIs m c z (calledOf z w) i f n) (λ L p. rule L p i (Param n)) w (Of (Objects s))
+param-set m c z w f n {s = s} h e lt =
+    param-union m c z w f n (λ L u so.
+    let l = map (argument L (view u m c) n) (marksFrom (calledOf z w) f 0) in
+    sets-union (kindsOf z w) (z .insns) s l (arguments-fit L (view u m c) z (calledOf z w) n (marksFrom (calledOf z w) f 0) so) (sym (h .passed L u so) ∙ e) lt)

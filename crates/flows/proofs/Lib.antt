@@ -1,6 +1,7 @@
 pub mod Order
 pub mod Passes
 pub mod Whole
+pub mod Sets
 pub mod Tallied
 pub mod Callers
 pub mod Sounds

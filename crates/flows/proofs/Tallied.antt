@@ -93,23 +93,14 @@ module _ (ks : List Kind) (a : ℕ) (t : Told) (o : Opnd) {b : 𝔹} (eb : b ≡
 
 -- ---- a pass
 
-pub pass-take : (ks : List Kind) (x : Pass) (o : Opnd) {r : Told} → x .second ≡ true → tallyOf r ≡ take ks (x .least) (tallyOf (x .tally)) (opndOf o)
-    → Passed ks (opndOf o ∷ []) x (record { second = true; least = x .least; tally = r })
-unfolding takeAll
-pass-take ks x o e h = record { same = sym e; lowest = rw e; told = rw e h }
-
-pub pass-lower : (ks : List Kind) (x : Pass) (o : Opnd) {r : ℕ} → x .second ≡ false → r ≡ lower ks (x .least) (opndOf o)
-    → Passed ks (opndOf o ∷ []) x (record { second = false; least = r; tally = x .tally })
-unfolding least
-pass-lower ks x o e h = record { same = sym e; lowest = rw e h; told = rw e }
+pub pass-both : (ks : List Kind) (x : Pass) (o : Opnd) {a : ℕ} {r : Told} → a ≡ lower ks (x .least) (opndOf o) → tallyOf r ≡ take ks (x .bound) (tallyOf (x .tally)) (opndOf o)
+    → Passed ks (opndOf o ∷ []) x (record { bound = x .bound; least = a; tally = r })
+unfolding least takeAll
+pass-both ks x o e h = record { same = refl; lowest = e; told = h }
 
 pub passed-none : (ks : List Kind) (x : Pass) → Passed ks [] x x
 unfolding least takeAll
-passed-none ks x = go (x .second) refl
-  where
-    go : (b : 𝔹) → x .second ≡ b → Passed ks [] x x
-    go true e = record { same = refl; lowest = rw e; told = rw e }
-    go false e = record { same = refl; lowest = rw e; told = rw e }
+passed-none ks x = record { same = refl; lowest = refl; told = refl }
 
 least-append : (ks : List Kind) (a : ℕ) (l k : List P.Opnd) → least ks a (l ++ k) ≡ least ks (least ks a l) k
 unfolding least
@@ -122,27 +113,13 @@ take-append ks a t [] k = refl
 take-append ks a t (o ∷ l) k = take-append ks a (take ks a t o) l k
 
 pub passed-append : (ks : List Kind) (l k : List P.Opnd) (x y w : Pass) → Passed ks l x y → Passed ks k y w → Passed ks (l ++ k) x w
-passed-append ks l k x y w p r = go (x .second) refl
-  where
-    go : (b : 𝔹) → x .second ≡ b → Passed ks (l ++ k) x w
-    go true e =
-        let f : y .second ≡ true = p .same ∙ e in
-        let a : y .least ≡ x .least = rw e at (p .lowest) in
-        let t : tallyOf (y .tally) ≡ takeAll ks (x .least) (tallyOf (x .tally)) l = rw e at (p .told) in
-        record {
-          same = r .same ∙ p .same;
-          lowest = rw e ((rw f at (r .lowest)) ∙ a);
-          told = rw (e, take-append ks (x .least) (tallyOf (x .tally)) l k) ((rw f at (r .told)) ∙ rw (a, t));
-        }
-    go false e =
-        let f : y .second ≡ false = p .same ∙ e in
-        let a : y .least ≡ least ks (x .least) l = rw e at (p .lowest) in
-        let t : tallyOf (y .tally) ≡ tallyOf (x .tally) = rw e at (p .told) in
-        record {
-          same = r .same ∙ p .same;
-          lowest = rw (e, least-append ks (x .least) l k) ((rw f at (r .lowest)) ∙ rw a);
-          told = rw e ((rw f at (r .told)) ∙ t);
-        }
+passed-append ks l k x y w p r = record {
+  same = r .same ∙ p .same;
+  lowest = r .lowest ∙ ap (λ (a : ℕ). least ks a k) (p .lowest) ∙ sym (least-append ks (x .least) l k);
+  told =
+      r .told ∙ ap (λ (b : ℕ). takeAll ks b (tallyOf (y .tally)) k) (p .same) ∙ ap (λ (t : Tally). takeAll ks (x .bound) t k) (p .told)
+      ∙ sym (take-append ks (x .bound) (tallyOf (x .tally)) l k);
+}
 
 -- ---- the end
 

@@ -1,11 +1,12 @@
 -- What the passes promise over the operands of callers. Assumes nothing.
-use mathlib.Core.Bool.{Bool as 𝔹, true, cond}
+use mathlib.Core.Bool.{Bool as 𝔹, true}
 use mathlib.Core.Path.{_≡_}
-use mathlib.Core.List.{List, map}
+use mathlib.Core.List.{List, [], _∷_, map}
 use Prim.Native.Nat.{ℕ, _<_}
+use lib.Bits.{bitOr}
 use lib.ListN.{getD}
 use Rattle.kinds.specs.declared.Kind.{Kind}
-use Rattle.kinds.specs.declared.Kind.the-variants.{Empty}
+use Rattle.kinds.specs.declared.Kind.the-variants.{Empty, Nil, Num, Truth, Fun, Class, Int, Bool, Objects, Any}
 use Rattle.rules.specs.Lists.{has}
 use Rattle.rules.specs.Program as P
 use Rattle.rules.specs.Program.{Limits, Program, Const, Param, about, opOf, functionOf}
@@ -23,6 +24,8 @@ use Rattle.state.specs.Changes.{marksFrom}
 use Rattle.flows.specs.declared.Tally.{Tally as Told}
 use Rattle.flows.specs.declared.Tally.the-variants.{Nothing as None, One as Single, Many as Several}
 use Rattle.flows.specs.declared.Pass.{Pass}
+use Rattle.flows.specs.declared.AsSet.{AsSet}
+use Rattle.flows.specs.declared.AsSet.the-variants.{Set, Other}
 use Rattle.opnds.specs.Reads.{kindIn}
 use Rattle.flows.specs.Tally.{Tally, Nothing, One, Many, add, least, takeAll, FitsAt}
 
@@ -37,9 +40,9 @@ pub record Adds (t : Told) (k : Kind) (o : Opnd) (r : Told) : Type 0 where
 
 -- a pass over a list of operands leads from x to y
 pub record Passed (ks : List Kind) (l : List P.Opnd) (x y : Pass) : Type 0 where
-  pub same : y .second ≡ x .second
-  pub lowest : y .least ≡ cond (x .second) (x .least) (least ks (x .least) l)
-  pub told : tallyOf (y .tally) ≡ cond (x .second) (takeAll ks (x .least) (tallyOf (x .tally)) l) (tallyOf (x .tally))
+  pub same : y .bound ≡ x .bound
+  pub lowest : y .least ≡ least ks (x .least) l
+  pub told : tallyOf (y .tally) ≡ takeAll ks (x .bound) (tallyOf (x .tally)) l
 
 -- how many operands of a sort stand before its arguments
 abbrev pub skipOf : Op → ℕ
@@ -75,6 +78,29 @@ pub record Known (m : List ℕ) (c : Counts) (z : Sizes) (t : List (List 𝔹)) 
 pub record PassedIn (m : List ℕ) (c : Counts) (z : Sizes) (w : List ℕ) (f n k : ℕ) (x y : Pass) : Type 0 where
   pub passed : (L : Limits) (s : List ℕ) → Sound (view s m c) (z .insns) (calledOf z w)
       → Passed (kindsOf z w) (map (argumentOf L (view s m c) n) (marksFrom (calledOf z w) f k)) x y
+
+-- a kind as a set
+abbrev pub asSet : Kind → AsSet
+asSet Empty = Set 0
+asSet Nil = Other
+asSet (Num n) = Other
+asSet (Truth t) = Other
+asSet (Fun f) = Other
+asSet (Class c) = Other
+asSet Int = Other
+asSet Bool = Other
+asSet (Objects s) = Set s
+asSet Any = Other
+
+-- the union of s with the kinds of operands, if all are sets
+unfoldable pub joinSets : List Kind → ℕ → List P.Opnd → AsSet
+joinSets ks s [] = Set s
+joinSets ks s (o ∷ l) = elim (asSet (kindIn ks o)) [ Set t ↦ joinSets ks (bitOr s t) l | Other ↦ Other ]
+
+-- of the arguments for place n of the callers of f that are not below k
+pub record SetsFrom (m : List ℕ) (c : Counts) (z : Sizes) (w : List ℕ) (f n k s : ℕ) (r : AsSet) : Type 0 where
+  pub passed : (L : Limits) (u : List ℕ) → Sound (view u m c) (z .insns) (calledOf z w)
+      → r ≡ joinSets (kindsOf z w) s (map (argumentOf L (view u m c) n) (marksFrom (calledOf z w) f k))
 
 -- instruction i is the Param with place n of function f
 pub record ParamIs (m : List ℕ) (c : Counts) (z : Sizes) (t : List (List 𝔹)) (i f n : ℕ) (p : Program) (v : Attrs) : Type 0 where

@@ -1,4 +1,4 @@
--- The union of a set of operands in the reference's order, found by two passes over the operands as they come. Assumes nothing.
+-- The union of a set of operands in the reference's order, found by two passes over the operands as they come, or one. Assumes nothing.
 use mathlib.Core.Bool.{Bool as 𝔹, true, false, not, cond, _&&_}
 use mathlib.Core.Path.{_≡_}
 use mathlib.Core.List.{List, [], _∷_}
@@ -20,7 +20,7 @@ pub data Tally : Type 0 where
   Many : Joined → Tally
 
 module _ (ks : List Kind) where
-  -- the first pass: the least instruction below a whose kind is Any
+  -- the least instruction below a whose kind is Any
   abbrev pub lower : ℕ → Opnd → ℕ
   lower a (Const k) = a
   lower a (Insn j) = cond (isAny (kindIn ks (Insn j)) && ltb j a) j a
@@ -29,7 +29,7 @@ module _ (ks : List Kind) where
   least a [] = a
   least a (o ∷ l) = least (lower a o) l
 
-  -- the second pass takes what stands before it, and is neither Empty nor Any
+  -- a pass takes what stands before its bound, and is neither Empty nor Any
   abbrev pub before : ℕ → Opnd → 𝔹
   before a (Const k) = true
   before a (Insn j) = ltb j a

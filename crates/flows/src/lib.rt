@@ -1,4 +1,4 @@
-// The union of a set of operands in the reference's order, by two passes over the operands as they come; and what has flowed to a Param.
+// The union of a set of operands in the reference's order, by one or two passes over the operands as they come; and what has flowed to a Param.
 use kinds::Joined;
 use kinds::Kind;
 use program::Counts;
@@ -18,7 +18,7 @@ ghost use Rattle.program.specs.View.{Ready};
 ghost use Rattle.state.specs.View.{kindsOf, calledOf, Held};
 ghost use Rattle.opnds.specs.Reads.{Inside, Reads};
 ghost use Rattle.flows.specs.Tally.{lower, before, take as taken, close, finish};
-ghost use Rattle.flows.specs.Flows.{tallyOf, Adds, Passed, skipOf, Argues, Known, PassedIn, ParamIs};
+ghost use Rattle.flows.specs.Flows.{tallyOf, Adds, Passed, skipOf, Argues, Known, PassedIn, asSet, SetsFrom, ParamIs};
 
 // What was met so far: no operand, one operand and its kind, or the union of several.
 pub enum Tally {
@@ -27,11 +27,17 @@ pub enum Tally {
     Many(Joined),
 }
 
-// The first pass finds the least instruction whose kind is Any, the second takes what stands before it.
+// A pass finds the least instruction whose kind is Any, and takes what stands before its bound. The first has no bound; where it finds an Any, that is the bound of a second.
 pub struct Pass {
-    pub second: bool,
+    pub bound: usize,
     pub least: usize,
     pub tally: Tally,
+}
+
+// A set of classes, Empty being the empty one; or another kind.
+enum AsSet {
+    Set(u64),
+    Other,
 }
 
 fn before(a: usize, o: Opnd) -> bool
@@ -103,19 +109,12 @@ pub fn pass_one(m: &[usize], z: Sizes, x: Pass, o: Opnd) -> Pass
     ensures { λ r. ⌜ Passed (kindsOf z (now (m .entry))) (opndOf o ∷ []) x r ⌝ }
 {
     let t = x.tally;
+    let b = x.bound;
     let a = x.least;
-    if x.second {
-        let next = take(m, z, a, t, o);
-        return Pass {
-            second: true,
-            least: a,
-            tally: next,
-        };
-    }
     Pass {
-        second: false,
+        bound: b,
         least: lower(m, z, a, o),
-        tally: t,
+        tally: take(m, z, b, t, o),
     }
 }
 
@@ -189,6 +188,54 @@ fn pass_callers(
     }
 }
 
+fn as_set(k: Kind) -> AsSet
+    ensures { λ r. ⌜ r ≡ asSet k ⌝ }
+{
+    match k {
+        Kind::Empty => AsSet::Set(0),
+        Kind::Nil => AsSet::Other,
+        Kind::Num(_) => AsSet::Other,
+        Kind::Truth(_) => AsSet::Other,
+        Kind::Fun(_) => AsSet::Other,
+        Kind::Class(_) => AsSet::Other,
+        Kind::Int => AsSet::Other,
+        Kind::Bool => AsSet::Other,
+        Kind::Objects(s) => AsSet::Set(s),
+        Kind::Any => AsSet::Other,
+    }
+}
+
+// The union of the kinds of the arguments for place n of the callers of f, if all are sets.
+fn join_sets(p: &[usize], c: Counts, m: &[usize], z: Sizes, f: FunId, n: usize) -> AsSet
+    requires { ⌜ Held z (now m) ⌝ }
+    requires { ⌜ Known (now p) c z (calledOf z (now m)) ⌝ }
+    requires { ⌜ f .0 < z .functions ⌝ }
+    ensures { λ r. ⌜ SetsFrom (now (p .entry)) c z (now (m .entry)) (f .0) n 0 0 r ⌝ }
+{
+    let mut s = 0;
+    let mut from = InsnId(0);
+    loop {
+        match state::next_caller(m, z, f, from) {
+            NextInsn::Place(i) => {
+                let o = argument(p, c, i, n);
+                let k = opnds::kind_of(m, z, o);
+                match as_set(k) {
+                    AsSet::Set(t) => {
+                        s = s | t;
+                    }
+                    AsSet::Other => {
+                        return AsSet::Other;
+                    }
+                }
+                from = InsnId(i.0 + 1);
+            }
+            NextInsn::Done => {
+                return AsSet::Set(s);
+            }
+        }
+    }
+}
+
 fn close_tally(t: Tally) -> Joined
     ensures { λ r. ⌜ r ≡ close [] (tallyOf t) ⌝ }
 {
@@ -209,8 +256,8 @@ pub fn finish_pass(n: usize, a: usize, t: Tally) -> Joined
     j
 }
 
-// The kind of a Param of function f with place n.
-pub fn param(p: &[usize], c: Counts, m: &[usize], z: Sizes, f: FunId, n: usize) -> Joined
+// The kind of a Param of function f with place n, whatever the kinds.
+fn param_by_passes(p: &[usize], c: Counts, m: &[usize], z: Sizes, f: FunId, n: usize) -> Joined
     requires { ⌜ Held z (now m) ⌝ }
     requires { ⌜ Known (now p) c z (calledOf z (now m)) ⌝ }
     requires { ⌜ f .0 < z .functions ⌝ }
@@ -224,12 +271,16 @@ pub fn param(p: &[usize], c: Counts, m: &[usize], z: Sizes, f: FunId, n: usize) 
         f,
         n,
         Pass {
-            second: false,
+            bound: z.insns,
             least: z.insns,
             tally: Tally::Nothing,
         },
     );
     let a = first.least;
+    if a == z.insns {
+        let all = first.tally;
+        return finish_pass(z.insns, a, all);
+    }
     let both = pass_callers(
         p,
         c,
@@ -238,11 +289,29 @@ pub fn param(p: &[usize], c: Counts, m: &[usize], z: Sizes, f: FunId, n: usize) 
         f,
         n,
         Pass {
-            second: true,
+            bound: a,
             least: a,
             tally: Tally::Nothing,
         },
     );
     let t = both.tally;
     finish_pass(z.insns, a, t)
+}
+
+// The same; sets, the most frequent case, come first.
+pub fn param(p: &[usize], c: Counts, m: &[usize], z: Sizes, f: FunId, n: usize) -> Joined
+    requires { ⌜ Held z (now m) ⌝ }
+    requires { ⌜ Known (now p) c z (calledOf z (now m)) ⌝ }
+    requires { ⌜ f .0 < z .functions ⌝ }
+    ensures { λ r. ⌜ ((i : ℕ) → Reads z (ParamIs (now (p .entry)) c z (calledOf z (now (m .entry))) i (f .0) n) (λ L p. rule L p i (Param n)) (now (m .entry)) r) ⌝ }
+{
+    match join_sets(p, c, m, z, f, n) {
+        AsSet::Set(s) => {
+            if 0 < s {
+                return Joined::Of(Kind::Objects(s));
+            }
+            param_by_passes(p, c, m, z, f, n)
+        }
+        AsSet::Other => param_by_passes(p, c, m, z, f, n),
+    }
 }

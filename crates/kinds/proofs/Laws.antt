@@ -5,7 +5,9 @@ use mathlib.Core.List.{List, [], _∷_, _++_}
 use Prim.Native.Nat.{ℕ, _+_}
 use native.Mathlib.Numerals.{add-one}
 use native.Mathlib.Omega.{arith}
-use lib.Bits.{bitOr}
+use lib.Bits.{bitOr, or-self}
+use lib.Dec.{eqb}
+use borrow.Author.Tests.{eqb-true}
 use Rattle.sets.proofs.Bits.{Either, yes, no, either}
 use Rattle.kinds.specs.declared.Kind.{Kind}
 use Rattle.kinds.specs.declared.Kind.the-variants.{Empty, Nil, Num, Truth, Fun, Class, Int, Bool, Objects, Any}
@@ -13,8 +15,9 @@ use Rattle.kinds.specs.declared.Joined.{Joined}
 use Rattle.kinds.specs.declared.Joined.the-variants.{Of, Refused}
 use Rattle.kinds.specs.Kinds.{kindAt, kindsAt, sameOf, isAny, isEmpty, isName, isNumber, isTruth}
 use Rattle.kinds.specs.Union.{setOf, wide, isAlone, mixOf, lub, Below, clash, unionOf, andThen, joinOf, unionAll, lubAll}
-use Rattle.kinds.proofs.Steps.{union-any}
-use Rattle.kinds.proofs.Lub.{lub-idem, lub-comm, lub-assoc, lub-empty-l, below-left, below-right}
+use Rattle.kinds.proofs.Steps.{union-any, empty-is}
+use Rattle.kinds.proofs.Same.{same-eq}
+use Rattle.kinds.proofs.Lub.{lub-idem, lub-comm, lub-assoc, lub-empty-l, lub-mix, below-left, below-right}
 
 module _ (a b : Kind) where
   pub union-yes : clash a b ≡ false → unionOf a b ≡ Of (lub a b)
@@ -75,6 +78,29 @@ union-empty-r a = union-comm a Empty ∙ union-empty-l a
 
 pub union-idem : (a : Kind) → isName a ≡ false → unionOf a a ≡ Of a
 union-idem a n = union-plain a a n n ∙ ap Of (lub-idem a)
+
+-- of two sets
+lub-sets : (s t : ℕ) → lub (Objects s) (Objects t) ≡ Objects (bitOr s t)
+unfolding mixOf
+lub-sets s t = lub-mix (Objects s) (Objects t) refl refl ∙ go (either (sameOf (Objects s) (Objects t)))
+  where
+    go : Either (sameOf (Objects s) (Objects t)) → mixOf (Objects s) (Objects t) ≡ Objects (bitOr s t)
+    go (yes h) = rw h (ap Objects (sym (ap (bitOr s) (sym (ap setOf (same-eq (Objects s) (Objects t) h))) ∙ or-self s)))
+    go (no h) = rw h
+
+pub union-sets : (s t : ℕ) → unionOf (Objects s) (Objects t) ≡ Of (Objects (bitOr s t))
+union-sets s t = union-plain (Objects s) (Objects t) refl refl ∙ ap Of (lub-sets s t)
+
+-- the ways through `union` and `surely_covers`
+module _ (a k : Kind) (s t : ℕ) (e : a ≡ Objects s) (f : k ≡ Objects t) where
+  pub sets-join : Of (Objects (bitOr s t)) ≡ unionOf a k
+  sets-join = rw (e, f) (sym (union-sets s t))
+
+  pub sets-cover : eqb (bitOr s t) s ≡ true → unionOf a k ≡ Of a
+  sets-cover h = sym sets-join ∙ ap (λ (x : ℕ). Of (Objects x)) (eqb-true (bitOr s t) s h) ∙ ap Of (sym e)
+
+pub empty-covered : (a k : Kind) {r : 𝔹} → r ≡ isEmpty k → r ≡ true → unionOf a k ≡ Of a
+empty-covered a k e h = ap (unionOf a) (empty-is k (sym e ∙ h)) ∙ union-empty-r a
 
 -- a name joined with itself is refused
 pub union-name : (a : Kind) → isName a ≡ true → unionOf a a ≡ Refused 19

@@ -1,13 +1,13 @@
 -- Tests of rows, and what a search over them finds, in the rules' words. Assumes nothing.
 use mathlib.Core.Bool.{Bool, true, false, not}
-use mathlib.Core.Path.{_≡_, sym, ap, _∙_}
+use mathlib.Core.Path.{_≡_, refl, sym, ap, _∙_}
 use mathlib.Core.Option.{Option, none, some}
 use mathlib.Core.List.{List}
-use Prim.Native.Nat.{ℕ, _+_, _-_, _*_, _≤_, _<_, min}
+use Prim.Native.Nat.{ℕ, zero, suc, _+_, _-_, _*_, _%_, _≤_, _<_, min}
 use native.Mathlib.Omega.{arith}
-use lib.Dec.{eqb}
+use lib.Dec.{eqb, ltb}
 use lib.ListN.{getD, take}
-use borrow.Author.Tests.{eq-eqb, ne-eqb}
+use borrow.Author.Tests.{eq-eqb, ne-eqb, lt-ltb}
 use Rattle.kinds.specs.Kinds.{bitOf}
 use Rattle.sets.specs.declared.ClassId.{ClassId}
 use Rattle.words.specs.Names.{name}
@@ -16,13 +16,14 @@ use Rattle.rules.specs.Program as P
 use Rattle.rules.specs.Program.{terminated, functionNamed, methodNamed, ivarNamed, mainFunction}
 use Rattle.rules.specs.Reading.{classNamed}
 use Rattle.program.specs.Tab.{tab}
-use Rattle.program.specs.Rows.{nameIn, ownerIn, funAt, functionIn, classAt, ivarsOf, flagAt}
+use Rattle.program.specs.Rows.{nameIn, ownerIn, ownerFrom, funAt, functionIn, classAt, ivarsOf, flagAt}
 use Rattle.program.specs.View.{view, functionsOf, classesOf, Ready, ReadsFun}
 use Rattle.program.specs.declared.Counts.{Counts}
 use Rattle.program.specs.declared.Name.{Name}
 use Rattle.program.specs.declared.Function.{Function}
 use Rattle.program.specs.declared.Owner.{Owner}
 use Rattle.program.specs.declared.Owner.the-variants.{Class, Nobody}
+use Rattle.program.proofs.Forms.{owner-none, owner-class}
 use Rattle.program.proofs.Tables.{tab-at, tab-take}
 use Rattle.program.proofs.Viewing.{classes-length}
 use Rattle.lookups.specs.Look.{funRow, ivarRow, isFun, isMethod, isMain, isClass, isIvar, Known, Constructs, Tells, classFound}
@@ -48,21 +49,34 @@ module _ (s m : List ℕ) (n : Name) where
   unfolding isIvar ivarRow
   is-ivar k j e = e
 
+-- the word of an owner, as the code compares it
+owner-some : (y k : ℕ) {b : Bool} → eqb (y % 4294967296) k ≡ b → isJust (ownerIn (ownerFrom (suc y))) k ≡ b
+owner-some y k e =
+    ap (λ (o : Owner). isJust (ownerIn o) k) (sym (owner-class (suc y) (λ h. omega arith)))
+    ∙ ap (λ (x : ℕ). eqb (x % 4294967296) k) (omega arith) ∙ e
+
+owner-zero : (k : ℕ) → isJust (ownerIn (ownerFrom 0)) k ≡ false
+owner-zero k = ap (λ (o : Owner). isJust (ownerIn o) k) (sym (owner-none 0 refl))
+
+pub owned-same : (x k : ℕ) → k < 4294967296 → x % 4294967296 ≡ (k + 1) % 4294967296 → ltb 0 x ≡ isJust (ownerIn (ownerFrom x)) k
+owned-same zero k lt e = sym (owner-zero k)
+owned-same (suc y) k lt e = lt-ltb 0 (suc y) (omega arith) ∙ sym (owner-some y k (eq-eqb (y % 4294967296) k (omega arith)))
+
+pub owned-other : (x k : ℕ) → k < 4294967296 → (x % 4294967296 ≡ (k + 1) % 4294967296 → ⊥) → false ≡ isJust (ownerIn (ownerFrom x)) k
+owned-other zero k lt e = sym (owner-zero k)
+owned-other (suc y) k lt e = sym (owner-some y k (ne-eqb (y % 4294967296) k (λ h. e (omega arith))))
+
+module _ (s m : List ℕ) (i : ℕ) (n : List ℕ) (k : ℕ) {o : Bool} (e : o ≡ isJust (ownerIn (ownerFrom (getD m (38912 + 4 * i + 2) 0))) k) where
+  pub method-here : {r : Bool} → o ≡ true → r ≡ same (name s (getD m (38912 + 4 * i) 0) (getD m (38912 + 4 * i + 1) 0)) n → r ≡ isMethod k n (funRow s m i)
+  unfolding isMethod funRow funAt
+  method-here t w = rw (sym e ∙ t) w
+
+  pub method-else : o ≡ false → false ≡ isMethod k n (funRow s m i)
+  unfolding isMethod funRow funAt
+  method-else t = rw (sym e ∙ t)
+
 module _ (s m : List ℕ) {c : Counts} (i : ℕ) {f : Function} (e : ReadsFun m c i f) where
   module _ (n : List ℕ) (k : ℕ) where
-    pub method-same : {x : ClassId} {r : Bool} → f .class ≡ Class x → x .0 ≡ k → r ≡ same (name s (f .name .start) (f .name .len)) n
-        → r ≡ isMethod k n (funRow s m i)
-    unfolding isMethod funRow
-    method-same {x = x} p q w = rw (← e .row, p, eq-eqb (x .0) k q) w
-
-    pub method-other : {x : ClassId} → f .class ≡ Class x → (x .0 ≡ k → ⊥) → false ≡ isMethod k n (funRow s m i)
-    unfolding isMethod funRow
-    method-other {x = x} p q = rw (← e .row, p, ne-eqb (x .0) k q)
-
-    pub method-none : f .class ≡ Nobody → false ≡ isMethod k n (funRow s m i)
-    unfolding isMethod funRow
-    method-none p = rw (← e .row, p)
-
     -- a method that passes has the name
     pub method-name : {r : Bool} → r ≡ isMethod k n (funRow s m i) → r ≡ true → nameIn s (f .name) ≡ n
     unfolding isMethod funRow

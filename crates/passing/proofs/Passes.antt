@@ -1,5 +1,6 @@
 -- One Param, the loop of pass_arguments, and that of count_params. Assumes nothing.
-use mathlib.Core.Path.{_≡_, refl, sym, ap, _∙_}
+use mathlib.Core.Bool.{Bool as 𝔹, true, false, not}
+use mathlib.Core.Path.{_≡_, refl, sym, ap, subst, _∙_}
 use mathlib.Core.Option.{none, some}
 use mathlib.Core.List.{List}
 use Prim.Native.Nat.{ℕ, suc, _+_, _-_, _≤_, _<_}
@@ -8,6 +9,10 @@ use mir.Syntax.{w64}
 use mir.Val.{Fits}
 use lib.ListN.{length, getD}
 use Rattle.kinds.specs.declared.Kind.{Kind}
+use Rattle.kinds.specs.declared.Kind.the-variants.{Empty}
+use Rattle.kinds.specs.declared.Joined.the-variants.{Of}
+use Rattle.kinds.specs.Union.{unionOf}
+use Rattle.kinds.proofs.Same.{same-refl}
 use Rattle.rules.specs.Program as P
 use Rattle.rules.specs.Program.{Limits, Program, about, parameters}
 use Rattle.rules.specs.Machine.{State, kindOf, wakeIfWider, placeOf, argument, passArguments}
@@ -22,17 +27,18 @@ use Rattle.state.specs.declared.Sizes.{Sizes}
 use Rattle.state.specs.declared.Regs.{Regs}
 use Rattle.state.specs.declared.Went.{Went}
 use Rattle.state.specs.declared.Went.the-variants.{On, No}
-use Rattle.state.specs.View.{Attrs, kindsOf}
+use Rattle.state.specs.View.{Attrs, kindsOf, Ready}
 use Rattle.state.specs.View.{view as stateView}
 use Rattle.state.specs.Changes.{Did, Every}
+use Rattle.state.proofs.Wakes.{wake-same}
 use Rattle.index.specs.Chains.{Chained, at, self, ChainIs, FitsId}
 use Rattle.index.proofs.Lists.{Starts, chained-below, chained-none, chained-some, chained-low, chained-high, chained-next}
 use Rattle.opnds.specs.Reads.{Inside, kindIn}
 use Rattle.opnds.proofs.Given.{kind-of}
 use Rattle.flows.specs.Flows.{Argues}
 use Rattle.flows.proofs.Callers.{fits-inside}
-use Rattle.blocks.proofs.Walk.{From, Walking, walk-falls, walk-word, walk-stop, walk-done}
-use Rattle.passing.specs.Passing.{placeIn, passTo, HasParams, Caller, CallIn, PassIn}
+use Rattle.blocks.proofs.Walk.{From, Walking, walk-ready, walk-falls, walk-word, walk-more, walk-stop, walk-done}
+use Rattle.passing.specs.Passing.{placeIn, passTo, HasParams, Caller, Passes, Keeps, CallIn, PassIn}
 
 -- ---- one Param
 
@@ -63,18 +69,29 @@ pass-is : (L : Limits) (p : Program) (i j : ℕ) (s : State) → wakeIfWider L p
 unfolding passTo
 pass-is L p i j s = refl
 
-pub passed-to : {m : List ℕ} {c : Counts} {z : Sizes} (w : List ℕ) (q : Regs) (i j : ℕ) {x : Row} {n : ℕ} {o : Opnd} {k : Kind} {w' : List ℕ} {r : Went} → ReadsInsn m c j x
-    → n ≡ placeIn (x .op) → Argues m c i n o → k ≡ kindIn (kindsOf z w) (opndOf o) → Did z Every (λ L p. wakeIfWider L p k j) w q w' r
-    → Did z (CallIn m c i) (λ L p. passTo L p i j) w q w' r
-passed-to {m} {c} {z} w q i j {n = n} {o} {k} d en a ek g = record {
-  is = λ L room p v u.
-      let s = stateView z v w q in
-      let y = view (u .script) m c in
-      let e : k ≡ kindOf s (argument L y (placeOf L y j) i) =
-      ek ∙ ap (kindIn (kindsOf z w)) (a .is L (u .script) (u .call)) ∙ sym (kind-of s (argument L y n i)) ∙ ap (λ (t : ℕ). kindOf s (argument L y t i)) (sym (place-is L (u .script) m c j d en)) in
-      g .is L room p v tt ∙ rw (u .program) (ap (λ (t : Kind). wakeIfWider L y t j s) e ∙ pass-is L y i j s);
-  ok = g .ok;
+pub kind-passed : {m : List ℕ} {c : Counts} {z : Sizes} (w : List ℕ) (i j : ℕ) {x : Row} {n : ℕ} {o : Opnd} {k : Kind} → ReadsInsn m c j x → n ≡ placeIn (x .op)
+    → Argues m c i n o → k ≡ kindIn (kindsOf z w) (opndOf o) → Passes m c z w i j k
+kind-passed {m} {c} {z} w i j {n = n} d en a ek = record {
+  is = λ L s h.
+      ek ∙ ap (kindIn (kindsOf z w)) (a .is L s h ∙ ap (λ (t : ℕ). argument L (view s m c) t i) (sym (place-is L s m c j d en)));
 }
+
+module _ {m : List ℕ} {c : Counts} {z : Sizes} {w : List ℕ} {q : Regs} {i j : ℕ} {k : Kind} (a : Passes m c z w i j k) where
+  pub passed-to : {w' : List ℕ} {r : Went} → Did z Every (λ L p. wakeIfWider L p k j) w q w' r → Did z (CallIn m c i) (λ L p. passTo L p i j) w q w' r
+  passed-to g = record {
+    is = λ L room p v u.
+        let s = stateView z v w q in
+        let y = view (u .script) m c in
+        let e : k ≡ kindOf s (argument L y (placeOf L y j) i) = a .is L (u .script) (u .call) ∙ sym (kind-of s (argument L y (placeOf L y j) i)) in
+        g .is L room p v tt ∙ rw (u .program) (ap (λ (t : Kind). wakeIfWider L y t j s) e ∙ pass-is L y i j s);
+    ok = g .ok;
+  }
+
+  pub kept-on : Ready z w q → Keeps z w k j → Did z (CallIn m c i) (λ L p. passTo L p i j) w q w (On q)
+  kept-on r h = passed-to (wake-same z w q j k refl refl r (getD (kindsOf z w) j Empty) h refl (same-refl (getD (kindsOf z w) j Empty)))
+
+pub kept-is : (k : Kind) {o d : Kind} → o ≡ d → unionOf o k ≡ Of o → unionOf d k ≡ Of d
+kept-is k e h = subst (λ (o : Kind). unionOf o k ≡ Of o) e h
 
 -- the head's word fits
 pub params-word : {n : ℕ} {x : List ℕ} {e : ℕ} → HasParams n x e → FitsId x (3072 + e)
@@ -107,6 +124,21 @@ module _ {m : List ℕ} {c : Counts} {z : Sizes} {x : List ℕ} {h : ℕ} {m₀ 
   pub params-done : z .insns ≤ j → (f : ℕ) → Did z (PassIn m c z x i f e) (λ L p. passArguments L p i f) m₀ q₀ w (On q)
   unfolding passArguments passTo
   params-done le f = walk-done g (λ p. parameters p f) (held f) le
+
+-- one Param further: it was tried, or kept
+module _ {m : List ℕ} {c : Counts} {z : Sizes} {x : List ℕ} {h : ℕ} {m₀ : List ℕ} {q₀ : Regs} {w : List ℕ} {q : Regs} {i j : ℕ}
+    (g : Walking z x 4096 (λ L p. passTo L p i) (CallIn m c i) h m₀ q₀ w q j) {k : Kind} (a : Passes m c z w i j k) (lt : j < z .insns) where
+  pub param-woken : {w' : List ℕ} {r : Went} {q' : Regs} {n : ℕ} {w₁ : List ℕ} {q₁ : Regs} → length w' ≡ length w → Did z Every (λ L p. wakeIfWider L p k j) w q w' r → r ≡ On q'
+      → n ≡ getD x (4096 + j) 0 → w₁ ≡ w' → q₁ ≡ q' → Walking z x 4096 (λ L p. passTo L p i) (CallIn m c i) h m₀ q₀ w₁ q₁ n
+  param-woken len d er en ew eq = rw (ew, eq) (walk-more g lt len (passed-to a d) er en)
+
+  pub param-kept : {b : 𝔹} {n : ℕ} {w₁ : List ℕ} {q₁ : Regs} → (b ≡ true → Keeps z w k j) → not b ≡ false
+      → n ≡ getD x (4096 + j) 0 → w₁ ≡ w → q₁ ≡ q → Walking z x 4096 (λ L p. passTo L p i) (CallIn m c i) h m₀ q₀ w₁ q₁ n
+  param-kept {b} f t en ew eq = rw (ew, eq) (walk-more g lt refl (kept-on a (walk-ready g) (f (yes b t))) refl en)
+    where
+      yes : (b : 𝔹) → not b ≡ false → b ≡ true
+      yes true e = refl
+      yes false e = sym e
 
 -- ---- count_params at its loop's head: what is left of a chain's list, and how many were counted
 

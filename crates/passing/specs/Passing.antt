@@ -4,7 +4,10 @@ use mathlib.Core.Path.{_≡_}
 use mathlib.Core.List.{List}
 use Prim.Native.Nat.{ℕ, _≤_, _<_}
 use lib.ListN.{length, getD}
+use Rattle.kinds.specs.declared.Kind.{Kind}
 use Rattle.kinds.specs.declared.Kind.the-variants.{Empty}
+use Rattle.kinds.specs.declared.Joined.the-variants.{Of}
+use Rattle.kinds.specs.Union.{unionOf}
 use Rattle.rules.specs.Actions.{_>>=_, the}
 use Rattle.rules.specs.Lists.{has}
 use Rattle.rules.specs.Program as P
@@ -15,7 +18,8 @@ use Rattle.program.specs.declared.Op.the-variants.{Jump, IfTrue, Return, SendSt
 use Rattle.program.specs.declared.Counts.{Counts}
 use Rattle.program.specs.View.{view, Ready}
 use Rattle.state.specs.declared.Sizes.{Sizes}
-use Rattle.state.specs.View.{Attrs}
+use Rattle.state.specs.View.{Attrs, kindsOf}
+use Rattle.opnds.specs.Reads.{kindIn}
 use Rattle.index.specs.Chains.{size, ChainIs}
 use Rattle.flows.specs.Tally.{FitsAt}
 
@@ -56,6 +60,14 @@ pub record Caller (m : List ℕ) (c : Counts) (z : Sizes) (i : ℕ) : Type 0 whe
   pub below : i < c .insns
   pub call : has (about (opOf (view script m c) i) .callee) ≡ true
   pub listed : (k : ℕ) → FitsAt (z .insns) (getD (about (opOf (view script m c) i) .listed) k (P.Const Empty))
+
+-- k is the kind of the argument that i has for Param j, if i is a call
+pub record Passes (m : List ℕ) (c : Counts) (z : Sizes) (w : List ℕ) (i j : ℕ) (k : Kind) : Type 0 where
+  pub is : (L : Limits) (s : List ℕ) → has (about (opOf (view s m c) i) .callee) ≡ true → k ≡ kindIn (kindsOf z w) (argument L (view s m c) (placeOf L (view s m c) j) i)
+
+-- k leaves the kind of instruction j as it is
+abbrev pub Keeps : Sizes → List ℕ → Kind → ℕ → Type 0
+Keeps z w k j = unionOf (getD (kindsOf z w) j Empty) k ≡ Of (getD (kindsOf z w) j Empty)
 
 -- the program is the one in memory, and instruction i a call
 pub record CallIn (m : List ℕ) (c : Counts) (i : ℕ) (p : Program) (v : Attrs) : Type 0 where

@@ -1,4 +1,5 @@
 // A call passes its arguments to its callee's Params.
+use kinds::Kind;
 use program::Counts;
 use program::Op;
 use sets::BlockId;
@@ -6,15 +7,16 @@ use sets::InsnId;
 use state::Regs;
 use state::Sizes;
 use state::Went;
+ghost use mathlib.Core.Bool.{true};
 ghost use mathlib.Core.Path.{_≡_};
 ghost use mathlib.Core.List.{List};
 ghost use Prim.Native.Nat.{ℕ, _<_};
 ghost use lib.ListN.{length};
 ghost use Rattle.rules.specs.Machine.{passArguments};
-ghost use Rattle.state.specs.View.{Ready};
+ghost use Rattle.state.specs.View.{Held, Ready};
 ghost use Rattle.state.specs.Changes.{Did};
 ghost use Rattle.index.specs.Chains.{ChainIs};
-ghost use Rattle.passing.specs.Passing.{placeIn, passTo, HasParams, Caller, CallIn, PassIn};
+ghost use Rattle.passing.specs.Passing.{placeIn, HasParams, Caller, Passes, Keeps, PassIn};
 
 // A Param's place.
 fn place_of(op: Op) -> usize
@@ -36,19 +38,28 @@ fn place_of(op: Op) -> usize
     }
 }
 
-// Param j waits if the argument that call i has for it would change its kind.
-fn pass_to(p: &[usize], c: Counts, m: &mut [usize], z: Sizes, q: Regs, i: InsnId, j: InsnId) -> Went
-    requires { ⌜ Ready z (now m) q ⌝ }
+// The kind of the argument that call i has for Param j.
+fn passed_kind(p: &[usize], c: Counts, m: &[usize], z: Sizes, i: InsnId, j: InsnId) -> Kind
+    requires { ⌜ Held z (now m) ⌝ }
     requires { ⌜ Caller (now p) c z (i .0) ⌝ }
     requires { ⌜ j .0 < z .insns ⌝ }
-    ensures { λ r. ⌜ Did z (CallIn (now (p .entry)) c (i .0)) (λ L p. passTo L p (i .0) (j .0)) (now (m .entry)) q (now (m .exit)) r ⌝ }
+    ensures { λ r. ⌜ Passes (now (p .entry)) c z (now (m .entry)) (i .0) (j .0) r ⌝ }
 {
     let row = program::read_insn(p, c, j);
     let op = row.op;
     let n = place_of(op);
     let o = flows::argument(p, c, i, n);
-    let k = opnds::kind_of(m, z, o);
-    state::wake_if_wider(m, z, q, k, j)
+    opnds::kind_of(m, z, o)
+}
+
+// A quick test that k leaves the kind of instruction j as it is.
+fn surely_keeps(m: &[usize], z: Sizes, k: Kind, j: InsnId) -> bool
+    requires { ⌜ Held z (now m) ⌝ }
+    requires { ⌜ j .0 < z .insns ⌝ }
+    ensures { λ r. ⌜ (r ≡ true → Keeps z (now (m .entry)) k (j .0)) ⌝ }
+{
+    let old = state::kind_at(m, z, j);
+    kinds::surely_covers(old, k)
 }
 
 // The Params of a function with this entry wait whose kinds the arguments of call i would change.
@@ -71,12 +82,15 @@ pub fn pass_arguments(
     let mut at = q;
     let mut j = index::first_param(x, entry);
     while (j.0 as usize) < n {
-        match pass_to(p, c, m, z, at, i, j) {
-            Went::On(next) => {
-                at = next;
-            }
-            Went::No(e) => {
-                return Went::No(e);
+        let k = passed_kind(p, c, m, z, i, j);
+        if !surely_keeps(m, z, k, j) {
+            match state::wake_if_wider(m, z, at, k, j) {
+                Went::On(next) => {
+                    at = next;
+                }
+                Went::No(e) => {
+                    return Went::No(e);
+                }
             }
         }
         j = index::next_param(x, j);

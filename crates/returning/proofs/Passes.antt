@@ -1,6 +1,6 @@
 -- The loops over the Returns of a function and over the functions that a call has called, and the call's kind. Assumes nothing.
 use mathlib.Core.Bool.{Bool as 𝔹, true, false, cond}
-use mathlib.Core.Path.{_≡_, refl, sym, ap, _∙_}
+use mathlib.Core.Path.{_≡_, refl, sym, ap, subst, _∙_}
 use mathlib.Core.List.{List, [], _∷_, _++_, map}
 use Prim.Native.Nat.{ℕ, zero, suc, _+_, _-_, _≤_, _<_}
 use native.Mathlib.Numerals.{add-one}
@@ -232,8 +232,8 @@ unfolding backFrom
 back-fit p n t i h = returns-fit p n h (placesFrom 0 (λ row. getD row i false) (drop 0 t))
 
 pub call-kind-is : (m : List ℕ) (c : Counts) (z : Sizes) (w : List ℕ) (i f n : ℕ) {x y : Pass} {r : Joined}
-    → PassedAll m c z w i f n (record { second = false; least = z .insns; tally = Nothing }) x
-    → PassedAll m c z w i f n (record { second = true; least = x .least; tally = Nothing }) y
+    → PassedAll m c z w i f n (record { bound = z .insns; least = z .insns; tally = Nothing }) x
+    → PassedAll m c z w i f n (record { bound = x .least; least = x .least; tally = Nothing }) y
     → r ≡ finish [] (z .insns) (x .least) (tallyOf (y .tally)) → Reads z (BackIn m c z (calledOf z w) i f n) (λ L p. callKind L p i) w r
 call-kind-is m c z w i f n {x} {y} {r} px py e = record {
   is = λ L p v g q.
@@ -245,3 +245,10 @@ call-kind-is m c z w i f n {x} {y} {r} px py e = record {
       (back-fit u (z .insns) (calledOf z w) i (g .sound)) ∙ ap (unionAll Empty) (kinds-of s (opndSet l)) in
       rw (g .program) (ap (λ (j : Joined). lift (toAnswer j) s) k ∙ sym (call-is L u i s));
 }
+
+-- where the first pass finds no Any, a second would take the same
+pub call-kind-once : (m : List ℕ) (c : Counts) (z : Sizes) (w : List ℕ) (i f n : ℕ) {x : Pass} {r : Joined}
+    → PassedAll m c z w i f n (record { bound = z .insns; least = z .insns; tally = Nothing }) x → x .least ≡ z .insns
+    → r ≡ finish [] (z .insns) (x .least) (tallyOf (x .tally)) → Reads z (BackIn m c z (calledOf z w) i f n) (λ L p. callKind L p i) w r
+call-kind-once m c z w i f n {x} px e =
+    call-kind-is m c z w i f n px (subst (λ (a : ℕ). PassedAll m c z w i f n (record { bound = a; least = a; tally = Nothing }) x) (sym e) px)

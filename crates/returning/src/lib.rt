@@ -129,12 +129,16 @@ pub fn call_kind(
         first,
         n,
         Pass {
-            second: false,
+            bound: z.insns,
             least: z.insns,
             tally: Tally::Nothing,
         },
     );
     let a = once.least;
+    if a == z.insns {
+        let all = once.tally;
+        return flows::finish_pass(z.insns, a, all);
+    }
     let twice = pass_called(
         p,
         c,
@@ -145,7 +149,7 @@ pub fn call_kind(
         first,
         n,
         Pass {
-            second: true,
+            bound: a,
             least: a,
             tally: Tally::Nothing,
         },
