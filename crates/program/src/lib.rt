@@ -365,7 +365,7 @@ pub fn read_opnd(m: &[usize], at: usize) -> Opnd
     opnd_from(m[at], m[at + 1])
 }
 
-// The one function that reads an instruction.
+// An instruction, from its row.
 pub fn read_insn(m: &[usize], c: Counts, i: InsnId) -> Row
     requires { ⌜ Ready (now m) c ⌝ }
     requires { ⌜ i .0 < c .insns ⌝ }
