@@ -298,7 +298,7 @@ fn param_by_passes(p: &[usize], c: Counts, m: &[usize], z: Sizes, f: FunId, n: u
     finish_pass(z.insns, a, t)
 }
 
-// The same; sets, the most frequent case, come first.
+// The same; sets are joined at once, since their order means nothing.
 pub fn param(p: &[usize], c: Counts, m: &[usize], z: Sizes, f: FunId, n: usize) -> Joined
     requires { ⌜ Held z (now m) ⌝ }
     requires { ⌜ Known (now p) c z (calledOf z (now m)) ⌝ }

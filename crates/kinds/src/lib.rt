@@ -236,7 +236,7 @@ fn union_of(a: Kind, b: Kind) -> Joined
     Joined::Of(mix(a, b))
 }
 
-// The same; two sets, the most frequent case, come first.
+// The same; two sets are joined at once.
 pub fn union(a: Kind, b: Kind) -> Joined
     ensures { λ r. ⌜ r ≡ unionOf a b ⌝ }
 {
