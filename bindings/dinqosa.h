@@ -1,7 +1,8 @@
 /* Which blocks of a farm script can run: the library behind libdinqosa.a.
  *
  * Lent memory is 8-byte words in three parts that must not overlap. Each part may be longer than its published
- * length; words beyond it are never changed. docs/MEMORY.md says what the answer part holds. */
+ * length; words beyond it are never changed. docs/MEMORY.md says what the answer part holds. The deepest scripts tried use
+ * 600 KB of stack: give a call a megabyte. */
 #ifndef DINQOSA_H
 #define DINQOSA_H
 

@@ -1,7 +1,8 @@
 //! Which blocks of a farm script can run: a safe wrapper of libdinqosa.a.
 //!
 //! Lent memory is 8-byte words in three parts; each may be longer than its published length, and words beyond it are
-//! never changed. `docs/MEMORY.md` says what the answer part holds.
+//! never changed. `docs/MEMORY.md` says what the answer part holds. The deepest scripts tried use 600 KB of stack: give a call
+//! a megabyte.
 
 /// Bytes of the longest script.
 pub const SCRIPT_MOST: usize = 16_384;

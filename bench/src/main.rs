@@ -114,11 +114,11 @@ fn joins(names: usize, bindings: usize, depth: usize) -> String {
 }
 
 /// A ring of parameters, handed on from `step` on, whose kinds widen one class at a time: many entries for few bytes.
-fn ring(params: usize, classes: usize, calls: usize, sums: usize, step: usize) -> String {
-    let list = |from: usize| (0..params).map(|i| name('p', (from + i) % params)).collect::<Vec<_>>().join(",");
+fn ring(param: fn(usize) -> String, params: usize, classes: usize, calls: usize, sums: usize, step: usize) -> String {
+    let list = |from: usize| (0..params).map(|i| param((from + i) % params)).collect::<Vec<_>>().join(",");
     let objects: Vec<String> = (0..params).map(|i| if i < classes { format!("{}.new()", name('C', i)) } else { "nil".into() }).collect();
     format!("{}def k({}) {}{} end def main() k({}) end", each(classes, |i| format!("class {} end ", name('C', i))), list(0),
-            each(calls, |_| format!("k({}) ", list(step))), each(sums, |i| format!("{}+1 ", name('p', i % params))), objects.join(","))
+            each(calls, |_| format!("k({}) ", list(step))), each(sums, |i| format!("{}+1 ", param(i % params))), objects.join(","))
 }
 
 fn fitting(make: impl Fn(usize) -> String, most: usize) -> Vec<u8> {
@@ -134,14 +134,14 @@ fn fitting(make: impl Fn(usize) -> String, most: usize) -> Vec<u8> {
 
 fn scripts() -> Vec<(String, Vec<u8>)> {
     let mut all: Vec<(String, Vec<u8>)> = vec![];
-    for (label, most) in [("1 KB", 1_024), ("16 KB", 16_384)] {
+    for (label, most) in [("1 KB", 1_024), ("2 KB", 2_048), ("4 KB", 4_096), ("8 KB", 8_192), ("16 KB", 16_384)] {
         let mut add = |shape: &str, script: Vec<u8>| all.push((format!("{label} {shape}"), padded(String::from_utf8(script).unwrap(), most)));
         add("straight", fitting(straight, most));
         add("functions", fitting(|n| functions(n), most));
         add("choices", fitting(choices, most));
         add("objects", fitting(|n| objects(n), most));
         add("variables", fitting(|n| variables(n, (n / 8).clamp(1, 60)), most));
-        add("ring", fitting(|n| ring(n.min(66), n.min(60), 1 + n / 60, 0, 1), most));
+        add("ring", fitting(|n| ring(|i| name('p', i), n.min(66), n.min(60), 1 + n / 60, 0, 1), most));
     }
     let mut made = 0;
     for i in 0.. {
@@ -168,7 +168,8 @@ fn scripts() -> Vec<(String, Vec<u8>)> {
     }
     // what a search for the largest count and for the longest time came to
     all.push(("16 KB joins".into(), joins(1_520, 2_545, 120).into_bytes()));
-    all.push(("largest count found".into(), ring(48, 19, 28, 1_184, 13).into_bytes()));
+    all.push(("largest count found".into(), ring(pair, 48, 19, 28, 1_184, 13).into_bytes()));
+    all.push(("longest time found".into(), ring(pair, 96, 11, 48, 2, 7).into_bytes()));
     all
 }
 

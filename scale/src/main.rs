@@ -42,7 +42,7 @@ impl Unit {
 }
 
 /// In a hundred scripts by seed: grammar-aware ones (good, limits, lists), damaged ones, words at random.
-const SHARES: [(&str, u64); 5] = [("good", 56), ("damaged", 28), ("words", 14), ("limits", 1), ("lists", 1)];
+const SHARES: [(&str, u64); 5] = [("good", 52), ("damaged", 8), ("words", 38), ("limits", 1), ("lists", 1)];
 /// Full waiting lists take the Rust long: at most this many.
 const LISTS_MOST: u64 = 2_000;
 
@@ -170,7 +170,7 @@ fn read_ledger(path: &str) -> (HashSet<String>, u64, u64, u64) {
 
 fn main() {
     let mut words = std::env::args().skip(1);
-    let (mut scripts, mut length, mut seed, mut threads, mut ledger) = (101_000_000u64, 5u64, 1u64, 2u64, "scale.ledger".to_string());
+    let (mut scripts, mut length, mut seed, mut threads, mut ledger) = (100_400_000u64, 5u64, 1u64, 2u64, "scale.ledger".to_string());
     while let Some(word) = words.next() {
         let Some(value) = words.next() else { stop(&format!("{word}: nothing after it; {USAGE}")) };
         let number = || value.parse::<u64>().unwrap_or_else(|_| stop(&format!("{word}: a number expected, not '{value}'")));
