@@ -4,7 +4,7 @@ use mathlib.Core.Path.{_≡_}
 use mathlib.Core.List.{List, [], _∷_, map}
 use Prim.Native.Nat.{ℕ, zero, suc, _+_, _-_, _*_, _%_, _^_, _≤_, _<_}
 use lib.Dec.{eqb}
-use lib.ListN.{length, getD}
+use lib.ListN.{length, getD, drop}
 use Rattle.rules.specs.Lists.{consIf, places, toList, concat, has}
 use Rattle.rules.specs.Program as P
 use Rattle.rules.specs.Program.{code, parameters, returns, entry}
@@ -82,6 +82,11 @@ pub record Filled (a n v : ℕ) (w w' : List ℕ) : Type 0 where
   pub only : Only a n w w'
   pub here : (k : ℕ) → k < n → getD w' (a + k) 0 ≡ v
 
+-- the n words from a on stand in another memory too, in a part of it that starts at base
+pub record Copied (base a n : ℕ) (w t t' : List ℕ) : Type 0 where
+  pub only : Only (base + a) n t t'
+  pub here : (k : ℕ) → k < n → getD t' (base + (a + k)) 0 ≡ getD w (a + k) 0
+
 -- the chains of a sort, of the instructions from i on
 abbrev pub Held : List ℕ → ℕ → ℕ → ℕ → List ℕ → Type 0
 Held m n sort i w =
@@ -107,3 +112,8 @@ pub record Index (m : List ℕ) (c : Counts) (w : List ℕ) : Type 0 where
   pub codes : (s : List ℕ) (b : ℕ) → b < 1024 → ChainIs w (c .insns) 0 b (code (view s m c) b)
   pub params : (s : List ℕ) (f : ℕ) → f < c .functions → entry (view s m c) f < 1024 → ChainIs w (c .insns) 1 (entry (view s m c) f) (parameters (view s m c) f)
   pub returning : (s : List ℕ) (f : ℕ) → f < 1024 → ChainIs w (c .insns) 2 f (returnsOf (view s m c) f)
+
+-- an index stands in another memory too, from base on
+pub record Carried (c : Counts) (base : ℕ) (w t t' : List ℕ) : Type 0 where
+  pub only : Only base size t t'
+  pub index : (m : List ℕ) → Index m c w → Index m c (drop base t')

@@ -8,7 +8,7 @@ ghost use mathlib.Core.Path.{_≡_};
 ghost use Prim.Native.Nat.{ℕ, _+_, _*_, _≤_, _<_};
 ghost use lib.ListN.{length, getD};
 ghost use Rattle.program.specs.View.{Ready};
-ghost use Rattle.index.specs.Chains.{size, isParam, isReturn, keyOf, FitsId, Filled, Chains, Index};
+ghost use Rattle.index.specs.Chains.{size, isParam, isReturn, keyOf, FitsId, Filled, Copied, Chains, Index, Carried};
 
 // Where a sort's heads start, how many there are, and how many words a sort takes; the three sorts are the code, the Params and the Returns.
 const HEADS: usize = 1024;
@@ -121,6 +121,30 @@ pub fn build_index(m: &[usize], c: Counts, w: &mut [usize])
     chain(m, c, w, 0);
     chain(m, c, w, 1);
     chain(m, c, w, 2);
+}
+
+// n words from a place on go to another memory, to a part of it that starts at `base`.
+fn copy(w: &[usize], t: &mut [usize], base: usize, at: usize, n: usize)
+    requires { ⌜ (at + n ≤ length (now w)) × (base + (at + n) ≤ length (now t)) ⌝ }
+    ensures { λ _. ⌜ Copied base at n (now (w .entry)) (now (t .entry)) (now (t .exit)) ⌝ }
+{
+    let mut i = 0;
+    while i < n {
+        t[base + (at + i)] = w[at + i];
+        i += 1;
+    }
+}
+
+// What is in use of an index goes to another memory, from `base` on.
+pub fn copy_index(w: &[usize], c: Counts, t: &mut [usize], base: usize)
+    requires { ⌜ (size ≤ length (now w)) × (c .insns ≤ 2048) ⌝ }
+    requires { ⌜ base + size ≤ length (now t) ⌝ }
+    ensures { λ _. ⌜ Carried c base (now (w .entry)) (now (t .entry)) (now (t .exit)) ⌝ }
+{
+    let n = HEADS + c.insns;
+    copy(w, t, base, 0, n);
+    copy(w, t, base, SORT, n);
+    copy(w, t, base, SORT + SORT, n);
 }
 
 // A word of the index as the number of an instruction.

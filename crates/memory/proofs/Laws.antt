@@ -210,18 +210,3 @@ module _ {t d₀ d : List ℕ} {at i : ℕ} (g : Writing t d₀ d at i) where
 
   pub writing-done : length t ≤ i → d ≡ over at t d₀
   writing-done le = g .is ∙ rw (take-all i t le)
-
-  pub writing-next : i < length t → Writing t d₀ (set d (at + i) (getD t i 0)) at (i + 1)
-  writing-next lt = writing-more lt refl
-
--- ---- the places before a table, and the table at the end
-
-pub over-take : (at : ℕ) (t d : List ℕ) → at ≤ length d → take at (over at t d) ≡ take at d
-unfolding over
-over-take at t d h = take-at (take at d) (t ++ drop (at + length t) d) at (length-take-le at d h)
-
-pub over-drop : (at : ℕ) (t d : List ℕ) → at + length t ≡ length d → drop at (over at t d) ≡ t
-unfolding over
-over-drop at t d h =
-    drop-at (take at d) (t ++ drop (at + length t) d) at (length-take-le at d (omega arith))
-    ∙ ap (λ (n : ℕ). t ++ drop n d) h ∙ ap (λ (l : List ℕ). t ++ l) (drop-length d) ∙ append-nil t

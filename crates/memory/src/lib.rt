@@ -1,8 +1,7 @@
-// Lent memory: clearing it, and placing tables in it.
+// Lent memory, and clearing it.
 ghost use mathlib.Core.Path.{_≡_};
-ghost use Prim.Native.Nat.{_+_, _≤_};
 ghost use lib.ListN.{length};
-ghost use Rattle.memory.specs.Memory.{zeros, over};
+ghost use Rattle.memory.specs.Memory.{zeros};
 
 // Every place becomes 0.
 pub fn clear(words: &mut [usize])
@@ -11,18 +10,6 @@ pub fn clear(words: &mut [usize])
     let mut i = 0;
     while i < words.len() {
         words[i] = 0;
-        i += 1;
-    }
-}
-
-// A table goes to the places from `at` on.
-pub fn place(table: &[usize], words: &mut [usize], at: usize)
-    requires { ⌜ at + length (now table) ≤ length (now words) ⌝ }
-    ensures { λ _. ⌜ now (words .exit) ≡ over at (now (table .entry)) (now (words .entry)) ⌝ }
-{
-    let mut i = 0;
-    while i < table.len() {
-        words[at + i] = table[i];
         i += 1;
     }
 }

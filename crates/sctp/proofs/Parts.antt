@@ -1,20 +1,22 @@
 -- Parts of the lent memories that are cleared, laid or used as work memory. Assumes nothing.
 use mathlib.Core.Path.{_≡_, refl, sym, ap, _∙_, subst}
 use mathlib.Core.List.{List, [], _++_, append-nil}
-use Prim.Native.Nat.{ℕ, _+_, _-_, _≤_, _<_}
+use Prim.Native.Nat.{ℕ, _+_, _-_, _*_, _≤_, _<_}
+use native.Mathlib.Nat.{zero-add}
 use native.Mathlib.Omega.{arith}
 use lib.ListN.{length, getD, take, drop, length-append, length-drop, drop-of-length-le, List·getD-append}
-use lib.Seq.{length-take-le, getD-append-add, getD-take, take-at, take-all}
+use lib.Seq.{length-take-le, getD-append-add, getD-take, ext-getD, take-at, take-all}
 use borrow.Rule.Slice.PartMut.{putMid, postOf}
 use Rattle.program.specs.View as P
 use Rattle.program.specs.declared.Counts.{Counts}
-use Rattle.index.specs.Chains.{Index}
-use Rattle.memory.specs.Memory.{zeros, over}
-use Rattle.memory.proofs.Laws.{zeros-length, zeros-at, over-take, over-drop}
+use Rattle.index.specs.Chains.{Index, Filled, Carried}
+use Rattle.memory.specs.Memory.{zeros}
+use Rattle.memory.proofs.Laws.{zeros-at}
 use Rattle.state.specs.declared.Sizes.{Sizes}
 use Rattle.state.specs.declared.Went.{Went}
+use Rattle.state.specs.View.{Held, Cleared}
 use Rattle.answer.specs.Layout.{callersAt, answerLen}
-use Rattle.starts.specs.Starts.{Cleared, Started}
+use Rattle.starts.specs.Starts.{Started}
 use Rattle.constructors.specs.Walks.{work}
 use Rattle.analysed.specs.Analysed.{Analysed}
 use Rattle.sctp.specs.Sctp.{tablesOf, chainsOf, Chained, Aside, StartsAside, Begins}
@@ -31,26 +33,30 @@ module _ (m w : List ℕ) (lm : length m ≡ 52224) (lw : length w ≡ length (t
   pub built-taken : length (take 9216 (w ++ drop 9216 m)) ≡ 9216
   built-taken = ap length built ∙ built-length
 
-  pub built-room : (p : List ℕ) → length p ≡ 57088 → 47872 + length (take 9216 (w ++ drop 9216 m)) ≤ length p
-  built-room p lp = let l = built-taken in omega arith
-
-  pub index-laid : (c : Counts) (p p' : List ℕ) → length p ≡ 57088 → Index (tablesOf p) c w → p' ≡ over 47872 (take 9216 (w ++ drop 9216 m)) p → Chained c p p'
+  pub index-laid : (c : Counts) (p p' : List ℕ) → length p ≡ 57088 → Index (tablesOf p) c w → Carried c 47872 (take 9216 (w ++ drop 9216 m)) p p' → Chained c p p'
   index-laid c p p' lp i e =
-      let h : p' ≡ over 47872 w p = e ∙ ap (λ (y : List ℕ). over 47872 y p) built in
-      let l = built-length in
+      let l = length-take-le 47872 p (omega arith) in
+      let l' = length-take-le 47872 p' (omega (arith, e .only .len-same)) in
       record {
-        tables = ap (take 47872) h ∙ over-take 47872 w p (omega arith);
-        index = subst (Index (tablesOf p) c) (sym (ap (drop 47872) h ∙ over-drop 47872 w p (omega arith))) i;
+        tables = ext-getD 0 (take 47872 p') (take 47872 p) (l' ∙ sym l)
+            (λ k h. getD-take 47872 p' k 0 (omega arith) ∙ e .only .others k (λ a b. omega arith) ∙ sym (getD-take 47872 p k 0 (omega arith)));
+        index = e .index (tablesOf p) (rw built i);
       }
 
--- ---- the state's tables are cleared
-pub tables-cleared : (m ys : List ℕ) → length m ≡ 52224 → ys ≡ zeros (length (take 19456 m)) → Cleared (ys ++ drop 19456 m)
-tables-cleared m ys len e =
-    let n : length (take 19456 m) ≡ 19456 = length-take-le 19456 m (omega arith) in
-    let y : length ys ≡ 19456 = ap length e ∙ zeros-length (length (take 19456 m)) ∙ n in
+-- ---- what the start finds clear
+pub tables-cleared : {z : Sizes} {m m₁ m₂ m₃ m₄ : List ℕ} {a b : ℕ} → Held z m → a ≡ 32 * z .functions → b ≡ 32 * z .classes
+    → Filled 0 (z .insns) 0 m m₁ → Filled 4096 (z .blocks) 0 m₁ m₂ → Filled 13312 a 0 m₂ m₃ → Filled 17408 b 0 m₃ m₄ → Cleared z m₄
+tables-cleared {z} {m} {m₁} {m₂} {m₃} {m₄} h e f w x y r =
+    let len : length m₄ ≡ 52224 = r .only .len-same ∙ y .only .len-same ∙ x .only .len-same ∙ w .only .len-same ∙ h .len in
     record {
-      len = length-append ys (drop 19456 m) ∙ (let b = length-drop 19456 m in omega arith);
-      clear = λ j h. List·getD-append ys (drop 19456 m) 0 j (omega arith) ∙ ap (λ (x : List ℕ). getD x j 0) e ∙ zeros-at (length (take 19456 m)) j;
+      held = record { len = len; functions = h .functions; classes = h .classes; blocks = h .blocks; insns = h .insns };
+      kinds = λ i l.
+          let few = h .insns in
+          r .only .others i (λ a b. omega arith) ∙ y .only .others i (λ a b. omega arith) ∙ x .only .others i (λ a b. omega arith)
+          ∙ ap (λ (j : ℕ). getD m₁ j 0) (sym (zero-add i)) ∙ w .here i l;
+      live = λ i l. let few = h .blocks in r .only .others (4096 + i) (λ a b. omega arith) ∙ y .only .others (4096 + i) (λ a b. omega arith) ∙ x .here i l;
+      called = λ j l. let few = h .functions in r .only .others (13312 + j) (λ a b. omega arith) ∙ y .here j (omega arith);
+      reads = λ j l. r .here j (omega arith);
     }
 
 -- ---- a part behind place a, put back

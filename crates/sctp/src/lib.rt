@@ -6,21 +6,18 @@ use state::Went;
 ghost use mathlib.Core.Path.{_≡_};
 ghost use lib.ListN.{length};
 ghost use Rattle.program.specs.View.{Ready};
-ghost use Rattle.state.specs.View.{Ready as StateReady};
+ghost use Rattle.state.specs.View.{Held, Ready as StateReady, Cleared};
 ghost use Rattle.answer.specs.Layout.{answerLen};
 ghost use Rattle.analysed.specs.Analysed.{Indexed, Analysed};
 ghost use Rattle.steps.specs.Runs.{Reaching, Ran};
-ghost use Rattle.starts.specs.Starts.{Cleared};
 ghost use Rattle.sctp.specs.Sctp.{tablesOf, chainsOf, Given, Chained, Aside, StartsAside, Begins, Ends, Analyses};
 
-// The words of the program part that its tables take, and of the state part that its tables take, before the rings.
+// The words of the program part that its tables take, and those of the index.
 const TABLES: usize = 47872;
 
 const CHAINS: usize = 9216;
 
-const STATE_TABLES: usize = 19456;
-
-// The chains of the index are made in the state's memory, and go behind the program's tables.
+// The chains of the index are made in the state's memory, and what is in use of them goes behind the program's tables.
 fn lay_index(p: &mut [usize], c: Counts, m: &mut [usize])
     requires { ⌜ Ready (tablesOf (now p)) c ⌝ }
     requires { ⌜ length (now p) ≡ 57088 ⌝ }
@@ -28,15 +25,18 @@ fn lay_index(p: &mut [usize], c: Counts, m: &mut [usize])
     ensures { λ _. ⌜ Chained c (now (p .entry)) (now (p .exit)) ⌝ }
 {
     index::build_index(&p[..TABLES], c, &mut m[..CHAINS]);
-    memory::place(&m[..CHAINS], p, TABLES);
+    index::copy_index(&m[..CHAINS], c, p, TABLES);
 }
 
-// The tables of the state are cleared; its rings may hold anything.
-fn clear_tables(m: &mut [usize])
-    requires { ⌜ length (now m) ≡ 52224 ⌝ }
-    ensures { λ _. ⌜ Cleared (now (m .exit)) ⌝ }
+// What the start finds clear: the kinds, live blocks, callers and reads of as many things as the program has.
+fn clear_tables(m: &mut [usize], z: Sizes)
+    requires { ⌜ Held z (now m) ⌝ }
+    ensures { λ _. ⌜ Cleared z (now (m .exit)) ⌝ }
 {
-    memory::clear(&mut m[..STATE_TABLES]);
+    index::fill(m, 0, z.insns, 0);
+    index::fill(m, state::LIVE, z.blocks, 0);
+    index::fill(m, state::CALLERS, 32 * z.functions, 0);
+    index::fill(m, state::READS, 32 * z.classes, 0);
 }
 
 // The answer's callers are cleared.
@@ -59,7 +59,7 @@ fn start_aside(
 ) -> Went
     requires { ⌜ Indexed (now s) (now p) c (now x) z ⌝ }
     requires { ⌜ length (now u) ≡ answerLen ⌝ }
-    requires { ⌜ Cleared (now m) ⌝ }
+    requires { ⌜ Cleared z (now m) ⌝ }
     ensures { λ r. ⌜ StartsAside (now (s .entry)) (now (p .entry)) c z (now (u .entry)) (now (u .exit)) (now (m .exit)) r ⌝ }
 {
     starts::start(s, p, c, x, &mut u[answer::CALLERS..], m, z)
@@ -79,7 +79,7 @@ fn begin(
     requires { ⌜ length (now m) ≡ 52224 ⌝ }
     ensures { λ r. ⌜ Begins (now (s .entry)) (now (p .entry)) c z (now (u .entry)) (now (u .exit)) (now (m .exit)) r ⌝ }
 {
-    clear_tables(m);
+    clear_tables(m, z);
     let r = start_aside(s, p, c, x, u, m, z);
     clear_callers(u);
     r

@@ -1,5 +1,4 @@
 -- Cleared tables with the attributes' first kinds hold the rules' blank state. Assumes nothing.
-use mathlib.Core.Bool.{false}
 use mathlib.Core.Path.{_≡_, refl, sym, ap, ap₂, _∙_}
 use mathlib.Core.List.{List, [], _∷_, _++_}
 use Prim.Native.Nat.{ℕ, zero, suc, _+_, _*_, _≤_, _<_}
@@ -9,11 +8,8 @@ use Rattle.kinds.specs.Kinds.{kindFrom, kindAt, kindsAt}
 use Rattle.kinds.specs.declared.Kind.{Kind}
 use Rattle.rules.specs.Program as R
 use Rattle.rules.specs.Program.{Limits, class}
-use Rattle.rules.specs.Machine.{State, blank}
-use Rattle.memory.specs.Memory.{zeros}
-use Rattle.memory.proofs.Laws.{zeros-length, zeros-at}
+use Rattle.rules.specs.Machine.{blank}
 use Rattle.tables.specs.Tables.{listed}
-use Rattle.tables.specs.Rings.{waiting}
 use Rattle.tables.proofs.Listed.{listed-same}
 use Rattle.program.specs.Rows.{classAt, ivarsOf}
 use Rattle.program.specs.View as P
@@ -23,13 +19,10 @@ use Rattle.program.proofs.Tables.{tab-at, tab-length}
 use Rattle.program.proofs.Viewing.{functions-length, classes-length, blocks-length, instructions-length}
 use Rattle.state.specs.declared.Sizes.{Sizes}
 use Rattle.state.specs.View as Mem
-use Rattle.state.specs.View.{Attrs, insnsOf, blocksOf, view, Held, noEntries, SizesOf}
+use Rattle.state.specs.View.{Attrs, view, Held, Cleared, noEntries, SizesOf}
 use Rattle.state.proofs.Blank.{blank-view}
-use Rattle.state.proofs.Puts.{glue}
-use Rattle.state.proofs.Tables.{kinds-kept, live-kept, called-kept, reads-kept}
 use Rattle.firsts.specs.Firsts.{Only, allKindsAt}
 use Rattle.analysed.specs.Analysed.{Sized, Fits}
-use Rattle.starts.specs.Starts.{Cleared}
 
 -- ---- lists of kinds
 
@@ -69,15 +62,15 @@ module _ (s p : List ℕ) (c : Counts) (z : Sizes) (e : Sized c z) where
 
   -- ---- the view
 
-  module _ (r : P.Ready p c) (m w : List ℕ) (g : Cleared m) (o : Only 5120 9216 4096 m w) where
-    abbrev none : List ℕ
-    none = zeros 52224
-
-    still : (j : ℕ) → j < 19456 → (5120 ≤ j → j < 13312 → ⊥) → getD w j 0 ≡ getD none j 0
-    still j h k = o .others j (λ a b. k (omega arith) (omega arith)) (λ a b. k (omega arith) (omega arith)) ∙ g .clear j h ∙ sym (zeros-at 52224 j)
-
-    held : Held z none
-    held = held-at none r (zeros-length 52224)
+  module _ (r : P.Ready p c) (m w : List ℕ) (g : Cleared z m) (o : Only 5120 9216 4096 m w) where
+    cleared-still : Cleared z w
+    cleared-still = record {
+      held = held-at w r (o .len-same ∙ g .held .len);
+      kinds = λ i h. let few = g .held .insns in o .others i (λ a b. omega arith) (λ a b. omega arith) ∙ g .kinds i h;
+      live = λ b h. let few = g .held .blocks in o .others (4096 + b) (λ a k. omega arith) (λ a k. omega arith) ∙ g .live b h;
+      called = λ j h. o .others (13312 + j) (λ a b. omega arith) (λ a b. omega arith) ∙ g .called j h;
+      reads = λ j h. o .others (17408 + j) (λ a b. omega arith) (λ a b. omega arith) ∙ g .reads j h;
+    }
 
     row-is : (v : Attrs) → Fits s p c (P.view s p c) v → (k : ℕ) → k < c .classes
         → listed (v .count k) (λ a. kindFrom (getD w (5120 + (k * 64 + a)) 0) (getD w (9216 + (k * 64 + a)) 0)) ≡ kindsAt w (5120 + 64 * k) (9216 + 64 * k) (ivarsOf p k)
@@ -94,20 +87,5 @@ module _ (s p : List ℕ) (c : Counts) (z : Sizes) (e : Sized c z) where
         ∙ listed-same (c .classes) (λ k. kindsAt w (5120 + 64 * k) (9216 + 64 * k) (ivarsOf p k)) (λ k. listed (v .count k) (λ a. kindFrom (getD w (5120 + (k * 64 + a)) 0) (getD w (9216 + (k * 64 + a)) 0)))
         (λ k h. row-is v f k h)
 
-    no-insns : insnsOf w noEntries ≡ []
-    unfolding insnsOf waiting
-    no-insns = refl
-
-    no-blocks : blocksOf w noEntries ≡ []
-    unfolding blocksOf waiting
-    no-blocks = refl
-
     pub filled-view : (L : Limits) (v : Attrs) → Fits s p c (P.view s p c) v → view z v w noEntries ≡ blank L (P.view s p c) (allKindsAt p c 5120 9216 w)
-    filled-view L v f =
-        let b = blank-view z none (zeros-at 52224) L (P.view s p c) v sizes-of in
-        glue (kinds-kept z none w held (λ j x y. still j (omega arith) (λ k l. omega arith)) ∙ ap (λ (t : State). t .kinds) b)
-        (live-kept z none w held (λ j x y. still j (omega arith) (λ k l. omega arith)) ∙ ap (λ (t : State). t .live) b)
-        (called-kept z none w held (λ j x y. still j (omega arith) (λ k l. omega arith)) ∙ ap (λ (t : State). t .calledBy) b)
-        (ivars-are v f)
-        (reads-kept z none w held (λ j x y. still j (omega arith) (λ k l. omega arith)) ∙ ap (λ (t : State). t .ivarReads) b)
-        no-insns no-blocks false 0
+    filled-view L v f = blank-view z w cleared-still L (P.view s p c) v sizes-of ∙ ap (blank L (P.view s p c)) (ivars-are v f)

@@ -25,7 +25,7 @@ use Rattle.state.specs.declared.Sizes.{Sizes}
 use Rattle.state.specs.declared.Regs.{Regs}
 use Rattle.state.specs.declared.Went.{Went}
 use Rattle.state.specs.declared.Went.the-variants.{On, No}
-use Rattle.state.specs.View.{Attrs, view, Ready, noEntries}
+use Rattle.state.specs.View.{Attrs, view, Ready, Cleared, noEntries}
 use Rattle.state.specs.Changes.{went, ReadyAfter, Did}
 use Rattle.state.proofs.Blank.{blank-ready}
 use Rattle.blocks.specs.Blocks.{HasCode, CodeIs}
@@ -33,7 +33,7 @@ use Rattle.blocks.proofs.Indexed.{has-code, code-is}
 use Rattle.firsts.specs.Firsts.{Entries, Only, outcome, allKindsAt, FirstsAre}
 use Rattle.firsts.proofs.Promise.{entries-of}
 use Rattle.analysed.specs.Analysed.{Suited, Indexed, Fits}
-use Rattle.starts.specs.Starts.{Cleared, Mains, BegunIf, Started}
+use Rattle.starts.specs.Starts.{Mains, BegunIf, Started}
 use Rattle.starts.proofs.Filled.{held-at, filled-view}
 
 -- ---- the rules' start by its tests
@@ -79,8 +79,8 @@ module _ {s p : List ℕ} {c : Counts} {x : List ℕ} {z : Sizes} (a : Indexed s
   pub main-live : {b : ℕ} → Mains s p c b → b < z .blocks
   main-live g = omega (arith, g .inside, a .sized .blocks)
 
-  pub filled-ready : {m w : List ℕ} {e : ℕ} {q : Regs} → Cleared m → FirstsAre s p c 5120 9216 m w e → q ≡ noEntries → Ready z w q
-  filled-ready {m} {w} g f h = rw h (blank-ready z w (held-at s p c z (a .sized) w (a .ready) (f .only .len-same ∙ g .len)))
+  pub filled-ready : {m w : List ℕ} {e : ℕ} {q : Regs} → Cleared z m → FirstsAre s p c 5120 9216 m w e → q ≡ noEntries → Ready z w q
+  filled-ready {m} {w} g f h = rw h (blank-ready z w (held-at s p c z (a .sized) w (a .ready) (f .only .len-same ∙ g .held .len)))
 
   -- ---- the ways
 
@@ -105,7 +105,7 @@ module _ {s p : List ℕ} {c : Counts} {x : List ℕ} {z : Sizes} (a : Indexed s
     ok = tt;
   }
 
-  pub start-live : {m w : List ℕ} {e b : ℕ} {q : Regs} {w' : List ℕ} {r : Went} → Cleared m → (c .functions ≡ 0 → ⊥) → FirstsAre s p c 5120 9216 m w e → e ≡ 0 → Mains s p c b → q ≡ noEntries
+  pub start-live : {m w : List ℕ} {e b : ℕ} {q : Regs} {w' : List ℕ} {r : Went} → Cleared z m → (c .functions ≡ 0 → ⊥) → FirstsAre s p c 5120 9216 m w e → e ≡ 0 → Mains s p c b → q ≡ noEntries
       → Did z (CodeIs z x) (λ L P. goLive L P b) w q w' r → Started s p c z w' r
   start-live {m} {w} {e} {b} {q} {w'} {r} g h f k i j d =
       let d' = rw j at d in

@@ -2,7 +2,6 @@
 use mathlib.Core.Path.{_≡_}
 use mathlib.Core.List.{List}
 use Prim.Native.Nat.{ℕ, _<_}
-use lib.ListN.{length, getD}
 use Rattle.rules.specs.Program.{Limits, entry, mainFunction}
 use Rattle.rules.specs.Machine.{stateOf, start}
 use Rattle.program.specs.View as P
@@ -14,11 +13,6 @@ use Rattle.state.specs.declared.Went.the-variants.{On, No}
 use Rattle.state.specs.View.{Attrs, Ready}
 use Rattle.state.specs.Changes.{went}
 use Rattle.analysed.specs.Analysed.{Suited, Fits}
-
--- a memory whose tables are cleared; the rings behind them may hold anything
-pub record Cleared (m : List ℕ) : Type 0 where
-  pub len : length m ≡ 52224
-  pub clear : (j : ℕ) → j < 19456 → getD m j 0 ≡ 0
 
 -- block b is where the main function begins
 pub record Mains (s p : List ℕ) (c : Counts) (b : ℕ) : Type 0 where

@@ -7,7 +7,8 @@ ghost use Prim.Native.Nat.{_≤_, _<_};
 ghost use lib.ListN.{length};
 ghost use Rattle.constructors.specs.Walks.{work};
 ghost use Rattle.analysed.specs.Analysed.{Indexed};
-ghost use Rattle.starts.specs.Starts.{Cleared, Mains, Started};
+ghost use Rattle.state.specs.View.{Cleared};
+ghost use Rattle.starts.specs.Starts.{Mains, Started};
 
 // Where the state has the attributes' kinds: the bytes, and the payloads.
 const TAGS: usize = 5120;
@@ -37,7 +38,7 @@ pub fn start(
 ) -> Went
     requires { ⌜ Indexed (now s) (now p) c (now x) z ⌝ }
     requires { ⌜ work ≤ length (now y) ⌝ }
-    requires { ⌜ Cleared (now m) ⌝ }
+    requires { ⌜ Cleared z (now m) ⌝ }
     ensures { λ r. ⌜ Started (now (s .entry)) (now (p .entry)) c z (now (m .exit)) r ⌝ }
 {
     if c.functions == 0 {

@@ -74,6 +74,14 @@ pub record Ready (z : Sizes) (m : List ℕ) (q : Regs) : Type 0 where
   pub insnsBelow : Below m 19456 (q .insns .head) (q .insns .len) (z .insns)
   pub blocksBelow : Below m 35840 (q .blocks .head) (q .blocks .len) (z .blocks)
 
+-- a memory before the start: no instruction has a kind, no block is live, nothing was called or read; what else it has may hold anything
+pub record Cleared (z : Sizes) (m : List ℕ) : Type 0 where
+  pub held : Held z m
+  pub kinds : (i : ℕ) → i < z .insns → getD m i 0 ≡ 0
+  pub live : (b : ℕ) → b < z .blocks → getD m (4096 + b) 0 ≡ 0
+  pub called : (j : ℕ) → j < 32 * z .functions → getD m (13312 + j) 0 ≡ 0
+  pub reads : (j : ℕ) → j < 32 * z .classes → getD m (17408 + j) 0 ≡ 0
+
 -- nothing waits, and nothing was taken
 abbrev pub noEntries : Regs
 noEntries = record { insns = record { head = 0; len = 0 }; blocks = record { head = 0; len = 0 }; draining = false; count = 0 }

@@ -62,15 +62,15 @@ pub struct TakenBlock {
 // Where the tables start; kind bytes stand at 0.
 const BITS: usize = 2048;
 
-const LIVE: usize = 4096;
+pub const LIVE: usize = 4096;
 
 const IVARS: usize = 5120;
 
 const IVAR_BITS: usize = 9216;
 
-const CALLERS: usize = 13312;
+pub const CALLERS: usize = 13312;
 
-const READS: usize = 17408;
+pub const READS: usize = 17408;
 
 const INSNS: usize = 19456;
 

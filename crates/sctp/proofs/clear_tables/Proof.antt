@@ -1,28 +1,43 @@
 -- `sctp::clear_tables` meets its contract. Assumes nothing.
 use Rattle.sctp.proofs.Parts.{tables-cleared}
-use lib.Seq.{length-take-le}
-use mathlib.Core.Path.{sym}
-use native.Mathlib.Omega.{arith}
+use mathlib.Core.Path.{refl}
 use borrow.Author.Needs.{needs}
 use Rattle.sctp.proofs.clear_tables.Statement.{statement}
 use Rattle.sctp.proofs.clear_tables.Tie as tie
 
-slice-relend-prefix-clear : tie.Need-slice-relend-prefix-clear
-slice-relend-prefix-clear c = search needs
+fill-requires : tie.Need-fill-requires
+fill-requires c κs = search needs
 
-slice-aggregate-clear : tie.Need-slice-aggregate-clear
-slice-aggregate-clear c = sym (length-take-le 19456 (c .before .before .args .m .now) (omega (arith, c .before .before .pre)))
+fill-requires-2 : tie.Need-fill-requires-2
+fill-requires-2 c κs = search needs
 
-clear-requires : tie.Need-clear-requires
-clear-requires c κs = search needs
+mul-fill : tie.Need-mul-fill
+mul-fill c = search needs
+
+fill-requires-3 : tie.Need-fill-requires-3
+fill-requires-3 c κs = search needs
+
+mul-fill-2 : tie.Need-mul-fill-2
+mul-fill-2 c = search needs
+
+fill-requires-4 : tie.Need-fill-requires-4
+fill-requires-4 c κs = search needs
 
 same-length : tie.Need-same-length
 same-length c = search needs
 
 returns : tie.Need-returns
-returns c = tables-cleared (c .before .before .before .before .before .args .m .now) (c .before .before .clear .last .0) (c .before .before .before .before .before .pre) (c .before .before .clear .ensures)
+returns c = search tables-cleared
 
 pub clear-tables-spec : {M : Type 1} → statement M
 clear-tables-spec =
     tie.close
-    (tie.spec slice-relend-prefix-clear slice-aggregate-clear clear-requires same-length returns)
+    (tie.spec
+    fill-requires
+    fill-requires-2
+    mul-fill
+    fill-requires-3
+    mul-fill-2
+    fill-requires-4
+    same-length
+    returns)

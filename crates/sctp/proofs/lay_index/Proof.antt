@@ -1,5 +1,5 @@
 -- `sctp::lay_index` meets its contract. Assumes nothing.
-use Rattle.sctp.proofs.Parts.{built-taken, built-room, index-laid}
+use Rattle.sctp.proofs.Parts.{built-taken, index-laid}
 use lib.Seq.{length-take-le}
 use mathlib.Core.Path.{sym}
 use native.Mathlib.Omega.{arith}
@@ -22,14 +22,14 @@ slice-aggregate-build-index-2 c = sym (length-take-le 9216 (c .before .before .b
 build-index-requires : tie.Need-build-index-requires
 build-index-requires c κs = (c .before .before .before .before .pre .0, omega (arith, length-take-le 9216 (c .before .before .before .before .args .m .now) (omega (arith, c .before .before .before .before .pre .1 .1))))
 
-slice-reshare-prefix-place : tie.Need-slice-reshare-prefix-place
-slice-reshare-prefix-place c = search needs
+slice-reshare-prefix-copy-index : tie.Need-slice-reshare-prefix-copy-index
+slice-reshare-prefix-copy-index c = search needs
 
-slice-aggregate-place : tie.Need-slice-aggregate-place
-slice-aggregate-place c = sym (built-taken (c .before .before .before .before .before .before .before .before .args .m .now) (c .before .before .before .build-index .last .1 .1 .0) (c .before .before .before .before .before .before .before .before .pre .1 .1) (c .before .before .before .build-index .kept .1 .1 .0))
+slice-aggregate-copy-index : tie.Need-slice-aggregate-copy-index
+slice-aggregate-copy-index c = sym (built-taken (c .before .before .before .before .before .before .before .before .args .m .now) (c .before .before .before .build-index .last .1 .1 .0) (c .before .before .before .before .before .before .before .before .pre .1 .1) (c .before .before .before .build-index .kept .1 .1 .0))
 
-place-requires : tie.Need-place-requires
-place-requires c κs = built-room (c .before .before .before .before .before .before .before .before .before .args .m .now) (c .before .before .before .before .build-index .last .1 .1 .0) (c .before .before .before .before .before .before .before .before .before .pre .1 .1) (c .before .before .before .before .build-index .kept .1 .1 .0) (c .before .before .before .before .before .before .before .before .before .args .p .now) (c .before .before .before .before .before .before .before .before .before .pre .1 .0)
+copy-index-requires : tie.Need-copy-index-requires
+copy-index-requires c κs = ((omega (arith, built-taken (c .before .before .before .before .before .before .before .before .before .args .m .now) (c .before .before .before .before .build-index .last .1 .1 .0) (c .before .before .before .before .before .before .before .before .before .pre .1 .1) (c .before .before .before .before .build-index .kept .1 .1 .0)), c .before .before .before .before .before .before .before .before .before .pre .0 .insns), omega (arith, c .before .before .before .before .before .before .before .before .before .pre .1 .0))
 
 same-length : tie.Need-same-length
 same-length c = search needs
@@ -38,7 +38,7 @@ same-length-2 : tie.Need-same-length-2
 same-length-2 c = search needs
 
 returns : tie.Need-returns
-returns c = index-laid (c .before .before .before .before .before .before .before .before .before .before .before .before .args .m .now) (c .before .before .before .before .before .before .before .build-index .last .1 .1 .0) (c .before .before .before .before .before .before .before .before .before .before .before .before .pre .1 .1) (c .before .before .before .before .before .before .before .build-index .kept .1 .1 .0) (c .before .before .before .before .before .before .before .before .before .before .before .before .args .c) (c .before .before .before .before .before .before .before .before .before .before .before .before .args .p .now) (c .before .before .place .last .1 .0) (c .before .before .before .before .before .before .before .before .before .before .before .before .pre .1 .0) (c .before .before .before .before .before .before .before .build-index .ensures) (c .before .before .place .ensures)
+returns c = index-laid (c .before .before .before .before .before .before .before .before .before .before .before .before .args .m .now) (c .before .before .before .before .before .before .before .build-index .last .1 .1 .0) (c .before .before .before .before .before .before .before .before .before .before .before .before .pre .1 .1) (c .before .before .before .before .before .before .before .build-index .kept .1 .1 .0) (c .before .before .before .before .before .before .before .before .before .before .before .before .args .c) (c .before .before .before .before .before .before .before .before .before .before .before .before .args .p .now) (c .before .before .copy-index .last .1 .1 .0) (c .before .before .before .before .before .before .before .before .before .before .before .before .pre .1 .0) (c .before .before .before .before .before .before .before .build-index .ensures) (c .before .before .copy-index .ensures)
 
 pub lay-index-spec : {M : Type 1} → statement M
 lay-index-spec =
@@ -49,9 +49,9 @@ lay-index-spec =
     slice-relend-prefix-build-index
     slice-aggregate-build-index-2
     build-index-requires
-    slice-reshare-prefix-place
-    slice-aggregate-place
-    place-requires
+    slice-reshare-prefix-copy-index
+    slice-aggregate-copy-index
+    copy-index-requires
     same-length
     same-length-2
     returns)

@@ -9,7 +9,7 @@ returns : tie.Need-returns
 returns c = start-none (c .before .before .before .before .before .before .before .pre .0) (c .if1 .taken)
 
 all-first-kinds-requires : tie.Need-all-first-kinds-requires
-all-first-kinds-requires c κs = (c .before .before .before .before .before .before .before .before .before .pre .0 .ready, (c .before .before .before .before .before .before .before .before .before .pre .0 .index, (jumps-inside (c .before .before .before .before .before .before .before .before .before .pre .0), (entries-inside (c .before .before .before .before .before .before .before .before .before .pre .0), (c .before .before .before .before .before .before .before .before .before .pre .1 .0, (omega arith, omega (arith, c .before .before .before .before .before .before .before .before .before .pre .1 .1 .len)))))))
+all-first-kinds-requires c κs = (c .before .before .before .before .before .before .before .before .before .pre .0 .ready, (c .before .before .before .before .before .before .before .before .before .pre .0 .index, (jumps-inside (c .before .before .before .before .before .before .before .before .before .pre .0), (entries-inside (c .before .before .before .before .before .before .before .before .before .pre .0), (c .before .before .before .before .before .before .before .before .before .pre .1 .0, (omega arith, omega (arith, c .before .before .before .before .before .before .before .before .before .pre .1 .1 .held .len)))))))
 
 same-length : tie.Need-same-length
 same-length c = search needs
