@@ -65,7 +65,7 @@ pub fn put_id(out: &mut [u8], at: usize, letter: u8, n: u64) -> usize
 }
 
 // A line: a text and the number of a refusal.
-pub fn put_refused(out: &mut [u8], at: usize, t: &[u8], number: u8) -> usize
+pub fn put_refused(out: &mut [u8], at: usize, t: &[u8], number: usize) -> usize
     requires { ⌜ at ≤ length (now out) ⌝ }
     ensures { λ r. ⌜ r ≤ length (now (out .entry)) ⌝ }
 {

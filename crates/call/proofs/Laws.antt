@@ -1,4 +1,5 @@
 -- The ways through the call. Assumes nothing.
+use mathlib.Core.Bool.{Bool as 𝔹, true, false}
 use mathlib.Core.Path.{_≡_, refl, sym, ap, _∙_, subst}
 use mathlib.Core.Option.{some}
 use mathlib.Core.List.{List, _++_}
@@ -16,7 +17,10 @@ use Rattle.rules.specs.Machine.{State, stateOf, start, run}
 use Rattle.rules.specs.Bound.{bound}
 use Rattle.rules.specs.Finished.{Finished}
 use Rattle.rules.specs.Frames.{Analysis, analyze}
+use Rattle.rules.proofs.Wellformed.Laws.{andThen}
+use Rattle.rules.proofs.Wellformed.Forward.{program-comes, too-long as too-long-refused}
 use Rattle.rules.proofs.Wellformed.Whole.{finished}
+use Rattle.rules.proofs.Questions.{start-fine, run-fine}
 use Rattle.rules.proofs.Exactness.Answers as Answers
 use Rattle.rules.proofs.Demand.{limits-usable, usable-sane}
 use Rattle.memory.specs.Memory.{zeros, Blank}
@@ -93,6 +97,10 @@ module _ (s p : List ℕ) (c : Counts) (u u₁ m : List ℕ) {r : Went} (h : Par
   image : Answer State → Answer (List ℕ)
   image y = ifAnswered y (λ e. answered (imageOf (recordOf P e)))
 
+  -- the number of a refusal is a question's
+  pub program-number : {n : ℕ} → r ≡ No n → n ≤ 20
+  program-number {n} e = andThen (start-fine limits P) (λ x q. run-fine limits P (bound P) x) .refuses n (sym (rw e at ends)) .1
+
   pub program-refused : {n : ℕ} (a : List ℕ) → r ≡ No n → found (Refused n) a ≡ analyzed P
   unfolding analyzed image
   program-refused {n} a e = ap image (rw e at ends)
@@ -152,7 +160,18 @@ imaged-no s n e = rw e
 pub reads-tables : (s t p : List ℕ) {r : Readout} → ReadsScript s t r → length t ≡ length (take 47872 p) → 47872 ≤ length p → ReadsScript s (frontOf (t ++ drop 47872 p)) r
 reads-tables s t p {r} g e h = subst (λ x. ReadsScript s x r) (sym (tables-back t (drop 47872 p) (e ∙ length-take-le 47872 p h))) g
 
+-- the number of a refusal is a question's
+number-of : (s : List ℕ) (n : ℕ) → parseProgram limits s ≡ refused n → n ≤ 20
+number-of s n e = go (leb (length s) (limits .script)) refl
+  where
+    go : (b : 𝔹) → leb (length s) (limits .script) ≡ b → n ≤ 20
+    go true h = let q = program-comes limits s h .refuses n e in omega (arith, q .most)
+    go false h = let z : refused n ≡ refused 1 = sym e ∙ too-long-refused limits s h in let i : n ≡ 1 = cc in omega arith
+
 module _ (s t : List ℕ) {r : Readout} (g : ReadsScript s t r) where
+  pub reading-number : {n : ℕ} → r ≡ R.Refused n → n ≤ 20
+  reading-number {n} e = number-of s n (sym ((rw e at g) .is))
+
   pub reading-refused : {n : ℕ} (a : List ℕ) → r ≡ R.Refused n → found (Refused n) a ≡ imaged (analyze limits s)
   reading-refused {n} a e = sym (imaged-no s n (sym ((rw e at g) .is)))
 

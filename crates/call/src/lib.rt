@@ -69,7 +69,7 @@ fn analyze_program(
             publish_state(state, c, q.count, answer);
             Outcome::Answered
         }
-        Went::No(n) => Outcome::Refused(n),
+        Went::No(n) => Outcome::Refused(n as u8),
     }
 }
 
@@ -88,7 +88,7 @@ fn analyze_script(
             memory::clear(answer);
             analyze_program(script, answer, program, state, c)
         }
-        reader::Outcome::Refused(n) => Outcome::Refused(n),
+        reader::Outcome::Refused(n) => Outcome::Refused(n as u8),
     }
 }
 

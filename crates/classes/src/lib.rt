@@ -25,7 +25,7 @@ ghost use Rattle.classes.specs.Turning.{classCur, Turns};
 pub enum Turned {
     Again(Cur),
     Ends(Cur),
-    Refused(u8),
+    Refused(usize),
 }
 
 fn classed(c: Cur, k: Owner) -> Cur

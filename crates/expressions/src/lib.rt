@@ -27,20 +27,20 @@ ghost use Rattle.expressions.specs.Readers.{Agains, takenOf, ArgDid, Arg
 enum ArgTurn {
     Again(Cur),
     Ends(Cur),
-    Refused(u8),
+    Refused(usize),
 }
 
 // How many arguments stand behind those that wait.
 enum Args {
     Done(Cur, usize),
-    Refused(u8),
+    Refused(usize),
 }
 
 // After one thing behind an operand.
 enum Suffixed {
     Again(Cur, Opnd),
     Ends,
-    Refused(u8),
+    Refused(usize),
 }
 
 // ---- steps between the readers

@@ -37,7 +37,7 @@ pub fn first_kinds(
     tags: usize,
     payloads: usize,
     k: ClassId,
-) -> u8
+) -> usize
     requires { ⌜ Ready (now m) c ⌝ }
     requires { ⌜ Index (now m) c (now x) ⌝ }
     requires { ⌜ Inside (now m) c ⌝ }
@@ -81,7 +81,7 @@ pub fn all_first_kinds(
     u: &mut [usize],
     tags: usize,
     payloads: usize,
-) -> u8
+) -> usize
     requires { ⌜ Ready (now m) c ⌝ }
     requires { ⌜ Index (now m) c (now x) ⌝ }
     requires { ⌜ Inside (now m) c ⌝ }

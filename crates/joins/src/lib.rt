@@ -30,13 +30,13 @@ pub enum Var {
 // An operand and the counts after it, or the number of a refusal.
 pub enum Phied {
     Of(Opnd, Counts),
-    Refused(u8),
+    Refused(usize),
 }
 
 // How many bindings there are, and the counts, or the number of a refusal.
 pub enum Joined {
     On(usize, Counts),
-    Refused(u8),
+    Refused(usize),
 }
 
 // ---- stored operands

@@ -27,7 +27,7 @@ pub enum Kind {
 // A kind, or the number of a refusal.
 pub enum Joined {
     Of(Kind),
-    Refused(u8),
+    Refused(usize),
 }
 
 // The operations on numbers.

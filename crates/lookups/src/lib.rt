@@ -38,7 +38,7 @@ pub enum FoundIvar {
 
 pub enum Declared {
     Done,
-    Refused(u8),
+    Refused(usize),
 }
 
 // ---- tests of a row

@@ -29,7 +29,7 @@ const STACK: usize = 32768;
 // A function and the cursor behind its name, or the number of a refusal.
 pub enum Funned {
     Done(Cur, FunId),
-    Refused(u8),
+    Refused(usize),
 }
 
 // ---- a cursor with some parts changed

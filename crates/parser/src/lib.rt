@@ -56,24 +56,24 @@ pub struct Cur {
 // An operand and the cursor behind it, or the number of a refusal.
 pub enum Parsed {
     Done(Cur, Opnd),
-    Refused(u8),
+    Refused(usize),
 }
 
 pub enum Moved {
     On(Cur),
-    Refused(u8),
+    Refused(usize),
 }
 
 pub enum Ident {
     Found(Cur, Name),
-    Refused(u8),
+    Refused(usize),
 }
 
 // Whether the next word is the one asked for; if so it is taken.
 pub enum Matched {
     Yes(Cur),
     Not,
-    Refused(u8),
+    Refused(usize),
 }
 
 // What stands behind an operand.

@@ -149,22 +149,22 @@ pub fn same_opnd(v: Opnd, w: Opnd) -> bool
 // The number of what was added and the counts after it, or the number of a refusal.
 pub enum NewInsn {
     Added(InsnId, Counts),
-    Refused(u8),
+    Refused(usize),
 }
 
 pub enum NewBlock {
     Added(BlockId, Counts),
-    Refused(u8),
+    Refused(usize),
 }
 
 pub enum NewFun {
     Added(FunId, BlockId, Counts),
-    Refused(u8),
+    Refused(usize),
 }
 
 pub enum NewClass {
     Added(ClassId, Counts),
-    Refused(u8),
+    Refused(usize),
 }
 
 // ---- stored forms
@@ -489,7 +489,7 @@ fn put_insn(m: &mut [usize], i: InsnId, x: Row)
 // ---- instructions added
 
 // Questions 10 and 11 for an instruction of block b with k listed operands: 0, or the number of the first that is answered no.
-fn may_push(m: &[usize], c: Counts, l: Limits, b: BlockId, k: usize) -> u8
+fn may_push(m: &[usize], c: Counts, l: Limits, b: BlockId, k: usize) -> usize
     requires { ⌜ Ready (now m) c ⌝ }
     requires { ⌜ b .0 < c .blocks ⌝ }
     ensures { λ r. ⌜ Asks l (now (m .entry)) c (b .0) k r ⌝ }

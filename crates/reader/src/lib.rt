@@ -26,7 +26,7 @@ ghost use Rattle.reader.specs.Outcomes.{startCur, ReadsWithin, ReadsScri
 // The tables' counts, or the number of a refusal.
 pub enum Outcome {
     Finished(Counts),
-    Refused(u8),
+    Refused(usize),
 }
 
 fn start(counts: Counts) -> Cur

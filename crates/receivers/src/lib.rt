@@ -8,7 +8,7 @@ ghost use Rattle.receivers.specs.Receivers.{Receives};
 // The set of a receiver's classes, or 14.
 pub enum Receiver {
     Classes(u64),
-    Refused(u8),
+    Refused(usize),
 }
 
 pub fn classes_of(m: &[usize], z: Sizes, o: Opnd) -> Receiver

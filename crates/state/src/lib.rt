@@ -40,7 +40,7 @@ pub struct Regs {
 // What a change that can fail gives: the registers after it, or a refusal's number.
 pub enum Went {
     On(Regs),
-    No(u8),
+    No(usize),
 }
 
 // The next instruction of a walk.

@@ -32,7 +32,7 @@ ghost use Rattle.statements.specs.Shape.{blockCur, varsCur, Opens, AddsE
 // A block and the cursor behind its opening, or the number of a refusal.
 pub enum Opened {
     On(Cur, BlockId),
-    Refused(u8),
+    Refused(usize),
 }
 
 // What an `if` keeps while its arms are read: the condition, the blocks of the then arm and of the join, and of the then arm its
@@ -49,7 +49,7 @@ pub struct Branch {
 pub enum Stops {
     Here,
     Not(Word),
-    Refused(u8),
+    Refused(usize),
 }
 
 // ---- a cursor with one part changed

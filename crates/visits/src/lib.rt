@@ -27,7 +27,7 @@ ghost use Rattle.visits.specs.Visits.{nothingOf, kindOf, Rules, ruleOf, 
 // What a rule gives: the registers after it and the instruction's kind, or a refusal's number.
 pub enum Ruled {
     On(Regs, Kind),
-    No(u8),
+    No(usize),
 }
 
 fn nothing(w: Went) -> Ruled

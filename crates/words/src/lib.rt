@@ -46,7 +46,7 @@ pub struct Word {
 // A word, or the number of a refusal.
 pub enum Lexed {
     Found(Word),
-    Refused(u8),
+    Refused(usize),
 }
 
 // A literal's value, where i64 holds it.

@@ -68,7 +68,7 @@ fn put_end(out: &mut [u8], at: usize, start: usize) -> usize
     batches::put(out, place, 10)
 }
 
-fn put_refused(out: &mut [u8], at: usize, number: u8, start: usize) -> usize
+fn put_refused(out: &mut [u8], at: usize, number: usize, start: usize) -> usize
     requires { ⌜ at ≤ length (now out) ⌝ }
     ensures { λ r. ⌜ r ≤ length (now (out .entry)) ⌝ }
 {
