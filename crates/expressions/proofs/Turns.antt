@@ -14,10 +14,13 @@ use Rattle.rules.specs.Actions.{answered, Turn, again, ends, loop, if_then_else
 use Rattle.rules.specs.Program as P
 use Rattle.rules.specs.Words.{is}
 use Rattle.rules.specs.Reading.{Parser, Reads, pass, expect, expectIdent, matchToken, turns, push, Operator, operator, onWith, parseArg, parseArgs, parseCall, parseMember, parseRight, parseSuffix, send}
-use Rattle.words.specs.Lexed.{textOf, wordIn}
+use Rattle.words.specs.Lexed.{textOf, wordIn, Glances}
 use Rattle.words.specs.declared.Lexed.{Lexed}
 use Rattle.words.specs.declared.Lexed.the-variants as Seen
+use Rattle.words.specs.declared.Glimpse.{Glimpse}
+use Rattle.words.specs.declared.Glimpse.the-variants as Glimpse
 use Rattle.words.specs.declared.Word.{Word}
+use Rattle.words.proofs.Lexes.{signed, unsigned, unseen}
 use Rattle.program.specs.Rows.{opndsIn, opndOf, opIn, given, nameIn}
 use Rattle.program.specs.Tab.{tab}
 use Rattle.program.specs.declared.Name.{Name}
@@ -39,7 +42,7 @@ use Rattle.parser.specs.declared.Matched.the-variants as Matched
 use Rattle.parser.specs.declared.Suffix.{Suffix}
 use Rattle.parser.specs.declared.Suffix.the-variants as Suffix
 use Rattle.parser.proofs.Laws.{step-none, step-less, step-trans, Went, got, gave, refuses, arrives, ends-as, added-did}
-use Rattle.parser.proofs.Wording.{is-yes, is-no, spelt-open, spelt-close, spelt-comma, spelt-plus, spelt-minus, spelt-times, spelt-less, spelt-dot, word-read, peek-found, peek-none}
+use Rattle.parser.proofs.Wording.{is-yes, is-no, spelt-open, spelt-close, spelt-comma, spelt-plus, spelt-minus, spelt-times, spelt-less, spelt-dot, word-read, peek-found, peek-none, glanced}
 use Rattle.expressions.specs.Readers.{againOf, Agains, takenOf, ArgDid, argsOf, ArgsDid, suffixedOf, SuffixDid}
 use Rattle.expressions.specs.declared.ArgTurn.{ArgTurn}
 use Rattle.expressions.specs.declared.ArgTurn.the-variants as ArgTurn
@@ -49,7 +52,7 @@ use Rattle.expressions.specs.declared.Suffixed.{Suffixed}
 use Rattle.expressions.specs.declared.Suffixed.the-variants as Suffixed
 use Rattle.expressions.proofs.Loops.{Loops, loops-start, loops-on, loops-end, loops-stop}
 use Rattle.expressions.proofs.Stack.{height-free, waiting-same, stacks-args, stacks-at, stacks-more, stacks-state, stacks-in, stacks-step, step-height, step-from}
-use Rattle.expressions.proofs.Ways.{ident-went, match-went, match-not, match-gave, expect-went, expect-gave, operator-passed, call-passed, member-passed}
+use Rattle.expressions.proofs.Ways.{ident-went, match-went, match-not, match-gave, expect-went, expect-gave, suffix-low, operator-passed, call-passed, member-passed}
 
 -- the arguments of a call, taken off the stack
 pub taken-here : {f : Reads (List P.Opnd)} {s m w m1 w1 : List ℕ} {c c1 : Cur} {t : Args} {n : ℕ} → ArgsDid f s m w c m1 w1 t → t ≡ Args.Done c1 n → In s m1 w1 c1
@@ -405,19 +408,37 @@ module _ (L : P.Limits) (s : List ℕ) (E : ℕ → Reads P.Opnd) where
           (sym (by 40 "(" spelt-open)) (sym (by 46 "." spelt-dot))
           ∙ rw (← peek-found see m w e))
 
-  module _ {m w : List ℕ} {c : Cur} {r : Lexed} (prec : ℕ) (v : Opnd) (see : Sees s c r) where
-    pub suffix-none : {m' w' : List ℕ} {n : ℕ} → r ≡ Seen.Refused n → SuffixDid (parseSuffix L s E prec (opndOf v)) v s m w c m' w' (Suffixed.Refused n)
+  module _ {m w : List ℕ} {c : Cur} {g : Glimpse} (prec : ℕ) (v : Opnd) (l : Glances s (c .at) g) where
+    pub suffix-none : {m' w' : List ℕ} {n : ℕ} → g ≡ Glimpse.Refused n → SuffixDid (parseSuffix L s E prec (opndOf v)) v s m w c m' w' (Suffixed.Refused n)
     unfolding parseSuffix
     suffix-none e =
-        record { did = refuses (rw (← peek-none see m w e)); further = λ c' v' f. let z : _≡_ {A = ℕ} 0 1 = cc in absurd (omega arith) }
+        record {
+          did = refuses (rw (← peek-none (glanced c l) m w (unseen (l .word) (sym e ∙ l .is))));
+          further = λ c' v' f. let z : _≡_ {A = ℕ} 0 1 = cc in absurd (omega arith);
+        }
 
-    module _ {x : Word} {q : Suffix} (e : r ≡ Seen.Found x) (h : In s m w c) (t : q ≡ suffixOf (x .kind) prec) where
+    ends-here : In s m w c → onSuffix prec (opndOf v) Suffix.Ends (parserOf s m w c) ≡ parseSuffix L s E prec (opndOf v) (parserOf s m w c)
+        → SuffixDid (parseSuffix L s E prec (opndOf v)) v s m w c m w Suffixed.Ends
+    ends-here h e =
+        record {
+          did = arrives (step-none c w) (omega arith) h e;
+          further = λ c' v' f. let z : _≡_ {A = ℕ} 0 1 = cc in absurd (omega arith);
+        }
+
+    pub suffix-other : g ≡ Glimpse.Other → In s m w c → SuffixDid (parseSuffix L s E prec (opndOf v)) v s m w c m w Suffixed.Ends
+    suffix-other e h =
+        let y = unsigned (l .word) (sym e ∙ l .is) in
+        ends-here h (rw (suffix-low (y .word .kind) prec (y .low)) at (suffix-is prec (opndOf v) (glanced c l) (y .found) m w))
+
+    module _ {k n : ℕ} {q : Suffix} (e : g ≡ Glimpse.Sign k n) (h : In s m w c) (t : q ≡ suffixOf k prec) where
+      sign-is : onSuffix prec (opndOf v) q (parserOf s m w c) ≡ parseSuffix L s E prec (opndOf v) (parserOf s m w c)
+      sign-is =
+          let y = signed (l .word) (sym e ∙ l .is) in
+          ap (λ (z : Suffix). onSuffix prec (opndOf v) z (parserOf s m w c)) (t ∙ ap (λ j. suffixOf j prec) (sym (y .kind)))
+          ∙ suffix-is prec (opndOf v) (glanced c l) (y .found) m w
+
       pub suffix-ends : q ≡ Suffix.Ends → SuffixDid (parseSuffix L s E prec (opndOf v)) v s m w c m w Suffixed.Ends
-      suffix-ends f =
-          record {
-            did = arrives (step-none c w) (omega arith) h (rw (sym t ∙ f) at (suffix-is prec (opndOf v) see e m w));
-            further = λ c' v' g. let z : _≡_ {A = ℕ} 0 1 = cc in absurd (omega arith);
-          }
+      suffix-ends f = ends-here h (rw f at sign-is)
 
       on-ok : {m1 w1 : List ℕ} {c' : Cur} (f : Reads P.Opnd) (p : Parsed) → Went (pass s) 1 s m w c m w tt c' → Did f 1 s m w c' m1 w1 (parsedOf p)
           → onWith L s E f (parserOf s m w c) ≡ parseSuffix L s E prec (opndOf v) (parserOf s m w c)
@@ -433,23 +454,23 @@ module _ (L : P.Limits) (s : List ℕ) (E : ℕ → Reads P.Opnd) where
             further = λ c' v' k. let z : _≡_ {A = ℕ} 0 1 = cc in absurd (omega arith);
           }
 
-      module _ {c' : Cur} (j : c' ≡ moveCur (x .next) c) where
-        module _ {m1 w1 : List ℕ} {p : Parsed} {g : Suffixed} (b : Agains p g) where
+      module _ {c' : Cur} (j : c' ≡ moveCur n c) where
+        module _ {m1 w1 : List ℕ} {p : Parsed} {g' : Suffixed} (b : Agains p g') where
           pub suffix-operator : {o : Arith} {right : ℕ} → q ≡ Suffix.Operator o right → Did (parseRight L s E (operator o 0 right) (opndOf v)) 1 s m w c' m1 w1 (parsedOf p)
-              → SuffixDid (parseSuffix L s E prec (opndOf v)) v s m w c m1 w1 g
-          suffix-operator k d =
-              let a = operator-passed prec h see e t k j in
-              rw (b .is) (on-ok _ p a d (rw (sym t ∙ k) at (suffix-is prec (opndOf v) see e m w)))
+              → SuffixDid (parseSuffix L s E prec (opndOf v)) v s m w c m1 w1 g'
+          suffix-operator f d =
+              let a = operator-passed prec h l e t f j in
+              rw (b .is) (on-ok _ p a d (rw f at sign-is))
 
-          pub suffix-call : q ≡ Suffix.Call → Did (parseCall L s E (opndOf v)) 1 s m w c' m1 w1 (parsedOf p) → SuffixDid (parseSuffix L s E prec (opndOf v)) v s m w c m1 w1 g
-          suffix-call k d =
-              let a = call-passed prec h see e t k j in
-              rw (b .is) (on-ok _ p a d (rw (sym t ∙ k) at (suffix-is prec (opndOf v) see e m w)))
+          pub suffix-call : q ≡ Suffix.Call → Did (parseCall L s E (opndOf v)) 1 s m w c' m1 w1 (parsedOf p) → SuffixDid (parseSuffix L s E prec (opndOf v)) v s m w c m1 w1 g'
+          suffix-call f d =
+              let a = call-passed prec h l e t f j in
+              rw (b .is) (on-ok _ p a d (rw f at sign-is))
 
-          pub suffix-member : q ≡ Suffix.Member → Did (parseMember L s E (opndOf v)) 1 s m w c' m1 w1 (parsedOf p) → SuffixDid (parseSuffix L s E prec (opndOf v)) v s m w c m1 w1 g
-          suffix-member k d =
-              let a = member-passed prec h see e t k j in
-              rw (b .is) (on-ok _ p a d (rw (sym t ∙ k) at (suffix-is prec (opndOf v) see e m w)))
+          pub suffix-member : q ≡ Suffix.Member → Did (parseMember L s E (opndOf v)) 1 s m w c' m1 w1 (parsedOf p) → SuffixDid (parseSuffix L s E prec (opndOf v)) v s m w c m1 w1 g'
+          suffix-member f d =
+              let a = member-passed prec h l e t f j in
+              rw (b .is) (on-ok _ p a d (rw f at sign-is))
 
   -- ---- all that follows an operand
 

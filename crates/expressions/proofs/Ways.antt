@@ -1,23 +1,27 @@
 -- The ways through each reader: what the calls on the way gave, and what the rules then say. No code is named here. Assumes nothing.
 use mathlib.Core.Bool.{true, false}
-use mathlib.Core.Path.{_≡_, refl, ap, _∙_}
+use mathlib.Core.Path.{_≡_, refl, sym, ap, _∙_}
 use mathlib.Core.List.{List}
 use Prim.Native.Nat.{ℕ, suc, _+_, _-_, _*_, _≤_, _<_}
 use Prim.Native.String.{String}
 use native.Mathlib.Omega.{arith}
 use lib.IntN.{pos}
 use lib.ListN.{length}
+use borrow.Author.Tests.{ne-eqb}
 use Rattle.kinds.specs.declared.Arith.{Arith}
 use Rattle.kinds.specs.declared.Kind.the-variants.{Num}
 use Rattle.rules.specs.Actions.{answered, refused, loop}
 use Rattle.rules.specs.Program as P
 use Rattle.rules.specs.Words.{is, decimal}
 use Rattle.rules.specs.Reading.{Reads, pass, expect, expectIdent, matchToken, turns, getSelf, Operator, parseGroup, parseIvar, parseName, parsePrimary, parseMember, parseSuffix, parseExpr}
-use Rattle.words.specs.Lexed.{valueOf, textOf}
+use Rattle.words.specs.Lexed.{valueOf, textOf, Glances}
 use Rattle.words.specs.Lexed as Lexed
 use Rattle.words.specs.declared.Lexed.{Lexed}
 use Rattle.words.specs.declared.Lexed.the-variants as Seen
+use Rattle.words.specs.declared.Glimpse.{Glimpse}
+use Rattle.words.specs.declared.Glimpse.the-variants as Glimpse
 use Rattle.words.specs.declared.Word.{Word}
+use Rattle.words.proofs.Lexes.{signed}
 use Rattle.program.specs.Rows.{opndOf, nameIn}
 use Rattle.program.specs.declared.Name.{Name}
 use Rattle.program.specs.declared.Opnd.{Opnd}
@@ -36,7 +40,7 @@ use Rattle.parser.specs.declared.Matched.the-variants as Matched
 use Rattle.parser.specs.declared.Suffix.{Suffix}
 use Rattle.parser.specs.declared.Suffix.the-variants as Suffix
 use Rattle.parser.proofs.Laws.{step-none, step-trans, Went, got, gave, refuses, arrives, ends-as, in-moved, step-moved, moved-did, added-did}
-use Rattle.parser.proofs.Wording.{is-yes, is-no, literal-yes, literal-no, spelt-open, spelt-close, spelt-equals, spelt-at, word-read, peek-found, peek-none, pass-found}
+use Rattle.parser.proofs.Wording.{is-yes, is-no, literal-yes, literal-no, spelt-open, spelt-close, spelt-equals, spelt-at, word-read, peek-found, peek-none, pass-found, glanced}
 
 -- ---- steps over words
 
@@ -89,23 +93,36 @@ module _ {s m w : List ℕ} {c : Cur} (h : In s m w c) where
 pub low-after : {A : Type 0} {f : Reads A} {s m w m' w' : List ℕ} {c c' : Cur} {a : A} → In s m w c → Went f 1 s m w c m' w' a c' → 2 * c' .args < c' .at
 low-after h g = omega (arith, g .step .args, g .step .on, h .ready .args)
 
--- what stands behind an operand is a word
-suffix-end : (prec : ℕ) → suffixOf 0 prec ≡ Suffix.Ends
+-- what stands behind an operand begins with a sign
+pub suffix-low : (k prec : ℕ) → k < 10 → suffixOf k prec ≡ Suffix.Ends
 unfolding suffixOf
-suffix-end prec = refl
+suffix-low k prec h =
+    rw (
+      ne-eqb k 60 (λ z. omega arith),
+      ne-eqb k 43 (λ z. omega arith),
+      ne-eqb k 45 (λ z. omega arith),
+      ne-eqb k 42 (λ z. omega arith),
+      ne-eqb k 40 (λ z. omega arith),
+      ne-eqb k 46 (λ z. omega arith),
+    )
 
 suffix-some : (k prec : ℕ) {q : Suffix} → q ≡ suffixOf k prec → (q ≡ Suffix.Ends → ⊥) → k ≡ 0 → ⊥
-suffix-some k prec t f z = f (t ∙ (ap (λ j. suffixOf j prec) z ∙ suffix-end prec))
+suffix-some k prec t f z = f (t ∙ suffix-low k prec (omega arith))
 
-module _ (prec : ℕ) {s m w : List ℕ} {c c' : Cur} {r : Lexed} {x : Word} {q : Suffix} (h : In s m w c) (see : Sees s c r) (e : r ≡ Seen.Found x) (t : q ≡ suffixOf (x .kind) prec) where
-  pub operator-passed : {o : Arith} {right : ℕ} → q ≡ Suffix.Operator o right → c' ≡ moveCur (x .next) c → Went (pass s) 1 s m w c m w tt c'
-  operator-passed k j = passed h see e j (suffix-some (x .kind) prec t (λ z. let y : _≡_ {A = ℕ} 0 1 = cc in omega arith))
+module _ (prec : ℕ) {s m w : List ℕ} {c c' : Cur} {g : Glimpse} {i n : ℕ} {q : Suffix} (h : In s m w c) (l : Glances s (c .at) g) (e : g ≡ Glimpse.Sign i n) (t : q ≡ suffixOf i prec) where
+  sign-passed : (q ≡ Suffix.Ends → ⊥) → c' ≡ moveCur n c → Went (pass s) 1 s m w c m w tt c'
+  sign-passed f j =
+      let y = signed (l .word) (sym e ∙ l .is) in
+      passed h (glanced c l) (y .found) (j ∙ ap (λ a. moveCur a c) (sym (y .next))) (λ z. suffix-some i prec t f (sym (y .kind) ∙ z))
 
-  pub call-passed : q ≡ Suffix.Call → c' ≡ moveCur (x .next) c → Went (pass s) 1 s m w c m w tt c'
-  call-passed k j = passed h see e j (suffix-some (x .kind) prec t (λ z. let y : _≡_ {A = ℕ} 0 1 = cc in omega arith))
+  pub operator-passed : {o : Arith} {right : ℕ} → q ≡ Suffix.Operator o right → c' ≡ moveCur n c → Went (pass s) 1 s m w c m w tt c'
+  operator-passed k j = sign-passed (λ z. let y : _≡_ {A = ℕ} 0 1 = cc in omega arith) j
 
-  pub member-passed : q ≡ Suffix.Member → c' ≡ moveCur (x .next) c → Went (pass s) 1 s m w c m w tt c'
-  member-passed k j = passed h see e j (suffix-some (x .kind) prec t (λ z. let y : _≡_ {A = ℕ} 0 1 = cc in omega arith))
+  pub call-passed : q ≡ Suffix.Call → c' ≡ moveCur n c → Went (pass s) 1 s m w c m w tt c'
+  call-passed k j = sign-passed (λ z. let y : _≡_ {A = ℕ} 0 1 = cc in omega arith) j
+
+  pub member-passed : q ≡ Suffix.Member → c' ≡ moveCur n c → Went (pass s) 1 s m w c m w tt c'
+  member-passed k j = sign-passed (λ z. let y : _≡_ {A = ℕ} 0 1 = cc in omega arith) j
 
 -- a word moves the place alone
 ident-vars : {s : List ℕ} {c c1 : Cur} {i : Ident} {n : Name} → Idents s c i → i ≡ Ident.Found c1 n → c1 .vars ≡ c .vars

@@ -10,6 +10,7 @@ use program::Given;
 use program::Limits;
 use program::Op;
 use program::Opnd;
+use words::Glimpse;
 use words::Lexed;
 use words::Word;
 ghost use mathlib.Core.Path.{_≡_};
@@ -279,7 +280,7 @@ fn parse_right(
     }
 }
 
-// One thing behind the operand v.
+// One thing behind the operand v: it begins with a sign.
 fn parse_suffix(
     s: &[u8],
     m: &mut [usize],
@@ -294,22 +295,23 @@ fn parse_suffix(
     requires { ⌜ Small l ⌝ }
     ensures { λ r. ⌜ SuffixDid (parseSuffix (limitsOf l) (now (s .entry)) (parseExpr (limitsOf l) (now (s .entry)) depth) prec (opndOf v)) v (now (s .entry)) (now (m .entry)) (now (w .entry)) c (now (m .exit)) (now (w .exit)) r ⌝ }
 {
-    match parser::peek(s, c) {
-        Lexed::Refused(e) => Suffixed::Refused(e),
-        Lexed::Found(x) => match parser::suffix_of(x.kind, prec) {
+    match words::glance(s, c.at) {
+        Glimpse::Refused(e) => Suffixed::Refused(e),
+        Glimpse::Other => Suffixed::Ends,
+        Glimpse::Sign(k, next) => match parser::suffix_of(k, prec) {
             Suffix::Operator(o, right) => again(parse_right(
                 s,
                 m,
                 w,
-                parser::move_to(c, x.next),
+                parser::move_to(c, next),
                 l,
                 v,
                 o,
                 right,
                 depth,
             )),
-            Suffix::Call => again(parse_call(s, m, w, parser::move_to(c, x.next), l, v, depth)),
-            Suffix::Member => again(parse_member(s, m, w, parser::move_to(c, x.next), l, v, depth)),
+            Suffix::Call => again(parse_call(s, m, w, parser::move_to(c, next), l, v, depth)),
+            Suffix::Member => again(parse_member(s, m, w, parser::move_to(c, next), l, v, depth)),
             Suffix::Ends => Suffixed::Ends,
         },
     }

@@ -1,5 +1,5 @@
 -- Words: what the tests of kinds say in the rules' words, and the steps over a word. Assumes nothing.
-use mathlib.Core.Bool.{true, false}
+use mathlib.Core.Bool.{Bool, true, false}
 use mathlib.Core.Path.{_≡_, refl, sym, ap, _∙_}
 use mathlib.Core.List.{List}
 use Prim.Native.Nat.{ℕ, _+_, _≤_, _<_}
@@ -8,20 +8,26 @@ use native.Mathlib.Omega.{arith}
 use lib.Dec.{eqb}
 use lib.ListN.{length}
 use borrow.Author.Tests.{eq-eqb, ne-eqb}
-use Rattle.rules.specs.Actions.{answered, refused}
-use Rattle.rules.specs.Words.{is, isIdent, isLiteral}
-use Rattle.rules.specs.Reading.{peek, pass, next, expect, expectIdent, matchToken}
-use Rattle.words.specs.Lexed.{textOf, wordIn, Reads}
+use Rattle.rules.specs.Actions.{Answer, answered, refused}
+use Rattle.rules.specs.Words.{is, isIdent, isLiteral, wordAt}
+use Rattle.rules.specs.Words as W
+use Rattle.rules.specs.Reading.{Parser, peek, pass, next, expect, expectIdent, matchToken}
+use Rattle.words.specs.Lexed.{textOf, wordIn, Reads, Glances}
 use Rattle.words.specs.declared.Lexed.{Lexed}
 use Rattle.words.specs.declared.Lexed.the-variants.{Found, Refused}
+use Rattle.words.specs.declared.Glimpse.{Glimpse}
+use Rattle.words.specs.declared.Glimpse.the-variants as Glimpse
 use Rattle.words.specs.declared.Word.{Word}
+use Rattle.words.proofs.Names.{by-test}
+use Rattle.words.proofs.Lexes.{signed, unsigned, unseen}
 use Rattle.words.proofs.Texts.{ident-kind, literal-kind, fixed-kind}
 use Rattle.parser.specs.Cursor.{parserOf, moveCur}
-use Rattle.parser.specs.Promises.{Spelt, Sees, Idents, Expects, Matches}
+use Rattle.parser.specs.Promises.{outcome, matchedOf, Spelt, Sees, Idents, Expects, Matches}
 use Rattle.parser.specs.declared.Cur.{Cur}
 use Rattle.parser.specs.declared.Moved.the-variants as Moved
 use Rattle.parser.specs.declared.Ident.{Ident}
 use Rattle.parser.specs.declared.Ident.the-variants as Ident
+use Rattle.parser.specs.declared.Matched.{Matched}
 use Rattle.parser.specs.declared.Matched.the-variants as Matched
 use Rattle.program.specs.declared.Name.{Name}
 
@@ -123,25 +129,6 @@ module _ {s : List ℕ} {c : Cur} {r : Lexed} (l : Sees s c r) where
       let a : c' .at ≡ x .next = ap (λ (d : Cur). d .at) e in
       (e ∙ ap (λ n. moveCur n c) (sym a), (omega (arith, h .on z, a), λ i. omega (arith, h .inside i, a)))
 
-  pub expect-yes : {x : Word} {k : ℕ} {c' : Cur} → 0 < k → r ≡ Found x → x .kind ≡ k → c' ≡ moveCur (x .next) c → Expects s k c (Moved.On c')
-  unfolding expect
-  expect-yes {x} {k} {c'} p f q e =
-      record {
-        moves = λ t sp.
-            record {
-              is = λ m w. rw (e, ← next-found l m w f, is-yes x (word-read l f) t sp q);
-              ok = onward f (λ z. omega arith) e;
-            };
-      }
-
-  pub expect-no : {x : Word} {k : ℕ} → r ≡ Found x → (x .kind ≡ k → ⊥) → Expects s k c (Moved.Refused 5)
-  unfolding expect
-  expect-no {x} f q = record { moves = λ t sp. record { is = λ m w. rw (← next-found l m w f, is-no x (word-read l f) t sp q); ok = tt } }
-
-  pub expect-none : {k e : ℕ} → r ≡ Refused e → Expects s k c (Moved.Refused e)
-  unfolding expect
-  expect-none f = record { moves = λ t sp. record { is = λ m w. rw (← next-none l m w f); ok = tt } }
-
   pub ident-found : {x : Word} {n : Name} {c' : Cur} → r ≡ Found x → x .kind ≡ 1 → c' ≡ moveCur (x .next) c → n ≡ record { start = x .start; len = x .len }
       → Idents s c (Ident.Found c' n)
   unfolding expectIdent
@@ -198,3 +185,51 @@ module _ {s : List ℕ} {c : Cur} {r : Lexed} (l : Sees s c r) where
         moves = λ t sp. record { is = λ m w. rw (← peek-none l m w f); ok = tt };
         further = λ d g. let z : _≡_ {A = ℕ} 0 1 = cc in absurd (omega arith);
       }
+
+-- the same after a glance
+pub glanced : {s : List ℕ} (c : Cur) {g : Glimpse} (l : Glances s (c .at) g) → Sees s c (l .word)
+glanced c l = record { lexes = l .lexes }
+
+module _ {s : List ℕ} {c : Cur} {g : Glimpse} (l : Glances s (c .at) g) where
+  pub sign-yes : {b n k : ℕ} {c' : Cur} → 10 ≤ k → g ≡ Glimpse.Sign b n → b ≡ k → c' ≡ moveCur n c → Matches s k c (Matched.Yes c')
+  sign-yes p f q e =
+      let y = signed (l .word) (sym f ∙ l .is) in
+      match-yes (glanced c l) (omega arith) (y .found) (y .kind ∙ q) (e ∙ ap (λ i. moveCur i c) (sym (y .next)))
+
+  pub sign-not : {b n k : ℕ} → g ≡ Glimpse.Sign b n → (b ≡ k → ⊥) → Matches s k c Matched.Not
+  sign-not f q = let y = signed (l .word) (sym f ∙ l .is) in match-not (glanced c l) (y .found) (λ z. q (sym (y .kind) ∙ z))
+
+  pub sign-other : {k : ℕ} → 10 ≤ k → g ≡ Glimpse.Other → Matches s k c Matched.Not
+  sign-other p f = let y = unsigned (l .word) (sym f ∙ l .is) in match-not (glanced c l) (y .found) (λ z. omega (arith, y .low))
+
+  pub sign-none : {k e : ℕ} → g ≡ Glimpse.Refused e → Matches s k c (Matched.Refused e)
+  sign-none f = match-none (glanced c l) (unseen (l .word) (sym f ∙ l .is))
+
+-- a word that is taken where it is the one asked for, and else refused
+abbrev insisted : Answer (Bool × Parser) → Answer (Unit {0} × Parser)
+insisted (answered (true, p)) = answered (tt, p)
+insisted (answered (false, p)) = refused 5
+insisted (refused n) = refused n
+
+insist : (s : List ℕ) (t : String) (p : Parser) (a : Answer W.Word) → wordAt s (p .at) ≡ a → insisted (matchToken s t p) ≡ expect s t p
+unfolding matchToken expect next pass peek
+insist s t p (answered w) e = by-test (λ _. insisted (matchToken s t p) ≡ expect s t p) (is w t) (λ f. rw (e, f, e, f)) (λ f. rw (e, f, e, f))
+insist s t p (refused n) e = rw e
+
+module _ {s : List ℕ} {k : ℕ} {c : Cur} {r : Matched} (h : Matches s k c r) where
+  insists : {q : Matched} (t : String) → Spelt k t → r ≡ q → (m w : List ℕ) → insisted (outcome s m w (matchedOf c q)) ≡ expect s t (parserOf s m w c)
+  insists t sp f m w = let v = rw f at (h .moves t sp) in ap insisted (v .is m w) ∙ insist s t (parserOf s m w c) (wordAt s (parserOf s m w c .at)) refl
+
+  pub expect-yes : {c' : Cur} → r ≡ Matched.Yes c' → Expects s k c (Moved.On c')
+  expect-yes {c'} f =
+      record {
+        moves = λ t sp.
+            let v = rw f at (h .moves t sp) in
+            record { is = insists t sp f; ok = (v .ok .0, (omega (arith, h .further c' f), v .ok .1 .1)) };
+      }
+
+  pub expect-not : r ≡ Matched.Not → Expects s k c (Moved.Refused 5)
+  expect-not f = record { moves = λ t sp. record { is = insists t sp f; ok = tt } }
+
+  pub expect-none : {e : ℕ} → r ≡ Matched.Refused e → Expects s k c (Moved.Refused e)
+  expect-none f = record { moves = λ t sp. record { is = insists t sp f; ok = tt } }

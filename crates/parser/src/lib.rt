@@ -13,6 +13,7 @@ use program::Owner;
 use sets::BlockId;
 use sets::FunId;
 use sets::InsnId;
+use words::Glimpse;
 use words::Lexed;
 use words::Word;
 ghost use mathlib.Core.Path.{_≡_};
@@ -117,23 +118,6 @@ pub fn peek(s: &[u8], c: Cur) -> Lexed
     words::read_word(s, c.at)
 }
 
-// The word of kind k is taken.
-pub fn expect(s: &[u8], c: Cur, k: u8) -> Moved
-    requires { ⌜ 0 < k ⌝ }
-    ensures { λ r. ⌜ Expects (now (s .entry)) k c r ⌝ }
-{
-    match peek(s, c) {
-        Lexed::Found(w) => {
-            if w.kind == k {
-                Moved::On(move_to(c, w.next))
-            } else {
-                Moved::Refused(5)
-            }
-        }
-        Lexed::Refused(e) => Moved::Refused(e),
-    }
-}
-
 // The name that the next word x is.
 pub fn ident_of(c: Cur, x: Word) -> Ident
     ensures { λ r. ⌜ ((s : List ℕ) → Sees s c (Found x) → Idents s c r) ⌝ }
@@ -160,7 +144,7 @@ pub fn expect_ident(s: &[u8], c: Cur) -> Ident
     }
 }
 
-pub fn match_token(s: &[u8], c: Cur, k: u8) -> Matched
+fn match_word(s: &[u8], c: Cur, k: u8) -> Matched
     requires { ⌜ 0 < k ⌝ }
     ensures { λ r. ⌜ Matches (now (s .entry)) k c r ⌝ }
 {
@@ -173,6 +157,47 @@ pub fn match_token(s: &[u8], c: Cur, k: u8) -> Matched
             }
         }
         Lexed::Refused(e) => Matched::Refused(e),
+    }
+}
+
+// The same of a sign, for which a glance is enough.
+fn match_sign(s: &[u8], c: Cur, k: u8) -> Matched
+    requires { ⌜ 10 ≤ k ⌝ }
+    ensures { λ r. ⌜ Matches (now (s .entry)) k c r ⌝ }
+{
+    match words::glance(s, c.at) {
+        Glimpse::Sign(b, next) => {
+            if b == k {
+                Matched::Yes(move_to(c, next))
+            } else {
+                Matched::Not
+            }
+        }
+        Glimpse::Other => Matched::Not,
+        Glimpse::Refused(e) => Matched::Refused(e),
+    }
+}
+
+pub fn match_token(s: &[u8], c: Cur, k: u8) -> Matched
+    requires { ⌜ 0 < k ⌝ }
+    ensures { λ r. ⌜ Matches (now (s .entry)) k c r ⌝ }
+{
+    if k < words::SIGNS {
+        match_word(s, c, k)
+    } else {
+        match_sign(s, c, k)
+    }
+}
+
+// The word of kind k is taken.
+pub fn expect(s: &[u8], c: Cur, k: u8) -> Moved
+    requires { ⌜ 0 < k ⌝ }
+    ensures { λ r. ⌜ Expects (now (s .entry)) k c r ⌝ }
+{
+    match match_token(s, c, k) {
+        Matched::Yes(c1) => Moved::On(c1),
+        Matched::Not => Moved::Refused(5),
+        Matched::Refused(e) => Moved::Refused(e),
     }
 }
 

@@ -12,15 +12,17 @@ use Rattle.rules.specs.Actions.{answered, refused}
 use Rattle.rules.specs.Words.{blank, letter, inWord, digit, sign, run, decimal, word, wordOf, wordAt, startsBy}
 use Rattle.rules.specs.Words as W
 use Rattle.words.specs.Names.{name}
-use Rattle.words.specs.Lexed.{kindIn, keptWords, fitting, Lexes}
+use Rattle.words.specs.Lexed.{kindIn, keptWords, fitting, Lexes, glimpseOf, Glances}
 use Rattle.words.specs.declared.Word.{Word}
 use Rattle.words.specs.declared.Lexed.{Lexed}
 use Rattle.words.specs.declared.Lexed.the-variants.{Found, Refused}
+use Rattle.words.specs.declared.Glimpse.{Glimpse}
+use Rattle.words.specs.declared.Glimpse.the-variants as Glimpse
 use Rattle.words.specs.declared.Number.{Number}
 use Rattle.words.specs.declared.Number.the-variants.{Of, Over}
 use Rattle.words.proofs.Names.{by-test, name-none}
 use Rattle.words.proofs.Runs.{run-yes}
-use Rattle.words.proofs.Texts.{starts-letter, starts-take, kind-letter, kind-digit, kind-sign, kind-end, value-other, value-digit}
+use Rattle.words.proofs.Texts.{starts-letter, starts-take, kind-letter, kind-digit, kind-sign, kind-end, kind-low, sign-high, value-other, value-digit}
 
 run-le : (f : ℕ → Bool) (l : List ℕ) → run f l ≤ length l
 run-le f [] = omega arith
@@ -93,6 +95,9 @@ module _ (s : List ℕ) (at start : ℕ) (e : start ≡ at + run blank (drop at 
               on = λ n. absurd (n refl);
             };
       }
+
+  pub glance-end : length s ≤ start → Glances s at Glimpse.Other
+  glance-end h = record { word = _; lexes = word-end h; is = refl }
 
   module _ (inside : start < length s) where
     begins : (f : ℕ → Bool) → startsBy f (drop start s) ≡ f (getD s start 0)
@@ -209,6 +214,58 @@ module _ (s : List ℕ) (at start : ℕ) (e : start ≡ at + run blank (drop at 
               );
           word = tt;
         }
+
+    -- the same of a glance
+    pub glance-letter : {r : Bool} → r ≡ letter (getD s start 0) → r ≡ true → Glances s at Glimpse.Other
+    glance-letter p q =
+        record { word = _; lexes = word-letter p q refl refl; is = rw (kind-low (name s start (start + run inWord (drop start s) - start))) }
+
+    pub glance-digit : {r r' : Bool} {next v : ℕ} {q : Number} → r ≡ letter (getD s start 0) → r ≡ false → r' ≡ digit (getD s start 0) → r' ≡ true
+        → next ≡ start + run digit (drop start s) → q ≡ fitting (decimal 0 (name s start (next - start))) → q ≡ Of v → Glances s at Glimpse.Other
+    glance-digit p q p' q' ends known of = record { word = _; lexes = word-digit p q p' q' ends known of; is = refl }
+
+    pub glance-over : {r r' : Bool} {next : ℕ} {q : Number} → r ≡ letter (getD s start 0) → r ≡ false → r' ≡ digit (getD s start 0) → r' ≡ true
+        → next ≡ start + run digit (drop start s) → q ≡ fitting (decimal 0 (name s start (next - start))) → q ≡ Over → Glances s at (Glimpse.Refused 4)
+    glance-over p q p' q' ends known of = record { word = _; lexes = word-over p q p' q' ends known of; is = refl }
+
+    pub glance-sign : {r r' r'' : Bool} → r ≡ letter (getD s start 0) → r ≡ false → r' ≡ digit (getD s start 0) → r' ≡ false
+        → r'' ≡ sign (getD s start 0) → r'' ≡ true → Glances s at (Glimpse.Sign (getD s start 0) (start + 1))
+    glance-sign p q p' q' p'' q'' =
+        record { word = _; lexes = word-sign p q p' q' p'' q''; is = rw (sign-high (getD s start 0) (sym p'' ∙ q'')) }
+
+    pub glance-none : {r r' r'' : Bool} → r ≡ letter (getD s start 0) → r ≡ false → r' ≡ digit (getD s start 0) → r' ≡ false
+        → r'' ≡ sign (getD s start 0) → r'' ≡ false → Glances s at (Glimpse.Refused 3)
+    glance-none p q p' q' p'' q'' = record { word = _; lexes = word-none p q p' q' p'' q''; is = refl }
+
+-- ---- what a glance told, of the word
+
+pub record Signed (r : Lexed) (k n : ℕ) : Type 0 where
+  pub word : Word
+  pub found : r ≡ Found word
+  pub kind : word .kind ≡ k
+  pub next : word .next ≡ n
+
+pub record Unsigned (r : Lexed) : Type 0 where
+  pub word : Word
+  pub found : r ≡ Found word
+  pub low : word .kind < 10
+
+pub signed : (r : Lexed) {k n : ℕ} → Glimpse.Sign k n ≡ glimpseOf r → Signed r k n
+signed (Found w) {k} {n} e =
+    by-test (λ t. Glimpse.Sign k n ≡ cond t Glimpse.Other (Glimpse.Sign (w .kind) (w .next)) → Signed (Found w) k n) (ltb (w .kind) 10)
+    (λ _ f. let z : _≡_ {A = ℕ} 0 1 = cc in absurd (omega arith)) (λ _ f. record { word = w; found = refl; kind = cc; next = cc }) e
+signed (Refused m) e = let z : _≡_ {A = ℕ} 0 1 = cc in absurd (omega arith)
+
+pub unsigned : (r : Lexed) → Glimpse.Other ≡ glimpseOf r → Unsigned r
+unsigned (Found w) e =
+    by-test (λ t. Glimpse.Other ≡ cond t Glimpse.Other (Glimpse.Sign (w .kind) (w .next)) → Unsigned (Found w)) (ltb (w .kind) 10)
+    (λ h f. record { word = w; found = refl; low = ltb-true (w .kind) 10 h }) (λ _ f. let z : _≡_ {A = ℕ} 0 1 = cc in absurd (omega arith)) e
+unsigned (Refused m) e = let z : _≡_ {A = ℕ} 0 1 = cc in absurd (omega arith)
+
+pub unseen : (r : Lexed) {n : ℕ} → Glimpse.Refused n ≡ glimpseOf r → r ≡ Refused n
+unseen (Found w) {n} e =
+    by-test (λ t. Glimpse.Refused n ≡ cond t Glimpse.Other (Glimpse.Sign (w .kind) (w .next)) → Found w ≡ Refused n) (ltb (w .kind) 10) (λ _ f. cc) (λ _ f. cc) e
+unseen (Refused m) e = cc
 
 -- a word moves on, and stays in the script
 pub forward : {s : List ℕ} {at : ℕ} {r : Lexed} {w : Word} → Lexes s at r → r ≡ Found w → at ≤ length s → (w .kind ≡ 0 → ⊥) → (at < w .next) × (w .next ≤ length s)

@@ -5,7 +5,7 @@ use mathlib.Core.List.{List, [], _∷_, _++_}
 use Prim.Native.Nat.{ℕ, zero, suc, _<_}
 use native.Mathlib.Nat.{le-of-suc-le-suc, not-suc-le-zero}
 use native.Mathlib.Omega.{arith}
-use lib.Dec.{leb, eqb}
+use lib.Dec.{ltb, leb, eqb}
 use lib.ListN.{length, getD, take}
 use borrow.Author.Tests.{eq-eqb, eqb-true, leb-true, lt-leb, not-true}
 use Rattle.rules.specs.Lists.{same, any, all}
@@ -43,13 +43,16 @@ kind-default f (x ∷ l) t d a h =
     cc)
     (λ e. kind-default f l t d (and-right (not (startsBy f (x .text))) (all (λ (y : Fixed). not (startsBy f (y .text))) l) a) h)
 
+-- what holds of the table's kinds and of d holds of every text's kind
+pub kind-all : (f : ℕ → Bool) (l : List Fixed) (t : List ℕ) (d : ℕ) → all (λ (x : Fixed). f (x .kind)) l ≡ true → f d ≡ true → f (kindIn l t d) ≡ true
+kind-all f [] t d a h = h
+kind-all f (x ∷ l) t d a h =
+    by-test (λ b. f (cond b (x .kind) (kindIn l t d)) ≡ true) (same t (x .text)) (λ e. and-left (f (x .kind)) (all (λ (y : Fixed). f (y .kind)) l) a)
+    (λ e. kind-all f l t d (and-right (f (x .kind)) (all (λ (y : Fixed). f (y .kind)) l) a) h)
+
 -- no text gets a kind that neither the table has nor d is
 pub kind-not : (l : List Fixed) (t : List ℕ) (d k : ℕ) → all (λ (x : Fixed). not (eqb (x .kind) k)) l ≡ true → eqb d k ≡ false → eqb (kindIn l t d) k ≡ false
-kind-not [] t d k a h = h
-kind-not (x ∷ l) t d k a h =
-    by-test (λ b. eqb (cond b (x .kind) (kindIn l t d)) k ≡ false) (same t (x .text))
-    (λ e. not-true (eqb (x .kind) k) (and-left (not (eqb (x .kind) k)) (all (λ (y : Fixed). not (eqb (y .kind) k)) l) a))
-    (λ e. kind-not l t d k (and-right (not (eqb (x .kind) k)) (all (λ (y : Fixed). not (eqb (y .kind) k)) l) a) h)
+kind-not l t d k a h = not-true (eqb (kindIn l t d) k) (kind-all (λ j. not (eqb j k)) l t d a (rw h))
 
 -- neither a text nor a kind stands in the table twice
 abbrev pub apart : Fixed → Fixed → Bool
@@ -148,6 +151,13 @@ any-all f (x ∷ l) b a e =
 pub kind-sign : (b : ℕ) → sign b ≡ true → b ≡ kindOf (b ∷ [])
 unfolding kindOf
 kind-sign b e = sym (eqb-true (kindOf (b ∷ [])) b (any-all (λ c. eqb (kindOf (c ∷ [])) c) (Rattle.rules.specs.Lists.bytes "(),+-*=<.:@") b refl e))
+
+-- the kinds of words that begin with a letter lie below those of signs
+pub kind-low : (t : List ℕ) → ltb (kindIn keptWords t 1) 10 ≡ true
+kind-low t = kind-all (λ k. ltb k 10) keptWords t 1 refl refl
+
+pub sign-high : (b : ℕ) → sign b ≡ true → ltb b 10 ≡ false
+sign-high b e = not-true (ltb b 10) (any-all (λ c. not (ltb c 10)) (Rattle.rules.specs.Lists.bytes "(),+-*=<.:@") b refl e)
 
 pub kind-end : 0 ≡ kindOf []
 unfolding kindOf

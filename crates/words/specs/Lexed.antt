@@ -13,6 +13,8 @@ use Rattle.words.specs.Names.{name}
 use Rattle.words.specs.declared.Word.{Word}
 use Rattle.words.specs.declared.Lexed.{Lexed}
 use Rattle.words.specs.declared.Lexed.the-variants.{Found, Refused}
+use Rattle.words.specs.declared.Glimpse.{Glimpse}
+use Rattle.words.specs.declared.Glimpse.the-variants as Glimpse
 use Rattle.words.specs.declared.Number.{Number}
 use Rattle.words.specs.declared.Number.the-variants.{Of, Over}
 
@@ -89,3 +91,13 @@ ReadsWord s at (Refused n) = Unit {0}
 pub record Lexes (s : List ℕ) (at : ℕ) (r : Lexed) : Type 0 where
   pub is : answerOf s r ≡ wordAt s at
   pub word : ReadsWord s at r
+
+-- what a glance tells of a word: which sign it is, else nothing
+abbrev pub glimpseOf : Lexed → Glimpse
+glimpseOf (Found w) = cond (ltb (w .kind) 10) Glimpse.Other (Glimpse.Sign (w .kind) (w .next))
+glimpseOf (Refused n) = Glimpse.Refused n
+
+pub record Glances (s : List ℕ) (at : ℕ) (r : Glimpse) : Type 0 where
+  pub word : Lexed
+  pub lexes : Lexes s at word
+  pub is : r ≡ glimpseOf word

@@ -6,7 +6,7 @@ ghost use lib.ListN.{drop};
 ghost use Rattle.rules.specs.Lists.{same, precedes};
 ghost use Rattle.rules.specs.Words.{blank, letter, inWord, digit, sign, run, decimal};
 ghost use Rattle.words.specs.Names.{name, fit as fit_of, order};
-ghost use Rattle.words.specs.Lexed.{kindIn, keptWords, fitting, Lexes};
+ghost use Rattle.words.specs.Lexed.{kindIn, keptWords, fitting, Lexes, Glances};
 
 // The kinds of words. A sign's kind is its byte.
 pub const END_OF_TEXT: u8 = 0;
@@ -29,6 +29,9 @@ pub const ELSE: u8 = 8;
 
 pub const ATTR_ACCESSOR: u8 = 9;
 
+// Every kind below this one is that of words that are no signs.
+pub const SIGNS: u8 = 10;
+
 // The largest literal, and that without its last digit.
 const MOST: u64 = 9223372036854775807;
 
@@ -47,6 +50,13 @@ pub struct Word {
 pub enum Lexed {
     Found(Word),
     Refused(usize),
+}
+
+// A sign and the place behind it, any other word, or the number of a refusal.
+pub enum Glimpse {
+    Sign(u8, usize),
+    Other,
+    Refused(u8),
 }
 
 // A literal's value, where i64 holds it.
@@ -335,6 +345,36 @@ fn word_at(s: &[u8], at: usize) -> Lexed
         });
     }
     Lexed::Refused(3)
+}
+
+// The next word where only signs are told apart: the letters of a word need not be read.
+pub fn glance(s: &[u8], at: usize) -> Glimpse
+    ensures { λ r. ⌜ Glances (now (s .entry)) at r ⌝ }
+{
+    let start = skip_blank(s, at);
+    if s.len() <= start {
+        return Glimpse::Other;
+    }
+    let b = s[start];
+    if is_letter(b) {
+        return Glimpse::Other;
+    }
+    if is_digit(b) {
+        let next = skip_digits(s, start);
+        let len = next - start;
+        match literal(s, start, len) {
+            Number::Of(_) => {
+                return Glimpse::Other;
+            }
+            Number::Over => {
+                return Glimpse::Refused(4);
+            }
+        }
+    }
+    if is_sign(b) {
+        return Glimpse::Sign(b, start + 1);
+    }
+    Glimpse::Refused(3)
 }
 
 // ---- the reader

@@ -71,5 +71,5 @@ pub +parse-arg+parse-args+parse-call+parse-expr+parse-from+parse-group+parse-iva
     (λ t. parse-name-lts.spec (the-parse-name.calls t) (parse-name-at t) parse-name.Post (the-parse-name.ident-of-requires t) (the-parse-name.enum-known-e t) (the-parse-name.enum-known-c1 t) (the-parse-name.match-token-requires t) (the-parse-name.enum-known-f t) (the-parse-name.enum-known-c2 t) (the-parse-name.parse-expr-requires t) (the-parse-name.enum-known-e-2 t) (the-parse-name.enum-known-c3 t) (the-parse-name.assign-requires t) (the-parse-name.enum-told t) (the-parse-name.name-value-requires t) (the-parse-name.returns t) (the-parse-name.returns-2 t) (the-parse-name.same-length t) (the-parse-name.same-length-2 t) (the-parse-name.returns-3 t) (the-parse-name.same-length-3 t) (the-parse-name.same-length-4 t) (the-parse-name.returns-4 t) (the-parse-name.same-length-5 t) (the-parse-name.same-length-6 t) (the-parse-name.returns-5 t))
     (λ t. parse-primary-lts.spec (the-parse-primary.calls t) (parse-primary-at t) parse-primary.Post (the-parse-primary.move-to-requires t) (the-parse-primary.number-requires t) (the-parse-primary.returns t) (the-parse-primary.move-to-requires-2 t) (the-parse-primary.parse-group-requires t) (the-parse-primary.same-length t) (the-parse-primary.same-length-2 t) (the-parse-primary.returns-2 t) (the-parse-primary.move-to-requires-3 t) (the-parse-primary.parse-ivar-requires t) (the-parse-primary.same-length-3 t) (the-parse-primary.same-length-4 t) (the-parse-primary.returns-3 t) (the-parse-primary.parse-name-requires t) (the-parse-primary.same-length-5 t) (the-parse-primary.same-length-6 t) (the-parse-primary.returns-4 t))
     (λ t. parse-right-lts.spec (the-parse-right.calls t) (parse-right-at t) parse-right.Post (the-parse-right.parse-expr-requires t) (the-parse-right.enum-known-e t) (the-parse-right.enum-known-c1 t) (the-parse-right.push-requires t) (the-parse-right.same-length t) (the-parse-right.same-length-2 t) (the-parse-right.returns t) (the-parse-right.same-length-3 t) (the-parse-right.same-length-4 t) (the-parse-right.returns-2 t))
-    (λ t. parse-suffix-lts.spec (the-parse-suffix.calls t) (parse-suffix-at t) parse-suffix.Post (the-parse-suffix.peek-requires t) (the-parse-suffix.enum-known-e t) (the-parse-suffix.enum-known-x t) (the-parse-suffix.suffix-of-requires t) (the-parse-suffix.enum-known-o t) (the-parse-suffix.move-to-requires t) (the-parse-suffix.parse-right-requires t) (the-parse-suffix.again-requires t) (the-parse-suffix.enum-told t) (the-parse-suffix.move-to-requires-2 t) (the-parse-suffix.parse-call-requires t) (the-parse-suffix.again-requires-2 t) (the-parse-suffix.enum-told-2 t) (the-parse-suffix.move-to-requires-3 t) (the-parse-suffix.parse-member-requires t) (the-parse-suffix.again-requires-3 t) (the-parse-suffix.enum-told-3 t) (the-parse-suffix.returns t) (the-parse-suffix.same-length t) (the-parse-suffix.same-length-2 t) (the-parse-suffix.returns-2 t) (the-parse-suffix.same-length-3 t) (the-parse-suffix.same-length-4 t) (the-parse-suffix.returns-3 t) (the-parse-suffix.same-length-5 t) (the-parse-suffix.same-length-6 t) (the-parse-suffix.returns-4 t) (the-parse-suffix.returns-5 t))
+    (λ t. parse-suffix-lts.spec (the-parse-suffix.calls t) (parse-suffix-at t) parse-suffix.Post (the-parse-suffix.glance-requires t) (the-parse-suffix.enum-known-e t) (the-parse-suffix.enum-told t) (the-parse-suffix.enum-known-k t) (the-parse-suffix.suffix-of-requires t) (the-parse-suffix.enum-known-o t) (the-parse-suffix.move-to-requires t) (the-parse-suffix.parse-right-requires t) (the-parse-suffix.again-requires t) (the-parse-suffix.enum-told-2 t) (the-parse-suffix.move-to-requires-2 t) (the-parse-suffix.parse-call-requires t) (the-parse-suffix.again-requires-2 t) (the-parse-suffix.enum-told-3 t) (the-parse-suffix.move-to-requires-3 t) (the-parse-suffix.parse-member-requires t) (the-parse-suffix.again-requires-3 t) (the-parse-suffix.enum-told-4 t) (the-parse-suffix.returns t) (the-parse-suffix.returns-2 t) (the-parse-suffix.same-length t) (the-parse-suffix.same-length-2 t) (the-parse-suffix.returns-3 t) (the-parse-suffix.same-length-3 t) (the-parse-suffix.same-length-4 t) (the-parse-suffix.returns-4 t) (the-parse-suffix.same-length-5 t) (the-parse-suffix.same-length-6 t) (the-parse-suffix.returns-5 t) (the-parse-suffix.returns-6 t))
     (λ t. parse-suffixes-lts.spec (the-parse-suffixes.calls t) (parse-suffixes-at t) parse-suffixes.Post the-parse-suffixes.Inv-loop the-parse-suffixes.μ-loop (the-parse-suffixes.loop-holds t) (the-parse-suffixes.parse-suffix-requires t) (the-parse-suffixes.enum-known-c1 t) (the-parse-suffixes.loop-less t) (the-parse-suffixes.loop-again t) (the-parse-suffixes.enum-told t) (the-parse-suffixes.same-length t) (the-parse-suffixes.same-length-2 t) (the-parse-suffixes.returns t) (the-parse-suffixes.enum-known-e t) (the-parse-suffixes.same-length-3 t) (the-parse-suffixes.same-length-4 t) (the-parse-suffixes.returns-2 t))

@@ -1,8 +1,8 @@
--- `parser::match_token` meets its contract. Assumes nothing.
+-- `parser::match_word` meets its contract. Assumes nothing.
 use Rattle.parser.proofs.Wording.{match-yes, match-not, match-none}
 use borrow.Author.Needs.{needs}
-use Rattle.parser.proofs.match_token.Statement.{statement}
-use Rattle.parser.proofs.match_token.Tie as tie
+use Rattle.parser.proofs.match_word.Statement.{statement}
+use Rattle.parser.proofs.match_word.Tie as tie
 
 peek-requires : tie.Need-peek-requires
 peek-requires c κs = search needs
@@ -25,7 +25,7 @@ returns-2 c = search match-not
 returns-3 : tie.Need-returns-3
 returns-3 c = search match-none
 
-pub match-token-spec : {M : Type 1} → statement M
-match-token-spec =
+pub match-word-spec : {M : Type 1} → statement M
+match-word-spec =
     tie.close
     (tie.spec peek-requires enum-known-w move-to-requires enum-known-e returns returns-2 returns-3)
