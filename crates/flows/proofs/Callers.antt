@@ -6,11 +6,11 @@ use mathlib.Core.List.{List, [], _∷_, map}
 use Prim.Native.Nat.{ℕ, zero, suc, _+_, _-_, _*_, _≤_, _<_}
 use native.Mathlib.Numerals.{add-one}
 use native.Mathlib.Omega.{arith}
-use borrow.Author.Tests.{ltb-true, ltb-false}
-use mir.Syntax.{w32}
-use mir.Val.{Fits as FitsIn}
+use borrow.Author.Tests.{ltb-true, ltb-false, ne-eqb}
+use mir.Syntax.{w32, w64}
+use mir.Val.{Fits as FitsIn, boolByte}
 use lib.Bits.{bitOr}
-use lib.Dec.{ltb}
+use lib.Dec.{ltb, eqb}
 use lib.ListN.{length, getD, drop, drop-of-length-le, List·getD-eq-default}
 use lib.Seq.{drop-cons, getD-drop}
 use Rattle.sets.specs.declared.InsnId.{InsnId}
@@ -30,13 +30,13 @@ use Rattle.rules.specs.Machine.{State, marked, kindOf, joinAll, opndSet, caller
 use Rattle.program.specs.declared.Op.{Op}
 use Rattle.program.specs.declared.Op.the-variants.{Jump, IfTrue, Return, SendStatic, SendDynamic, Compute, Phi, SelfParam, New, GetIvar, SetIvar}
 use Rattle.program.specs.declared.Op.the-variants.{Param as ParamOp}
-use Rattle.program.specs.declared.Row.{Row}
 use Rattle.program.specs.declared.Opnd.{Opnd}
 use Rattle.program.specs.declared.Opnd.the-variants.{Const, Insn}
 use Rattle.program.specs.declared.Counts.{Counts}
-use Rattle.program.specs.Rows.{opndOf, opndsAt, opndsIn, opIn, nth}
-use Rattle.program.specs.View.{view, ReadsInsn}
+use Rattle.program.specs.Rows.{opndOf, opndsAt, opndsIn, opIn, opFrom}
+use Rattle.program.specs.View.{view, Ready}
 use Rattle.program.proofs.Areas.{given-length}
+use Rattle.program.proofs.Reading.{insn-read, operand-read}
 use Rattle.state.specs.declared.Sizes.{Sizes}
 use Rattle.state.specs.declared.NextInsn.{NextInsn}
 use Rattle.state.specs.declared.NextInsn.the-variants.{Place, Done}
@@ -50,12 +50,28 @@ use Rattle.flows.specs.declared.Tally.the-variants.{Nothing as None}
 use Rattle.flows.specs.declared.AsSet.{AsSet}
 use Rattle.flows.specs.declared.AsSet.the-variants.{Set, Other}
 use Rattle.flows.specs.Tally.{Nothing, least, takeAll, finish, unionOver, FitsAt, Fits}
-use Rattle.flows.specs.Flows.{tallyOf, Passed, skipOf, Argues, Sound, Known, PassedIn, asSet, joinSets, SetsFrom, ParamIs}
+use Rattle.flows.specs.Flows.{tallyOf, Passed, Argues, ArguesAt, Sound, Known, PassedIn, asSet, joinSets, SetsFrom, ParamIs}
 use Rattle.flows.proofs.Whole.{union-over}
 use Rattle.flows.proofs.Sets.{sets-union}
+use Rattle.flows.proofs.Standing.{stands, stands-none}
 use Rattle.flows.proofs.Tallied.{passed-none, passed-append}
 
 -- ---- arguments
+
+-- how many operands of a sort stand before its arguments
+abbrev skipOf : Op → ℕ
+skipOf (Jump b) = 0
+skipOf (IfTrue b e) = 0
+skipOf Return = 0
+skipOf (SendStatic f) = 0
+skipOf (SendDynamic m) = 1
+skipOf (Compute o) = 0
+skipOf (Phi b e) = 0
+skipOf (ParamOp k) = 0
+skipOf (SelfParam c) = 0
+skipOf (New c) = 0
+skipOf (GetIvar m) = 0
+skipOf (SetIvar m) = 0
 
 listed-is : (s : List ℕ) (o : Op) (l : List P.Opnd) → has (about (opIn s o l) .callee) ≡ true → about (opIn s o l) .listed ≡ drop (skipOf o) l
 listed-is s (Jump b) l h = cc
@@ -76,26 +92,80 @@ at-any [] i d e h = absurd (omega arith)
 at-any (x ∷ l) zero d e h = refl
 at-any (x ∷ l) (suc i) d e h = at-any l i d e (omega arith)
 
-module _ (m : List ℕ) (c : Counts) (i n : ℕ) {x : Row} (d : ReadsInsn m c i x) {a : ℕ} (ea : a ≡ skipOf (x .op)) where
+skip-from : (t x y : ℕ) → boolByte (eqb t 4) ≡ skipOf (opFrom t x y)
+unfolding opFrom
+skip-from zero x y = refl
+skip-from (suc zero) x y = refl
+skip-from (suc (suc zero)) x y = refl
+skip-from (suc (suc (suc zero))) x y = refl
+skip-from (suc (suc (suc (suc zero)))) x y = refl
+skip-from (suc (suc (suc (suc (suc zero))))) x y = refl
+skip-from (suc (suc (suc (suc (suc (suc zero)))))) x y = refl
+skip-from (suc (suc (suc (suc (suc (suc (suc zero))))))) x y = refl
+skip-from (suc (suc (suc (suc (suc (suc (suc (suc zero)))))))) x y = refl
+skip-from (suc (suc (suc (suc (suc (suc (suc (suc (suc zero))))))))) x y = refl
+skip-from (suc (suc (suc (suc (suc (suc (suc (suc (suc (suc zero)))))))))) x y = refl
+skip-from (suc (suc (suc (suc (suc (suc (suc (suc (suc (suc (suc zero))))))))))) x y = refl
+skip-from (suc (suc (suc (suc (suc (suc (suc (suc (suc (suc (suc (suc zero)))))))))))) x y = refl
+skip-from (suc (suc (suc (suc (suc (suc (suc (suc (suc (suc (suc (suc (suc zero))))))))))))) x y = refl
+skip-from (suc (suc (suc (suc (suc (suc (suc (suc (suc (suc (suc (suc (suc (suc n)))))))))))))) x y = ap boolByte (ne-eqb (suc (suc (suc (suc (suc (suc (suc (suc (suc (suc (suc (suc (suc (suc n)))))))))))))) 4 (λ e. omega arith))
+
+skip-small : (b : 𝔹) → boolByte b ≤ 1
+skip-small true = omega arith
+skip-small false = omega arith
+
+-- the words of i's row
+module _ (m : List ℕ) (c : Counts) (i n : ℕ) (r : Ready m c) (below : i < c .insns) where
+  abbrev first : ℕ
+  first = getD m (0 + 6 * i + 4) 0
+
+  abbrev count : ℕ
+  count = getD m (0 + 6 * i + 5) 0
+
+  abbrev skip : ℕ
+  skip = boolByte (eqb (getD m (0 + 6 * i) 0) 4)
+
   abbrev given : List P.Opnd
-  given = map opndOf (opndsIn m (opndsAt + 2 * x .first) (x .count))
+  given = map opndOf (opndsIn m (opndsAt + 2 * first) count)
 
-  argument-is : (L : Limits) (s : List ℕ) → has (about (opOf (view s m c) i) .callee) ≡ true → argument L (view s m c) n i ≡ getD given (a + n) (P.Const Empty)
+  row-range : first + count ≤ 12288
+  row-range = let a = insn-read i r below refl .range in let b = r .opnds in let d = r .listed in let e = r .insns in omega arith
+
+  pub skip-fits : n < count → FitsIn w64 (skip + n)
+  skip-fits lt = record { fits = let a = row-range in let b = skip-small (eqb (getD m (0 + 6 * i) 0) 4) in omega arith }
+
+  pub place-fits : skip + n < count → (x : ℕ) → x ≤ opndsAt + 2 * first + 2 * (skip + n) → FitsIn w64 x
+  place-fits lt x le = record { fits = let a = row-range in omega arith }
+
+  argument-is : (L : Limits) (s : List ℕ) → has (about (opOf (view s m c) i) .callee) ≡ true → argument L (view s m c) n i ≡ getD given (skip + n) (P.Const Empty)
   argument-is L s h =
-      let e : opOf (view s m c) i ≡ opIn s (x .op) given = ap (λ (y : P.Instruction). y .op) (d .is s) in
-      let g : has (about (opIn s (x .op) given) .callee) ≡ true = rw e at h in
+      let o : Op = opFrom (getD m (0 + 6 * i) 0) (getD m (0 + 6 * i + 2) 0) (getD m (0 + 6 * i + 3) 0) in
+      let e : opOf (view s m c) i ≡ opIn s o given = ap (λ (y : P.Instruction). y .op) (insn-read i r below refl .is s) in
+      let g : has (about (opIn s o given) .callee) ≡ true = rw e at h in
       ap (λ (y : P.Op). getD (about y .listed) n (P.Const Empty)) e
-      ∙ ap (λ (y : List P.Opnd). getD y n (P.Const Empty)) (listed-is s (x .op) given g)
-      ∙ getD-drop (skipOf (x .op)) given n (P.Const Empty) ∙ ap (λ (y : ℕ). getD given (y + n) (P.Const Empty)) (sym ea)
+      ∙ ap (λ (y : List P.Opnd). getD y n (P.Const Empty)) (listed-is s o given g)
+      ∙ getD-drop (skipOf o) given n (P.Const Empty)
+      ∙ ap (λ (y : ℕ). getD given (y + n) (P.Const Empty)) (sym (skip-from (getD m (0 + 6 * i) 0) (getD m (0 + 6 * i + 2) 0) (getD m (0 + 6 * i + 3) 0)))
 
-  pub argument-here : {j : ℕ} {r : Opnd} → j ≡ a + n → j < x .count → opndOf r ≡ nth given j → Argues m c i n r
-  argument-here {j} {r} ej lt e = record {
-    is = λ L s h. e ∙ at-any given j (P.Const Nil) (P.Const Empty) (let k = given-length m (opndsAt + 2 * x .first) (x .count) in omega arith) ∙ ap (λ (y : ℕ). getD given y (P.Const Empty)) ej ∙ sym (argument-is L s h);
+  pub argument-here : skip + n < count → ArguesAt m c i n (opndsAt + 2 * first + 2 * (skip + n))
+  argument-here lt = record {
+    is = record {
+      is = λ L s h.
+          operand-read m (opndsAt + 2 * first) count (skip + n) lt (stands m (λ e. omega arith))
+          ∙ at-any given (skip + n) (P.Const Nil) (P.Const Empty) (let k = given-length m (opndsAt + 2 * first) count in omega arith)
+          ∙ sym (argument-is L s h);
+    };
+    inside = let a = row-range in let b = r .len-mem in omega arith;
   }
 
-  pub argument-none : x .count ≤ a + n → Argues m c i n (Const Empty)
+  pub argument-none : count ≤ skip + n → ArguesAt m c i n 0
   argument-none le = record {
-    is = λ L s h. sym (argument-is L s h ∙ List·getD-eq-default given (P.Const Empty) (let k = given-length m (opndsAt + 2 * x .first) (x .count) in omega arith));
+    is = record {
+      is = λ L s h.
+          ap opndOf (stands-none m refl)
+          ∙ sym (argument-is L s h ∙ List·getD-eq-default given (P.Const Empty) (let k = given-length m (opndsAt + 2 * first) count in omega arith));
+    };
+    inside = let b = r .len-mem in omega arith;
   }
 
 pub fits-inside : (z : Sizes) (r : Opnd) → FitsAt (z .insns) (opndOf r) → Inside z r

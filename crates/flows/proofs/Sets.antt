@@ -26,9 +26,6 @@ use Rattle.flows.specs.Flows.{asSet, joinSets}
 use Rattle.flows.proofs.Order.{same-is}
 use Rattle.flows.proofs.Whole.{union-over}
 
-pub as-objects : {k : Kind} {s : ℕ} → k ≡ Objects s → Set s ≡ asSet k
-as-objects e = rw e
-
 never : {A : Type 0} {u : ℕ} → Other ≡ Set u → A
 never e = let z : _≡_ {A = ℕ} 0 1 = cc in absurd (omega arith)
 

@@ -1,22 +1,22 @@
 -- What the passes promise over the operands of callers. Assumes nothing.
-use mathlib.Core.Bool.{Bool as 𝔹, true}
+use mathlib.Core.Bool.{Bool as 𝔹, true, cond}
 use mathlib.Core.Path.{_≡_}
 use mathlib.Core.List.{List, [], _∷_, map}
-use Prim.Native.Nat.{ℕ, _<_}
+use Prim.Native.Nat.{ℕ, _+_, _<_}
 use lib.Bits.{bitOr}
-use lib.ListN.{getD}
+use lib.Dec.{eqb}
+use lib.ListN.{length, getD}
 use Rattle.kinds.specs.declared.Kind.{Kind}
 use Rattle.kinds.specs.declared.Kind.the-variants.{Empty, Nil, Num, Truth, Fun, Class, Int, Bool, Objects, Any}
+use Rattle.kinds.specs.Kinds.{kindFrom}
 use Rattle.rules.specs.Lists.{has}
 use Rattle.rules.specs.Program as P
-use Rattle.rules.specs.Program.{Limits, Program, Const, Param, about, opOf, functionOf}
+use Rattle.rules.specs.Program.{Limits, Program, Param, about, opOf, functionOf}
 use Rattle.rules.specs.Machine.{marked, argument as argumentOf}
-use Rattle.program.specs.declared.Op.{Op}
-use Rattle.program.specs.declared.Op.the-variants.{Jump, IfTrue, Return, SendStatic, SendDynamic, Compute, Phi, SelfParam, New, GetIvar, SetIvar}
-use Rattle.program.specs.declared.Op.the-variants.{Param as ParamOp}
 use Rattle.program.specs.declared.Opnd.{Opnd}
+use Rattle.program.specs.declared.Opnd.the-variants.{Const}
 use Rattle.program.specs.declared.Counts.{Counts}
-use Rattle.program.specs.Rows.{opndOf}
+use Rattle.program.specs.Rows.{opndOf, opndAt}
 use Rattle.program.specs.View.{view, Ready}
 use Rattle.state.specs.declared.Sizes.{Sizes}
 use Rattle.state.specs.View.{Attrs, kindsOf, calledOf}
@@ -24,6 +24,7 @@ use Rattle.state.specs.Changes.{marksFrom}
 use Rattle.flows.specs.declared.Tally.{Tally as Told}
 use Rattle.flows.specs.declared.Tally.the-variants.{Nothing as None, One as Single, Many as Several}
 use Rattle.flows.specs.declared.Pass.{Pass}
+use Rattle.flows.specs.declared.Words.{Words}
 use Rattle.flows.specs.declared.AsSet.{AsSet}
 use Rattle.flows.specs.declared.AsSet.the-variants.{Set, Other}
 use Rattle.opnds.specs.Reads.{kindIn}
@@ -44,29 +45,27 @@ pub record Passed (ks : List Kind) (l : List P.Opnd) (x y : Pass) : Type 0 where
   pub lowest : y .least ≡ least ks (x .least) l
   pub told : tallyOf (y .tally) ≡ takeAll ks (x .bound) (tallyOf (x .tally)) l
 
--- how many operands of a sort stand before its arguments
-abbrev pub skipOf : Op → ℕ
-skipOf (Jump b) = 0
-skipOf (IfTrue b e) = 0
-skipOf Return = 0
-skipOf (SendStatic f) = 0
-skipOf (SendDynamic m) = 1
-skipOf (Compute o) = 0
-skipOf (Phi b e) = 0
-skipOf (ParamOp k) = 0
-skipOf (SelfParam c) = 0
-skipOf (New c) = 0
-skipOf (GetIvar m) = 0
-skipOf (SetIvar m) = 0
-
 -- r is the argument that i has for place n, if i is a call
 pub record Argues (m : List ℕ) (c : Counts) (i n : ℕ) (r : Opnd) : Type 0 where
   pub is : (L : Limits) (s : List ℕ) → has (about (opOf (view s m c) i) .callee) ≡ true → opndOf r ≡ argumentOf L (view s m c) n i
 
+-- the operand that stands at a word, Empty for 0
+unfoldable pub standing : List ℕ → ℕ → Opnd
+standing m at = cond (eqb at 0) (Const Empty) (opndAt m at)
+
+-- the argument that i has for place n stands at word r, if i is a call
+pub record ArguesAt (m : List ℕ) (c : Counts) (i n r : ℕ) : Type 0 where
+  pub is : Argues m c i n (standing m r)
+  pub inside : r + 1 < length m
+
+-- the kind that two words stand for
+abbrev pub wordsOf : Words → Kind
+wordsOf x = kindFrom (x .tag) (x .bits)
+
 -- the callers are calls, and no argument is Any or a result beyond the program's
 pub record Sound (p : Program) (n : ℕ) (t : List (List 𝔹)) : Type 0 where
   pub calls : (f i : ℕ) → marked t f i ≡ true → has (about (opOf p i) .callee) ≡ true
-  pub listed : (i k : ℕ) → FitsAt n (getD (about (opOf p i) .listed) k (Const Empty))
+  pub listed : (i k : ℕ) → FitsAt n (getD (about (opOf p i) .listed) k (P.Const Empty))
 
 pub record Known (m : List ℕ) (c : Counts) (z : Sizes) (t : List (List 𝔹)) : Type 0 where
   pub script : List ℕ

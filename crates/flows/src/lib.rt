@@ -2,7 +2,6 @@
 use kinds::Joined;
 use kinds::Kind;
 use program::Counts;
-use program::Op;
 use program::Opnd;
 use sets::FunId;
 use sets::InsnId;
@@ -10,15 +9,16 @@ use state::NextInsn;
 use state::Sizes;
 ghost use mathlib.Core.Path.{_≡_};
 ghost use mathlib.Core.List.{[], _∷_};
-ghost use Prim.Native.Nat.{ℕ, _≤_, _<_};
+ghost use Prim.Native.Nat.{ℕ, _+_, _<_};
+ghost use lib.ListN.{length, getD};
 ghost use Rattle.rules.specs.Program.{Param};
 ghost use Rattle.rules.specs.Machine.{rule};
 ghost use Rattle.program.specs.Rows.{opndOf};
 ghost use Rattle.program.specs.View.{Ready};
 ghost use Rattle.state.specs.View.{kindsOf, calledOf, Held};
-ghost use Rattle.opnds.specs.Reads.{Inside, Reads};
+ghost use Rattle.opnds.specs.Reads.{Inside, kindIn, Reads};
 ghost use Rattle.flows.specs.Tally.{lower, before, take as taken, close, finish};
-ghost use Rattle.flows.specs.Flows.{tallyOf, Adds, Passed, skipOf, Argues, Known, PassedIn, asSet, SetsFrom, ParamIs};
+ghost use Rattle.flows.specs.Flows.{tallyOf, Adds, Passed, Argues, standing, ArguesAt, wordsOf, Known, PassedIn, asSet, SetsFrom, ParamIs};
 
 // What was met so far: no operand, one operand and its kind, or the union of several.
 pub enum Tally {
@@ -32,6 +32,12 @@ pub struct Pass {
     pub bound: usize,
     pub least: usize,
     pub tally: Tally,
+}
+
+// A kind's byte and payload.
+pub struct Words {
+    pub tag: usize,
+    pub bits: usize,
 }
 
 // A set of classes, Empty being the empty one; or another kind.
@@ -118,24 +124,23 @@ pub fn pass_one(m: &[usize], z: Sizes, x: Pass, o: Opnd) -> Pass
     }
 }
 
-// How many operands of a sort stand before its arguments.
-fn skipped(op: Op) -> usize
-    ensures { λ r. ⌜ (r ≡ skipOf op) × (r ≤ 1) ⌝ }
+// Where the argument that call i has for place n stands among the operands; 0 where it has none.
+pub fn argument_at(p: &[usize], c: Counts, i: InsnId, n: usize) -> usize
+    requires { ⌜ Ready (now p) c ⌝ }
+    requires { ⌜ i .0 < c .insns ⌝ }
+    ensures { λ r. ⌜ ArguesAt (now (p .entry)) c (i .0) n r ⌝ }
 {
-    match op {
-        Op::Jump(_) => 0,
-        Op::IfTrue(_, _) => 0,
-        Op::Return => 0,
-        Op::SendStatic(_) => 0,
-        Op::SendDynamic(_) => 1,
-        Op::Compute(_) => 0,
-        Op::Phi(_, _) => 0,
-        Op::Param(_) => 0,
-        Op::SelfParam(_) => 0,
-        Op::New(_) => 0,
-        Op::GetIvar(_) => 0,
-        Op::SetIvar(_) => 0,
+    let at = program::INSNS + 6 * (i.0 as usize);
+    let skip = (p[at] == 4) as usize;
+    let first = p[at + 4];
+    let count = p[at + 5];
+    if n < count {
+        let j = skip + n;
+        if j < count {
+            return program::OPNDS + 2 * first + 2 * j;
+        }
     }
+    0
 }
 
 // The argument that call i has for place n; Empty where it has none.
@@ -144,17 +149,42 @@ pub fn argument(p: &[usize], c: Counts, i: InsnId, n: usize) -> Opnd
     requires { ⌜ i .0 < c .insns ⌝ }
     ensures { λ r. ⌜ Argues (now (p .entry)) c (i .0) n r ⌝ }
 {
-    let row = program::read_insn(p, c, i);
-    let op = row.op;
-    let skip = skipped(op);
-    let count = row.count;
-    if n < count {
-        let j = skip + n;
-        if j < count {
-            return program::read_operand(p, c, row, j);
-        }
+    let at = argument_at(p, c, i, n);
+    if at == 0 {
+        return Opnd::Const(Kind::Empty);
     }
-    Opnd::Const(Kind::Empty)
+    program::read_opnd(p, at)
+}
+
+// The kind of instruction i, in words: they are read faster than the kind is made.
+pub fn insn_words(m: &[usize], z: Sizes, i: InsnId) -> Words
+    requires { ⌜ Held z (now m) ⌝ }
+    requires { ⌜ i .0 < z .insns ⌝ }
+    ensures { λ r. ⌜ wordsOf r ≡ getD (kindsOf z (now (m .entry))) (i .0) Kind.Empty ⌝ }
+{
+    let at = i.0 as usize;
+    Words {
+        tag: m[at],
+        bits: m[2048 + at],
+    }
+}
+
+// The kind of the operand that stands at a word, in words.
+pub fn opnd_words(p: &[usize], m: &[usize], z: Sizes, at: usize) -> Words
+    requires { ⌜ at + 1 < length (now p) ⌝ }
+    requires { ⌜ Held z (now m) ⌝ }
+    requires { ⌜ Inside z (standing (now p) at) ⌝ }
+    ensures { λ r. ⌜ wordsOf r ≡ kindIn (kindsOf z (now (m .entry))) (opndOf (standing (now (p .entry)) at)) ⌝ }
+{
+    if at == 0 {
+        return Words { tag: 0, bits: 0 };
+    }
+    let tag = p[at];
+    let bits = p[at + 1];
+    if tag == 10 {
+        return insn_words(m, z, InsnId((bits % 4294967296) as u32));
+    }
+    Words { tag, bits }
 }
 
 // The arguments for place n of the callers of f, in a pass.
@@ -188,21 +218,16 @@ fn pass_callers(
     }
 }
 
-fn as_set(k: Kind) -> AsSet
-    ensures { λ r. ⌜ r ≡ asSet k ⌝ }
+fn as_set(k: Words) -> AsSet
+    ensures { λ r. ⌜ r ≡ asSet (wordsOf k) ⌝ }
 {
-    match k {
-        Kind::Empty => AsSet::Set(0),
-        Kind::Nil => AsSet::Other,
-        Kind::Num(_) => AsSet::Other,
-        Kind::Truth(_) => AsSet::Other,
-        Kind::Fun(_) => AsSet::Other,
-        Kind::Class(_) => AsSet::Other,
-        Kind::Int => AsSet::Other,
-        Kind::Bool => AsSet::Other,
-        Kind::Objects(s) => AsSet::Set(s),
-        Kind::Any => AsSet::Other,
+    if k.tag == 8 {
+        return AsSet::Set(k.bits as u64);
     }
+    if k.tag == 0 {
+        return AsSet::Set(0);
+    }
+    AsSet::Other
 }
 
 // The union of the kinds of the arguments for place n of the callers of f, if all are sets.
@@ -217,8 +242,8 @@ fn join_sets(p: &[usize], c: Counts, m: &[usize], z: Sizes, f: FunId, n: usize) 
     loop {
         match state::next_caller(m, z, f, from) {
             NextInsn::Place(i) => {
-                let o = argument(p, c, i, n);
-                let k = opnds::kind_of(m, z, o);
+                let at = argument_at(p, c, i, n);
+                let k = opnd_words(p, m, z, at);
                 match as_set(k) {
                     AsSet::Set(t) => {
                         s = s | t;

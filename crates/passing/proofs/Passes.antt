@@ -3,26 +3,31 @@ use mathlib.Core.Bool.{Bool as 𝔹, true, false, not}
 use mathlib.Core.Path.{_≡_, refl, sym, ap, subst, _∙_}
 use mathlib.Core.Option.{none, some}
 use mathlib.Core.List.{List}
-use Prim.Native.Nat.{ℕ, suc, _+_, _-_, _≤_, _<_}
+use Prim.Native.Nat.{ℕ, zero, suc, _+_, _-_, _*_, _≤_, _<_}
 use native.Mathlib.Omega.{arith}
+use borrow.Author.Tests.{eqb-true}
 use mir.Syntax.{w64}
 use mir.Val.{Fits}
+use lib.Bits.{bitOr}
+use lib.Dec.{eqb}
 use lib.ListN.{length, getD}
 use Rattle.kinds.specs.declared.Kind.{Kind}
-use Rattle.kinds.specs.declared.Kind.the-variants.{Empty}
+use Rattle.kinds.specs.declared.Kind.the-variants.{Empty, Objects, Any}
 use Rattle.kinds.specs.declared.Joined.the-variants.{Of}
+use Rattle.kinds.specs.Kinds.{kindFrom, isName}
 use Rattle.kinds.specs.Union.{unionOf}
+use Rattle.kinds.proofs.Laws.{union-any-l, union-empty-r, union-idem, sets-cover}
 use Rattle.kinds.proofs.Same.{same-refl}
 use Rattle.rules.specs.Program as P
 use Rattle.rules.specs.Program.{Limits, Program, about, parameters}
 use Rattle.rules.specs.Machine.{State, kindOf, wakeIfWider, placeOf, argument, passArguments}
-use Rattle.program.specs.declared.Op.{Op}
-use Rattle.program.specs.declared.Op.the-variants.{Jump, IfTrue, Return, SendStatic, SendDynamic, Compute, Phi, Param, SelfParam, New, GetIvar, SetIvar}
-use Rattle.program.specs.declared.Row.{Row}
 use Rattle.program.specs.declared.Opnd.{Opnd}
 use Rattle.program.specs.declared.Counts.{Counts}
-use Rattle.program.specs.Rows.{opndOf, opIn}
-use Rattle.program.specs.View.{view, ReadsInsn}
+use Rattle.program.specs.Rows.{opndOf, opIn, opFrom}
+use Rattle.program.specs.View.{view}
+use Rattle.program.specs.View.{Ready as Filled}
+use Rattle.program.proofs.Forms.{op-10}
+use Rattle.program.proofs.Reading.{insn-read}
 use Rattle.state.specs.declared.Sizes.{Sizes}
 use Rattle.state.specs.declared.Regs.{Regs}
 use Rattle.state.specs.declared.Went.{Went}
@@ -38,26 +43,43 @@ use Rattle.opnds.proofs.Given.{kind-of}
 use Rattle.flows.specs.Flows.{Argues}
 use Rattle.flows.proofs.Callers.{fits-inside}
 use Rattle.blocks.proofs.Walk.{From, Walking, walk-ready, walk-falls, walk-word, walk-more, walk-stop, walk-done}
-use Rattle.passing.specs.Passing.{placeIn, passTo, HasParams, Caller, Passes, Keeps, CallIn, PassIn}
+use Rattle.passing.specs.Passing.{passTo, HasParams, Caller, Placed, Passes, Keeps, CallIn, PassIn}
 
 -- ---- one Param
 
-place-in : (L : Limits) (s : List ℕ) (o : Op) (l : List P.Opnd) → elim (about (opIn s o l) .place) [ none ↦ 0 | some n ↦ n ] ≡ placeIn o
-place-in L s (Jump b) l = refl
-place-in L s (IfTrue b e) l = refl
-place-in L s Return l = refl
-place-in L s (SendStatic f) l = refl
-place-in L s (SendDynamic m) l = refl
-place-in L s (Compute o) l = refl
-place-in L s (Phi b e) l = refl
-place-in L s (Param n) l = refl
-place-in L s (SelfParam c) l = refl
-place-in L s (New c) l = refl
-place-in L s (GetIvar m) l = refl
-place-in L s (SetIvar m) l = refl
+abbrev placeIn : P.Op → ℕ
+placeIn o = elim (about o .place) [ none ↦ 0 | some n ↦ n ]
 
-place-is : (L : Limits) (s m : List ℕ) (c : Counts) (j : ℕ) {x : Row} {n : ℕ} → ReadsInsn m c j x → n ≡ placeIn (x .op) → placeOf L (view s m c) j ≡ n
-place-is L s m c j {x} d e = ap (λ (y : P.Instruction). elim (about (y .op) .place) [ none ↦ 0 | some n ↦ n ]) (d .is s) ∙ place-in L s (x .op) _ ∙ sym e
+place-none : (s : List ℕ) (t x y : ℕ) (l : List P.Opnd) → (t ≡ 10 → ⊥) → placeIn (opIn s (opFrom t x y) l) ≡ 0
+unfolding opFrom
+place-none s zero x y l h = refl
+place-none s (suc zero) x y l h = refl
+place-none s (suc (suc zero)) x y l h = refl
+place-none s (suc (suc (suc zero))) x y l h = refl
+place-none s (suc (suc (suc (suc zero)))) x y l h = refl
+place-none s (suc (suc (suc (suc (suc zero))))) x y l h = refl
+place-none s (suc (suc (suc (suc (suc (suc zero)))))) x y l h = refl
+place-none s (suc (suc (suc (suc (suc (suc (suc zero))))))) x y l h = refl
+place-none s (suc (suc (suc (suc (suc (suc (suc (suc zero)))))))) x y l h = refl
+place-none s (suc (suc (suc (suc (suc (suc (suc (suc (suc zero))))))))) x y l h = refl
+place-none s (suc (suc (suc (suc (suc (suc (suc (suc (suc (suc zero)))))))))) x y l h = absurd (h refl)
+place-none s (suc (suc (suc (suc (suc (suc (suc (suc (suc (suc (suc zero))))))))))) x y l h = refl
+place-none s (suc (suc (suc (suc (suc (suc (suc (suc (suc (suc (suc (suc zero)))))))))))) x y l h = refl
+place-none s (suc (suc (suc (suc (suc (suc (suc (suc (suc (suc (suc (suc (suc zero))))))))))))) x y l h = refl
+place-none s (suc (suc (suc (suc (suc (suc (suc (suc (suc (suc (suc (suc (suc (suc n)))))))))))))) x y l h = refl
+
+module _ (m : List ℕ) (c : Counts) (j : ℕ) (r : Filled m c) (below : j < c .insns) where
+  pub placed-param : getD m (0 + 6 * j) 0 ≡ 10 → Placed m c j (getD m (0 + 6 * j + 2) 0)
+  placed-param e = record {
+    is = λ L s. ap (λ (y : P.Instruction). placeIn (y .op)) (insn-read j r below (op-10 (getD m (0 + 6 * j + 2) 0) (getD m (0 + 6 * j + 3) 0) e) .is s);
+  }
+
+  pub placed-none : (getD m (0 + 6 * j) 0 ≡ 10 → ⊥) → Placed m c j 0
+  placed-none h = record {
+    is = λ L s.
+        ap (λ (y : P.Instruction). placeIn (y .op)) (insn-read j r below refl .is s)
+        ∙ place-none s (getD m (0 + 6 * j) 0) (getD m (0 + 6 * j + 2) 0) (getD m (0 + 6 * j + 3) 0) _ h;
+  }
 
 pub param-below : {m : List ℕ} {c : Counts} {z : Sizes} {i j : ℕ} → Caller m c z i → j < z .insns → j < c .insns
 param-below g lt = let e = g .sizes in omega arith
@@ -69,11 +91,10 @@ pass-is : (L : Limits) (p : Program) (i j : ℕ) (s : State) → wakeIfWider L p
 unfolding passTo
 pass-is L p i j s = refl
 
-pub kind-passed : {m : List ℕ} {c : Counts} {z : Sizes} (w : List ℕ) (i j : ℕ) {x : Row} {n : ℕ} {o : Opnd} {k : Kind} → ReadsInsn m c j x → n ≡ placeIn (x .op)
-    → Argues m c i n o → k ≡ kindIn (kindsOf z w) (opndOf o) → Passes m c z w i j k
-kind-passed {m} {c} {z} w i j {n = n} d en a ek = record {
-  is = λ L s h.
-      ek ∙ ap (kindIn (kindsOf z w)) (a .is L s h ∙ ap (λ (t : ℕ). argument L (view s m c) t i) (sym (place-is L s m c j d en)));
+pub kind-passed : {m : List ℕ} {c : Counts} {z : Sizes} (w : List ℕ) (i : ℕ) {j n : ℕ} {o : Opnd} {k : Kind} → Placed m c j n → Argues m c i n o
+    → k ≡ kindIn (kindsOf z w) (opndOf o) → Passes m c z w i j k
+kind-passed {m} {c} {z} w i d a ek = record {
+  is = λ L s h. ek ∙ ap (kindIn (kindsOf z w)) (a .is L s h ∙ ap (λ (t : ℕ). argument L (view s m c) t i) (sym (d .is L s)));
 }
 
 module _ {m : List ℕ} {c : Counts} {z : Sizes} {w : List ℕ} {q : Regs} {i j : ℕ} {k : Kind} (a : Passes m c z w i j k) where
@@ -87,11 +108,62 @@ module _ {m : List ℕ} {c : Counts} {z : Sizes} {w : List ℕ} {q : Regs} {i j 
     ok = g .ok;
   }
 
-  pub kept-on : Ready z w q → Keeps z w k j → Did z (CallIn m c i) (λ L p. passTo L p i j) w q w (On q)
-  kept-on r h = passed-to (wake-same z w q j k refl refl r (getD (kindsOf z w) j Empty) h refl (same-refl (getD (kindsOf z w) j Empty)))
+pub kept-on : {m : List ℕ} {c : Counts} {z : Sizes} {w : List ℕ} {q : Regs} {i j : ℕ} → Ready z w q → Keeps m c z w i j → Did z (CallIn m c i) (λ L p. passTo L p i j) w q w (On q)
+kept-on {z = z} {w = w} {q = q} {j = j} r h = passed-to (h .passes) (wake-same z w q j (h .kind) refl refl r (getD (kindsOf z w) j Empty) (h .same) refl (same-refl (getD (kindsOf z w) j Empty)))
 
-pub kept-is : (k : Kind) {o d : Kind} → o ≡ d → unionOf o k ≡ Of o → unionOf d k ≡ Of d
-kept-is k e h = subst (λ (o : Kind). unionOf o k ≡ Of o) e h
+pub surely-kept : {m : List ℕ} {c : Counts} {z : Sizes} (w : List ℕ) (i : ℕ) {j n : ℕ} {o : Opnd} {k a : Kind} → Placed m c j n → Argues m c i n o
+    → k ≡ kindIn (kindsOf z w) (opndOf o) → a ≡ getD (kindsOf z w) j Empty → unionOf a k ≡ Of a → Keeps m c z w i j
+surely-kept w i {k = k} d g ek ea h = record { kind = k; passes = kind-passed w i d g ek; same = subst (λ (x : Kind). unionOf x k ≡ Of x) ea h }
+
+-- ---- kinds in words
+
+any-from : (s x : ℕ) → 8 < s → kindFrom s x ≡ Any
+unfolding kindFrom
+any-from zero x h = absurd (omega arith)
+any-from (suc zero) x h = absurd (omega arith)
+any-from (suc (suc zero)) x h = absurd (omega arith)
+any-from (suc (suc (suc zero))) x h = absurd (omega arith)
+any-from (suc (suc (suc (suc zero)))) x h = absurd (omega arith)
+any-from (suc (suc (suc (suc (suc zero))))) x h = absurd (omega arith)
+any-from (suc (suc (suc (suc (suc (suc zero)))))) x h = absurd (omega arith)
+any-from (suc (suc (suc (suc (suc (suc (suc zero))))))) x h = absurd (omega arith)
+any-from (suc (suc (suc (suc (suc (suc (suc (suc zero)))))))) x h = absurd (omega arith)
+any-from (suc (suc (suc (suc (suc (suc (suc (suc (suc n))))))))) x h = refl
+
+no-name-from : (s x : ℕ) → (s ≡ 4 → ⊥) → (s ≡ 5 → ⊥) → isName (kindFrom s x) ≡ false
+unfolding kindFrom
+no-name-from zero x h4 h5 = refl
+no-name-from (suc zero) x h4 h5 = refl
+no-name-from (suc (suc zero)) x h4 h5 = refl
+no-name-from (suc (suc (suc zero))) x h4 h5 = refl
+no-name-from (suc (suc (suc (suc zero)))) x h4 h5 = absurd (h4 refl)
+no-name-from (suc (suc (suc (suc (suc zero))))) x h4 h5 = absurd (h5 refl)
+no-name-from (suc (suc (suc (suc (suc (suc zero)))))) x h4 h5 = refl
+no-name-from (suc (suc (suc (suc (suc (suc (suc zero))))))) x h4 h5 = refl
+no-name-from (suc (suc (suc (suc (suc (suc (suc (suc zero)))))))) x h4 h5 = refl
+no-name-from (suc (suc (suc (suc (suc (suc (suc (suc (suc n))))))))) x h4 h5 = refl
+
+empty-from : {t : ℕ} (y : ℕ) → t ≡ 0 → kindFrom t y ≡ Empty
+unfolding kindFrom
+empty-from y e = rw e
+
+objects-from : {s : ℕ} (x : ℕ) → s ≡ 8 → kindFrom s x ≡ Objects x
+unfolding kindFrom
+objects-from x e = rw e
+
+module _ (s x t y : ℕ) where
+  pub covers-empty : t ≡ 0 → unionOf (kindFrom s x) (kindFrom t y) ≡ Of (kindFrom s x)
+  covers-empty e = ap (unionOf (kindFrom s x)) (empty-from y e) ∙ union-empty-r (kindFrom s x)
+
+  pub covers-any : 8 < s → unionOf (kindFrom s x) (kindFrom t y) ≡ Of (kindFrom s x)
+  covers-any h = rw (any-from s x h) (union-any-l (kindFrom t y))
+
+  module _ (e : s ≡ t) where
+    pub covers-set : s ≡ 8 → eqb (bitOr x y) x ≡ true → unionOf (kindFrom s x) (kindFrom t y) ≡ Of (kindFrom s x)
+    covers-set f h = sets-cover (kindFrom s x) (kindFrom t y) x y (objects-from x f) (objects-from y (sym e ∙ f)) h
+
+    pub covers-same : (s ≡ 4 → ⊥) → (s ≡ 5 → ⊥) → eqb x y ≡ true → unionOf (kindFrom s x) (kindFrom t y) ≡ Of (kindFrom s x)
+    covers-same h4 h5 h = rw (← e, ← eqb-true x y h) (union-idem (kindFrom s x) (no-name-from s x h4 h5))
 
 -- the head's word fits
 pub params-word : {n : ℕ} {x : List ℕ} {e : ℕ} → HasParams n x e → FitsId x (3072 + e)
@@ -127,14 +199,14 @@ module _ {m : List ℕ} {c : Counts} {z : Sizes} {x : List ℕ} {h : ℕ} {m₀ 
 
 -- one Param further: it was tried, or kept
 module _ {m : List ℕ} {c : Counts} {z : Sizes} {x : List ℕ} {h : ℕ} {m₀ : List ℕ} {q₀ : Regs} {w : List ℕ} {q : Regs} {i j : ℕ}
-    (g : Walking z x 4096 (λ L p. passTo L p i) (CallIn m c i) h m₀ q₀ w q j) {k : Kind} (a : Passes m c z w i j k) (lt : j < z .insns) where
-  pub param-woken : {w' : List ℕ} {r : Went} {q' : Regs} {n : ℕ} {w₁ : List ℕ} {q₁ : Regs} → length w' ≡ length w → Did z Every (λ L p. wakeIfWider L p k j) w q w' r → r ≡ On q'
+    (g : Walking z x 4096 (λ L p. passTo L p i) (CallIn m c i) h m₀ q₀ w q j) (lt : j < z .insns) where
+  pub param-woken : {k : Kind} {w' : List ℕ} {r : Went} {q' : Regs} {n : ℕ} {w₁ : List ℕ} {q₁ : Regs} → Passes m c z w i j k → length w' ≡ length w → Did z Every (λ L p. wakeIfWider L p k j) w q w' r → r ≡ On q'
       → n ≡ getD x (4096 + j) 0 → w₁ ≡ w' → q₁ ≡ q' → Walking z x 4096 (λ L p. passTo L p i) (CallIn m c i) h m₀ q₀ w₁ q₁ n
-  param-woken len d er en ew eq = rw (ew, eq) (walk-more g lt len (passed-to a d) er en)
+  param-woken a len d er en ew eq = rw (ew, eq) (walk-more g lt len (passed-to a d) er en)
 
-  pub param-kept : {b : 𝔹} {n : ℕ} {w₁ : List ℕ} {q₁ : Regs} → (b ≡ true → Keeps z w k j) → not b ≡ false
+  pub param-kept : {b : 𝔹} {n : ℕ} {w₁ : List ℕ} {q₁ : Regs} → (b ≡ true → Keeps m c z w i j) → not b ≡ false
       → n ≡ getD x (4096 + j) 0 → w₁ ≡ w → q₁ ≡ q → Walking z x 4096 (λ L p. passTo L p i) (CallIn m c i) h m₀ q₀ w₁ q₁ n
-  param-kept {b} f t en ew eq = rw (ew, eq) (walk-more g lt refl (kept-on a (walk-ready g) (f (yes b t))) refl en)
+  param-kept {b} f t en ew eq = rw (ew, eq) (walk-more g lt refl (kept-on (walk-ready g) (f (yes b t))) refl en)
     where
       yes : (b : 𝔹) → not b ≡ false → b ≡ true
       yes true e = refl

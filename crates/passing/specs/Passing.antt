@@ -13,8 +13,6 @@ use Rattle.rules.specs.Lists.{has}
 use Rattle.rules.specs.Program as P
 use Rattle.rules.specs.Program.{Limits, Program, about, opOf, parameters}
 use Rattle.rules.specs.Machine.{Acts, kindOf, wakeIfWider, placeOf, argument}
-use Rattle.program.specs.declared.Op.{Op}
-use Rattle.program.specs.declared.Op.the-variants.{Jump, IfTrue, Return, SendStatic, SendDynamic, Compute, Phi, Param, SelfParam, New, GetIvar, SetIvar}
 use Rattle.program.specs.declared.Counts.{Counts}
 use Rattle.program.specs.View.{view, Ready}
 use Rattle.state.specs.declared.Sizes.{Sizes}
@@ -22,21 +20,6 @@ use Rattle.state.specs.View.{Attrs, kindsOf}
 use Rattle.opnds.specs.Reads.{kindIn}
 use Rattle.index.specs.Chains.{size, ChainIs}
 use Rattle.flows.specs.Tally.{FitsAt}
-
--- a Param's place
-abbrev pub placeIn : Op → ℕ
-placeIn (Jump b) = 0
-placeIn (IfTrue b e) = 0
-placeIn Return = 0
-placeIn (SendStatic f) = 0
-placeIn (SendDynamic m) = 0
-placeIn (Compute o) = 0
-placeIn (Phi b e) = 0
-placeIn (Param n) = n
-placeIn (SelfParam c) = 0
-placeIn (New c) = 0
-placeIn (GetIvar m) = 0
-placeIn (SetIvar m) = 0
 
 -- what passArguments does for one Param
 unfoldable pub passTo : Limits → Program → ℕ → ℕ → Acts (Unit {0})
@@ -61,13 +44,19 @@ pub record Caller (m : List ℕ) (c : Counts) (z : Sizes) (i : ℕ) : Type 0 whe
   pub call : has (about (opOf (view script m c) i) .callee) ≡ true
   pub listed : (k : ℕ) → FitsAt (z .insns) (getD (about (opOf (view script m c) i) .listed) k (P.Const Empty))
 
+-- n is the place of Param j
+pub record Placed (m : List ℕ) (c : Counts) (j n : ℕ) : Type 0 where
+  pub is : (L : Limits) (s : List ℕ) → placeOf L (view s m c) j ≡ n
+
 -- k is the kind of the argument that i has for Param j, if i is a call
 pub record Passes (m : List ℕ) (c : Counts) (z : Sizes) (w : List ℕ) (i j : ℕ) (k : Kind) : Type 0 where
   pub is : (L : Limits) (s : List ℕ) → has (about (opOf (view s m c) i) .callee) ≡ true → k ≡ kindIn (kindsOf z w) (argument L (view s m c) (placeOf L (view s m c) j) i)
 
--- k leaves the kind of instruction j as it is
-abbrev pub Keeps : Sizes → List ℕ → Kind → ℕ → Type 0
-Keeps z w k j = unionOf (getD (kindsOf z w) j Empty) k ≡ Of (getD (kindsOf z w) j Empty)
+-- the kind of the argument that i has for Param j leaves the kind of j as it is
+pub record Keeps (m : List ℕ) (c : Counts) (z : Sizes) (w : List ℕ) (i j : ℕ) : Type 0 where
+  pub kind : Kind
+  pub passes : Passes m c z w i j kind
+  pub same : unionOf (getD (kindsOf z w) j Empty) kind ≡ Of (getD (kindsOf z w) j Empty)
 
 -- the program is the one in memory, and instruction i a call
 pub record CallIn (m : List ℕ) (c : Counts) (i : ℕ) (p : Program) (v : Attrs) : Type 0 where

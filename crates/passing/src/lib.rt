@@ -1,7 +1,8 @@
 // A call passes its arguments to its callee's Params.
+use flows::Words;
+use kinds::Joined;
 use kinds::Kind;
 use program::Counts;
-use program::Op;
 use sets::BlockId;
 use sets::InsnId;
 use state::Regs;
@@ -12,30 +13,26 @@ ghost use mathlib.Core.Path.{_≡_};
 ghost use mathlib.Core.List.{List};
 ghost use Prim.Native.Nat.{ℕ, _<_};
 ghost use lib.ListN.{length};
+ghost use Rattle.kinds.specs.Union.{unionOf};
 ghost use Rattle.rules.specs.Machine.{passArguments};
+ghost use Rattle.program.specs.View.{Ready as Filled};
 ghost use Rattle.state.specs.View.{Held, Ready};
 ghost use Rattle.state.specs.Changes.{Did};
 ghost use Rattle.index.specs.Chains.{ChainIs};
-ghost use Rattle.passing.specs.Passing.{placeIn, HasParams, Caller, Passes, Keeps, PassIn};
+ghost use Rattle.flows.specs.Flows.{wordsOf};
+ghost use Rattle.passing.specs.Passing.{Placed, HasParams, Caller, Passes, Keeps, PassIn};
 
 // A Param's place.
-fn place_of(op: Op) -> usize
-    ensures { λ r. ⌜ r ≡ placeIn op ⌝ }
+fn place_of(p: &[usize], c: Counts, j: InsnId) -> usize
+    requires { ⌜ Filled (now p) c ⌝ }
+    requires { ⌜ j .0 < c .insns ⌝ }
+    ensures { λ r. ⌜ Placed (now (p .entry)) c (j .0) r ⌝ }
 {
-    match op {
-        Op::Jump(_) => 0,
-        Op::IfTrue(_, _) => 0,
-        Op::Return => 0,
-        Op::SendStatic(_) => 0,
-        Op::SendDynamic(_) => 0,
-        Op::Compute(_) => 0,
-        Op::Phi(_, _) => 0,
-        Op::Param(n) => n,
-        Op::SelfParam(_) => 0,
-        Op::New(_) => 0,
-        Op::GetIvar(_) => 0,
-        Op::SetIvar(_) => 0,
+    let at = program::INSNS + 6 * (j.0 as usize);
+    if p[at] == 10 {
+        return p[at + 2];
     }
+    0
 }
 
 // The kind of the argument that call i has for Param j.
@@ -45,21 +42,48 @@ fn passed_kind(p: &[usize], c: Counts, m: &[usize], z: Sizes, i: InsnId, j: Insn
     requires { ⌜ j .0 < z .insns ⌝ }
     ensures { λ r. ⌜ Passes (now (p .entry)) c z (now (m .entry)) (i .0) (j .0) r ⌝ }
 {
-    let row = program::read_insn(p, c, j);
-    let op = row.op;
-    let n = place_of(op);
+    let n = place_of(p, c, j);
     let o = flows::argument(p, c, i, n);
     opnds::kind_of(m, z, o)
 }
 
-// A quick test that k leaves the kind of instruction j as it is.
-fn surely_keeps(m: &[usize], z: Sizes, k: Kind, j: InsnId) -> bool
-    requires { ⌜ Held z (now m) ⌝ }
-    requires { ⌜ j .0 < z .insns ⌝ }
-    ensures { λ r. ⌜ (r ≡ true → Keeps z (now (m .entry)) k (j .0)) ⌝ }
+// A quick test that the union of a with k is a: k is Empty, a is Any, both are sets and k's lies within a's, or they are one kind and no name.
+fn surely_covers(a: Words, k: Words) -> bool
+    ensures { λ r. ⌜ (r ≡ true → unionOf (wordsOf a) (wordsOf k) ≡ Joined.Of (wordsOf a)) ⌝ }
 {
-    let old = state::kind_at(m, z, j);
-    kinds::surely_covers(old, k)
+    if k.tag == 0 {
+        return true;
+    }
+    if 8 < a.tag {
+        return true;
+    }
+    if a.tag != k.tag {
+        return false;
+    }
+    if a.tag == 8 {
+        return (a.bits | k.bits) == a.bits;
+    }
+    if a.tag == 4 {
+        return false;
+    }
+    if a.tag == 5 {
+        return false;
+    }
+    a.bits == k.bits
+}
+
+// A quick test that the argument of call i for Param j leaves the Param's kind as it is.
+fn surely_keeps(p: &[usize], c: Counts, m: &[usize], z: Sizes, i: InsnId, j: InsnId) -> bool
+    requires { ⌜ Held z (now m) ⌝ }
+    requires { ⌜ Caller (now p) c z (i .0) ⌝ }
+    requires { ⌜ j .0 < z .insns ⌝ }
+    ensures { λ r. ⌜ (r ≡ true → Keeps (now (p .entry)) c z (now (m .entry)) (i .0) (j .0)) ⌝ }
+{
+    let n = place_of(p, c, j);
+    let at = flows::argument_at(p, c, i, n);
+    let k = flows::opnd_words(p, m, z, at);
+    let old = flows::insn_words(m, z, j);
+    surely_covers(old, k)
 }
 
 // The Params of a function with this entry wait whose kinds the arguments of call i would change.
@@ -82,8 +106,8 @@ pub fn pass_arguments(
     let mut at = q;
     let mut j = index::first_param(x, entry);
     while (j.0 as usize) < n {
-        let k = passed_kind(p, c, m, z, i, j);
-        if !surely_keeps(m, z, k, j) {
+        if !surely_keeps(p, c, m, z, i, j) {
+            let k = passed_kind(p, c, m, z, i, j);
             match state::wake_if_wider(m, z, at, k, j) {
                 Went::On(next) => {
                     at = next;

@@ -19,11 +19,11 @@ next-caller-requires c κs = search needs
 enum-known-i : tie.Need-enum-known-i Inv-loop μ-loop
 enum-known-i c = search needs
 
-argument-requires : tie.Need-argument-requires Inv-loop μ-loop
-argument-requires c κs = (c .before .before .before .before .before .before .before .pre .1 .0 .ready, caller-below (c .before .before .before .before .before .before .before .args .m .now) (c .before .before .before .before .before .before .before .pre .1 .0) (c .before .before .before .next-caller .ensures) (c .before .i .given .0 .0) (c .before .i .given .1))
+argument-at-requires : tie.Need-argument-at-requires Inv-loop μ-loop
+argument-at-requires c κs = (c .before .before .before .before .before .before .before .pre .1 .0 .ready, caller-below (c .before .before .before .before .before .before .before .args .m .now) (c .before .before .before .before .before .before .before .pre .1 .0) (c .before .before .before .next-caller .ensures) (c .before .i .given .0 .0) (c .before .i .given .1))
 
-kind-of-requires : tie.Need-kind-of-requires Inv-loop μ-loop
-kind-of-requires c κs = (c .before .before .before .before .before .before .before .before .pre .0, caller-inside (c .before .before .before .before .before .before .before .before .args .m .now) (c .before .before .before .before .before .before .before .before .pre .1 .0) (c .before .before .before .before .next-caller .ensures) (c .before .before .before .before .before .before .before .before .args .n) (c .before .before .i .given .0 .0) (c .before .before .i .given .1) (c .argument .ensures))
+opnd-words-requires : tie.Need-opnd-words-requires Inv-loop μ-loop
+opnd-words-requires c κs = (c .argument-at .ensures .inside, (c .before .before .before .before .before .before .before .before .pre .0, caller-inside (c .before .before .before .before .before .before .before .before .args .m .now) (c .before .before .before .before .before .before .before .before .pre .1 .0) (c .before .before .before .before .next-caller .ensures) (c .before .before .before .before .before .before .before .before .args .n) (c .before .before .i .given .0 .0) (c .before .before .i .given .1) (c .argument-at .ensures .is)))
 
 as-set-requires : tie.Need-as-set-requires Inv-loop μ-loop
 as-set-requires c κs = search needs
@@ -35,7 +35,7 @@ enum-told : tie.Need-enum-told Inv-loop μ-loop
 enum-told c = search needs
 
 returns : tie.Need-returns Inv-loop μ-loop
-returns c = sets-other (c .before .before .before .before .before .before .before .before .before .before .before .before .args .m .now) (c .before .before .before .before .before .before .before .before .before .before .before .before .pre .1 .0) (c .before .before .before .before .before .before .before .before .next-caller .ensures) (c .before .before .before .before .before .before .before .before .before .before .before .before .args .n) (c .before .before .before .before .before .before .before .before .before .loop .s) (c .before .before .before .before .before .before .before .before .before .loop .inv) (c .before .before .before .before .before .before .i .given .0 .0) (c .before .before .before .before .before .before .i .given .1) (c .before .before .before .before .argument .ensures) (c .before .before .before .kind-of .ensures) (c .before .before .as-set .ensures) (c .enum-told .given .1)
+returns c = sets-other (c .before .before .before .before .before .before .before .before .before .before .before .before .args .m .now) (c .before .before .before .before .before .before .before .before .before .before .before .before .pre .1 .0) (c .before .before .before .before .before .before .before .before .next-caller .ensures) (c .before .before .before .before .before .before .before .before .before .before .before .before .args .n) (c .before .before .before .before .before .before .before .before .before .loop .s) (c .before .before .before .before .before .before .before .before .before .loop .inv) (c .before .before .before .before .before .before .i .given .0 .0) (c .before .before .before .before .before .before .i .given .1) (c .before .before .before .before .argument-at .ensures .is) (c .before .before .before .opnd-words .ensures) (c .before .before .as-set .ensures) (c .enum-told .given .1)
 
 add-t15 : tie.Need-add-t15 Inv-loop μ-loop
 add-t15 c = caller-fits (c .before .before .before .before .before .before .before .before .before .before .before .before .before .before .args .m .now) (c .before .before .before .before .before .before .before .before .before .before .before .before .before .before .pre .1 .0) (c .before .before .before .before .before .before .before .before .before .before .next-caller .ensures) (c .before .before .before .before .before .before .before .before .before .before .before .before .before .before .pre .0) (c .before .before .before .before .before .before .before .before .i .given .0 .0) (c .before .before .before .before .before .before .before .before .i .given .1)
@@ -44,7 +44,7 @@ loop-less : tie.Need-loop-less Inv-loop μ-loop
 loop-less c = caller-falls (c .before .before .before .before .before .before .before .before .before .before .before .before .before .before .args .m .now) (c .before .before .before .before .before .before .before .before .before .before .before .before .before .before .pre .1 .0) (c .before .before .before .before .before .before .before .before .before .before .next-caller .ensures) (c .before .before .before .before .before .before .before .before .i .given .0 .0) (c .before .before .before .before .before .before .before .before .i .given .1)
 
 loop-again : tie.Need-loop-again Inv-loop μ-loop
-loop-again c = sets-more (c .before .before .before .before .before .before .before .before .before .before .before .before .before .before .args .m .now) (c .before .before .before .before .before .before .before .before .before .before .before .before .before .before .pre .1 .0) (c .before .before .before .before .before .before .before .before .before .before .next-caller .ensures) (c .before .before .before .before .before .before .before .before .before .before .before .before .before .before .args .n) (c .before .before .before .before .before .before .before .before .before .before .before .loop .s) (c .before .before .before .before .before .before .before .before .before .before .before .loop .inv) (c .before .before .before .before .before .before .before .before .i .given .0 .0) (c .before .before .before .before .before .before .before .before .i .given .1) (c .before .before .before .before .before .before .argument .ensures) (c .before .before .before .before .before .kind-of .ensures) (c .before .before .before .before .as-set .ensures) (c .before .before .t .given .0 .0) (c .before .before .t .given .1)
+loop-again c = sets-more (c .before .before .before .before .before .before .before .before .before .before .before .before .before .before .args .m .now) (c .before .before .before .before .before .before .before .before .before .before .before .before .before .before .pre .1 .0) (c .before .before .before .before .before .before .before .before .before .before .next-caller .ensures) (c .before .before .before .before .before .before .before .before .before .before .before .before .before .before .args .n) (c .before .before .before .before .before .before .before .before .before .before .before .loop .s) (c .before .before .before .before .before .before .before .before .before .before .before .loop .inv) (c .before .before .before .before .before .before .before .before .i .given .0 .0) (c .before .before .before .before .before .before .before .before .i .given .1) (c .before .before .before .before .before .before .argument-at .ensures .is) (c .before .before .before .before .before .opnd-words .ensures) (c .before .before .before .before .as-set .ensures) (c .before .before .t .given .0 .0) (c .before .before .t .given .1)
 
 enum-told-2 : tie.Need-enum-told-2 Inv-loop μ-loop
 enum-told-2 c = search needs
@@ -61,8 +61,8 @@ join-sets-spec =
     loop-holds
     next-caller-requires
     enum-known-i
-    argument-requires
-    kind-of-requires
+    argument-at-requires
+    opnd-words-requires
     as-set-requires
     enum-known-t
     enum-told

@@ -22,11 +22,11 @@ loop-holds c = walk-start (c .before .before .before .before .args .z) (c .befor
 cast-if1 : tie.Need-cast-if1 Inv-loop μ-loop
 cast-if1 c = search needs
 
-passed-kind-requires : tie.Need-passed-kind-requires Inv-loop μ-loop
-passed-kind-requires c κs = (walk-ready (c .before .before .before .loop .inv) .held, (c .before .before .before .before .before .before .before .before .pre .1 .0, c .before .if1 .taken))
-
 surely-keeps-requires : tie.Need-surely-keeps-requires Inv-loop μ-loop
-surely-keeps-requires c κs = (walk-ready (c .before .before .before .before .before .loop .inv) .held, c .before .before .before .if1 .taken)
+surely-keeps-requires c κs = (walk-ready (c .before .before .before .loop .inv) .held, (c .before .before .before .before .before .before .before .before .pre .1 .0, c .before .if1 .taken))
+
+passed-kind-requires : tie.Need-passed-kind-requires Inv-loop μ-loop
+passed-kind-requires c κs = (walk-ready (c .before .before .before .before .before .before .loop .inv) .held, (c .before .before .before .before .before .before .before .before .before .before .before .pre .1 .0, c .before .before .before .before .if1 .taken))
 
 wake-if-wider-requires : tie.Need-wake-if-wider-requires Inv-loop μ-loop
 wake-if-wider-requires c κs = (walk-ready (c .before .before .before .before .before .before .before .before .loop .inv), c .before .before .before .before .before .before .if1 .taken)
@@ -41,19 +41,19 @@ same-length : tie.Need-same-length Inv-loop μ-loop
 same-length c = search needs
 
 returns : tie.Need-returns Inv-loop μ-loop
-returns c = params-stop (c .before .before .before .before .before .before .before .before .before .before .before .before .before .before .loop .inv) (c .before .before .before .before .before .before .before .before .before .before .before .before .before .before .before .before .before .before .before .args .entry .0) (c .before .before .before .before .before .before .before .before .before .before .before .before .before .before .before .first-param .ensures) (c .before .before .before .before .before .before .before .before .before .before .before .before .if1 .taken) (passed-to (c .before .before .before .before .before .before .before .before .before .before .passed-kind .ensures) (c .before .before .before .before .before .wake-if-wider .ensures)) (c .before .e .given .1)
+returns c = params-stop (c .before .before .before .before .before .before .before .before .before .before .before .before .before .before .loop .inv) (c .before .before .before .before .before .before .before .before .before .before .before .before .before .before .before .before .before .before .before .args .entry .0) (c .before .before .before .before .before .before .before .before .before .before .before .before .before .before .before .first-param .ensures) (c .before .before .before .before .before .before .before .before .before .before .before .before .if1 .taken) (passed-to (c .before .before .before .before .before .before .before .passed-kind .ensures) (c .before .before .before .before .before .wake-if-wider .ensures)) (c .before .e .given .1)
 
 next-param-requires : tie.Need-next-param-requires Inv-loop μ-loop
-next-param-requires c κs = ((c .before .before .before .before .before .before .before .before .before .before .before .before .pre .1 .1 .long, walk-below (c .before .before .before .before .before .before .before .loop .inv) (c .before .before .before .before .before .if1 .taken)), params-next (c .before .before .before .before .before .before .before .loop .inv) (c .before .before .before .before .before .before .before .before .before .before .before .before .args .entry .0) (c .before .before .before .before .before .before .before .before .first-param .ensures) (c .before .before .before .before .before .before .before .before .before .before .before .before .pre .1 .1) (c .before .before .before .before .before .if1 .taken))
+next-param-requires c κs = ((c .before .before .before .before .before .before .before .before .before .before .pre .1 .1 .long, walk-below (c .before .before .before .before .before .loop .inv) (c .before .before .before .if1 .taken)), params-next (c .before .before .before .before .before .loop .inv) (c .before .before .before .before .before .before .before .before .before .before .args .entry .0) (c .before .before .before .before .before .before .first-param .ensures) (c .before .before .before .before .before .before .before .before .before .before .pre .1 .1) (c .before .before .before .if1 .taken))
 
 loop-less : tie.Need-loop-less Inv-loop μ-loop
-loop-less c = params-fall (c .before .before .before .before .before .before .before .before .loop .inv) (c .before .before .before .before .before .before .before .before .before .before .before .before .before .args .entry .0) (c .before .before .before .before .before .before .before .before .before .first-param .ensures) (c .before .before .before .before .before .before .before .before .before .before .before .before .before .pre .1 .1) (c .before .before .before .before .before .before .if1 .taken) (c .next-param .ensures)
+loop-less c = params-fall (c .before .before .before .before .before .before .loop .inv) (c .before .before .before .before .before .before .before .before .before .before .before .args .entry .0) (c .before .before .before .before .before .before .before .first-param .ensures) (c .before .before .before .before .before .before .before .before .before .before .before .pre .1 .1) (c .before .before .before .before .if1 .taken) (c .next-param .ensures)
 
 loop-again : tie.Need-loop-again Inv-loop μ-loop
 loop-again c =
     ⊎-elim
-    (λ w. param-woken (c .before .before .before .before .before .before .before .before .loop .inv) (c .before .before .before .before .passed-kind .ensures) (c .before .before .before .before .before .before .if1 .taken) (w .2 .kept .0) (w .2 .ensures) (w .6 .given .1) (c .next-param .ensures) (w .8) (w .9))
-    (λ w. param-kept (c .before .before .before .before .before .before .before .before .loop .inv) (c .before .before .before .before .passed-kind .ensures) (c .before .before .before .before .before .before .if1 .taken) (c .before .before .surely-keeps .ensures) (w .0 .left) (c .next-param .ensures) (w .1) (w .2))
+    (λ w. param-woken (c .before .before .before .before .before .before .loop .inv) (c .before .before .before .before .if1 .taken) (w .2 .ensures) (w .4 .kept .0) (w .4 .ensures) (w .8 .given .1) (c .next-param .ensures) (w .10) (w .11))
+    (λ w. param-kept (c .before .before .before .before .before .before .loop .inv) (c .before .before .before .before .if1 .taken) (c .before .before .surely-keeps .ensures) (w .0 .left) (c .next-param .ensures) (w .1) (w .2))
     (c .before .if2 .came)
 
 same-length-2 : tie.Need-same-length-2 Inv-loop μ-loop
@@ -71,8 +71,8 @@ pass-arguments-spec =
     first-param-requires
     loop-holds
     cast-if1
-    passed-kind-requires
     surely-keeps-requires
+    passed-kind-requires
     wake-if-wider-requires
     enum-known-next
     enum-known-e

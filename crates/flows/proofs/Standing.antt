@@ -1,0 +1,81 @@
+-- Where an operand stands, and its kind in words. Assumes nothing.
+use mathlib.Core.Path.{_≡_, refl, sym, _∙_}
+use mathlib.Core.List.{List}
+use Prim.Native.Nat.{ℕ, zero, suc, _+_, _%_, _^_, _<_}
+use borrow.Author.Tests.{ne-eqb}
+use lib.ListN.{getD}
+use Rattle.kinds.specs.declared.Kind.{Kind}
+use Rattle.kinds.specs.declared.Kind.the-variants.{Empty}
+use Rattle.kinds.specs.Kinds.{kindFrom}
+use Rattle.program.specs.declared.Counts.{Counts}
+use Rattle.program.specs.declared.Opnd.{Opnd}
+use Rattle.program.specs.declared.Opnd.the-variants.{Const, Insn}
+use Rattle.program.specs.Rows.{opndOf, opndAt}
+use Rattle.program.proofs.Forms.{opnd-insn, opnd-const}
+use Rattle.state.specs.declared.Sizes.{Sizes}
+use Rattle.opnds.specs.Reads.{Inside, kindIn}
+use Rattle.opnds.proofs.Given.{inside-at, const-read, insn-read}
+use Rattle.flows.specs.declared.AsSet.the-variants.{Set, Other}
+use Rattle.flows.specs.Flows.{Argues, standing, ArguesAt, asSet}
+
+module _ (m : List ℕ) {at : ℕ} where
+  pub stands-none : at ≡ 0 → standing m at ≡ Const Empty
+  unfolding standing
+  stands-none e = rw e
+
+  pub stands : (at ≡ 0 → ⊥) → standing m at ≡ opndAt m at
+  unfolding standing
+  stands h = rw (ne-eqb at 0 h)
+
+  stands-insn : (at ≡ 0 → ⊥) → getD m at 0 ≡ 10 → standing m at ≡ Insn (record { 0 = getD m (at + 1) 0 % 2 ^ 32 })
+  stands-insn h e = stands h ∙ sym (opnd-insn (getD m (at + 1) 0) e)
+
+  stands-const : (at ≡ 0 → ⊥) → (getD m at 0 ≡ 10 → ⊥) → standing m at ≡ Const (kindFrom (getD m at 0) (getD m (at + 1) 0))
+  stands-const h e = stands h ∙ sym (opnd-const (getD m (at + 1) 0) e refl)
+
+  pub stands-inside : (z : Sizes) → Inside z (standing m at) → (at ≡ 0 → ⊥) → getD m at 0 ≡ 10 → getD m (at + 1) 0 % 2 ^ 32 < z .insns
+  stands-inside z g h e = inside-at z (record { 0 = getD m (at + 1) 0 % 2 ^ 32 }) g (stands-insn h e)
+
+  module _ {c : Counts} {i n : ℕ} (a : ArguesAt m c i n at) where
+    argues : {o : Opnd} → standing m at ≡ o → Argues m c i n o
+    argues e = rw e at (a .is)
+
+    pub argues-none : at ≡ 0 → Argues m c i n (Const Empty)
+    argues-none e = argues (stands-none e)
+
+    pub argues-some : {o : Opnd} → (at ≡ 0 → ⊥) → o ≡ opndAt m at → Argues m c i n o
+    argues-some h e = argues (stands h ∙ sym e)
+
+  module _ (ks : List Kind) where
+    pub words-none : at ≡ 0 → kindFrom 0 0 ≡ kindIn ks (opndOf (standing m at))
+    unfolding kindFrom
+    words-none e = const-read ks Empty (stands-none e)
+
+    pub words-insn : {k : Kind} → (at ≡ 0 → ⊥) → getD m at 0 ≡ 10 → k ≡ getD ks (getD m (at + 1) 0 % 2 ^ 32) Empty → k ≡ kindIn ks (opndOf (standing m at))
+    words-insn h e g = insn-read ks (record { 0 = getD m (at + 1) 0 % 2 ^ 32 }) (stands-insn h e) g
+
+    pub words-const : (at ≡ 0 → ⊥) → (getD m at 0 ≡ 10 → ⊥) → kindFrom (getD m at 0) (getD m (at + 1) 0) ≡ kindIn ks (opndOf (standing m at))
+    words-const h e = const-read ks (kindFrom (getD m at 0) (getD m (at + 1) 0)) (stands-const h e)
+
+-- ---- words as a set
+
+pub objects-set : {t : ℕ} (x : ℕ) → t ≡ 8 → Set x ≡ asSet (kindFrom t x)
+unfolding kindFrom
+objects-set x e = rw e
+
+pub empty-set : {t : ℕ} (x : ℕ) → t ≡ 0 → Set 0 ≡ asSet (kindFrom t x)
+unfolding kindFrom
+empty-set x e = rw e
+
+pub no-set : (t x : ℕ) → (t ≡ 8 → ⊥) → (t ≡ 0 → ⊥) → Other ≡ asSet (kindFrom t x)
+unfolding kindFrom
+no-set zero x h8 h0 = absurd (h0 refl)
+no-set (suc zero) x h8 h0 = refl
+no-set (suc (suc zero)) x h8 h0 = refl
+no-set (suc (suc (suc zero))) x h8 h0 = refl
+no-set (suc (suc (suc (suc zero)))) x h8 h0 = refl
+no-set (suc (suc (suc (suc (suc zero))))) x h8 h0 = refl
+no-set (suc (suc (suc (suc (suc (suc zero)))))) x h8 h0 = refl
+no-set (suc (suc (suc (suc (suc (suc (suc zero))))))) x h8 h0 = refl
+no-set (suc (suc (suc (suc (suc (suc (suc (suc zero)))))))) x h8 h0 = absurd (h8 refl)
+no-set (suc (suc (suc (suc (suc (suc (suc (suc (suc n))))))))) x h8 h0 = refl
