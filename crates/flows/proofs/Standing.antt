@@ -3,10 +3,12 @@ use mathlib.Core.Path.{_≡_, refl, sym, _∙_}
 use mathlib.Core.List.{List}
 use Prim.Native.Nat.{ℕ, zero, suc, _+_, _%_, _^_, _<_}
 use borrow.Author.Tests.{ne-eqb}
+use native.Mathlib.Omega.{arith}
+use lib.Dec.{eqb}
 use lib.ListN.{getD}
 use Rattle.kinds.specs.declared.Kind.{Kind}
 use Rattle.kinds.specs.declared.Kind.the-variants.{Empty}
-use Rattle.kinds.specs.Kinds.{kindFrom}
+use Rattle.kinds.specs.Kinds.{kindFrom, isSet}
 use Rattle.program.specs.declared.Counts.{Counts}
 use Rattle.program.specs.declared.Opnd.{Opnd}
 use Rattle.program.specs.declared.Opnd.the-variants.{Const, Insn}
@@ -67,15 +69,32 @@ pub empty-set : {t : ℕ} (x : ℕ) → t ≡ 0 → Set 0 ≡ asSet (kindFrom t 
 unfolding kindFrom
 empty-set x e = rw e
 
-pub no-set : (t x : ℕ) → (t ≡ 8 → ⊥) → (t ≡ 0 → ⊥) → Other ≡ asSet (kindFrom t x)
+pub nil-set : {t : ℕ} (x : ℕ) → t ≡ 1 → Set 1 ≡ asSet (kindFrom t x)
 unfolding kindFrom
-no-set zero x h8 h0 = absurd (h0 refl)
-no-set (suc zero) x h8 h0 = refl
-no-set (suc (suc zero)) x h8 h0 = refl
-no-set (suc (suc (suc zero))) x h8 h0 = refl
-no-set (suc (suc (suc (suc zero)))) x h8 h0 = refl
-no-set (suc (suc (suc (suc (suc zero))))) x h8 h0 = refl
-no-set (suc (suc (suc (suc (suc (suc zero)))))) x h8 h0 = refl
-no-set (suc (suc (suc (suc (suc (suc (suc zero))))))) x h8 h0 = refl
-no-set (suc (suc (suc (suc (suc (suc (suc (suc zero)))))))) x h8 h0 = absurd (h8 refl)
-no-set (suc (suc (suc (suc (suc (suc (suc (suc (suc n))))))))) x h8 h0 = refl
+nil-set x e = rw e
+
+pub no-set : (t x : ℕ) → (t ≡ 8 → ⊥) → (t ≡ 0 → ⊥) → (t ≡ 1 → ⊥) → Other ≡ asSet (kindFrom t x)
+unfolding kindFrom
+no-set zero x h8 h0 h1 = absurd (h0 refl)
+no-set (suc zero) x h8 h0 h1 = absurd (h1 refl)
+no-set (suc (suc zero)) x h8 h0 h1 = refl
+no-set (suc (suc (suc zero))) x h8 h0 h1 = refl
+no-set (suc (suc (suc (suc zero)))) x h8 h0 h1 = refl
+no-set (suc (suc (suc (suc (suc zero))))) x h8 h0 h1 = refl
+no-set (suc (suc (suc (suc (suc (suc zero)))))) x h8 h0 h1 = refl
+no-set (suc (suc (suc (suc (suc (suc (suc zero))))))) x h8 h0 h1 = refl
+no-set (suc (suc (suc (suc (suc (suc (suc (suc zero)))))))) x h8 h0 h1 = absurd (h8 refl)
+no-set (suc (suc (suc (suc (suc (suc (suc (suc (suc n))))))))) x h8 h0 h1 = refl
+
+pub is-set : (t x : ℕ) → eqb t 8 ≡ isSet (kindFrom t x)
+unfolding kindFrom
+is-set zero x = refl
+is-set (suc zero) x = refl
+is-set (suc (suc zero)) x = refl
+is-set (suc (suc (suc zero))) x = refl
+is-set (suc (suc (suc (suc zero)))) x = refl
+is-set (suc (suc (suc (suc (suc zero))))) x = refl
+is-set (suc (suc (suc (suc (suc (suc zero)))))) x = refl
+is-set (suc (suc (suc (suc (suc (suc (suc zero))))))) x = refl
+is-set (suc (suc (suc (suc (suc (suc (suc (suc zero)))))))) x = refl
+is-set (suc (suc (suc (suc (suc (suc (suc (suc (suc n))))))))) x = ne-eqb (suc (suc (suc (suc (suc (suc (suc (suc (suc n))))))))) 8 (λ e. omega arith)

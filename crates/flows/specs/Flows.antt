@@ -1,5 +1,5 @@
 -- What the passes promise over the operands of callers. Assumes nothing.
-use mathlib.Core.Bool.{Bool as 𝔹, true, cond}
+use mathlib.Core.Bool.{Bool as 𝔹, true, cond, _||_}
 use mathlib.Core.Path.{_≡_}
 use mathlib.Core.List.{List, [], _∷_, map}
 use Prim.Native.Nat.{ℕ, _+_, _<_}
@@ -8,7 +8,8 @@ use lib.Dec.{eqb}
 use lib.ListN.{length, getD}
 use Rattle.kinds.specs.declared.Kind.{Kind}
 use Rattle.kinds.specs.declared.Kind.the-variants.{Empty, Nil, Num, Truth, Fun, Class, Int, Bool, Objects, Any}
-use Rattle.kinds.specs.Kinds.{kindFrom}
+use Rattle.kinds.specs.Kinds.{kindFrom, isSet}
+use Rattle.kinds.specs.Union.{setOf}
 use Rattle.rules.specs.Lists.{has}
 use Rattle.rules.specs.Program as P
 use Rattle.rules.specs.Program.{Limits, Program, Param, about, opOf, functionOf}
@@ -78,10 +79,10 @@ pub record PassedIn (m : List ℕ) (c : Counts) (z : Sizes) (w : List ℕ) (f n 
   pub passed : (L : Limits) (s : List ℕ) → Sound (view s m c) (z .insns) (calledOf z w)
       → Passed (kindsOf z w) (map (argumentOf L (view s m c) n) (marksFrom (calledOf z w) f k)) x y
 
--- a kind as a set
+-- a kind as a set: Nil is that of its class
 abbrev pub asSet : Kind → AsSet
 asSet Empty = Set 0
-asSet Nil = Other
+asSet Nil = Set (setOf Nil)
 asSet (Num n) = Other
 asSet (Truth t) = Other
 asSet (Fun f) = Other
@@ -91,15 +92,15 @@ asSet Bool = Other
 asSet (Objects s) = Set s
 asSet Any = Other
 
--- the union of s with the kinds of operands, if all are sets
-unfoldable pub joinSets : List Kind → ℕ → List P.Opnd → AsSet
-joinSets ks s [] = Set s
-joinSets ks s (o ∷ l) = elim (asSet (kindIn ks o)) [ Set t ↦ joinSets ks (bitOr s t) l | Other ↦ Other ]
+-- the union of s with the kinds of operands, if all are sets, Empty or Nil: 0 unless one is a set, of them or before (b)
+unfoldable pub joinSets : List Kind → 𝔹 → ℕ → List P.Opnd → AsSet
+joinSets ks b s [] = Set (cond b s 0)
+joinSets ks b s (o ∷ l) = elim (asSet (kindIn ks o)) [ Set t ↦ joinSets ks (b || isSet (kindIn ks o)) (bitOr s t) l | Other ↦ Other ]
 
 -- of the arguments for place n of the callers of f that are not below k
-pub record SetsFrom (m : List ℕ) (c : Counts) (z : Sizes) (w : List ℕ) (f n k s : ℕ) (r : AsSet) : Type 0 where
+pub record SetsFrom (m : List ℕ) (c : Counts) (z : Sizes) (w : List ℕ) (f n k : ℕ) (b : 𝔹) (s : ℕ) (r : AsSet) : Type 0 where
   pub passed : (L : Limits) (u : List ℕ) → Sound (view u m c) (z .insns) (calledOf z w)
-      → r ≡ joinSets (kindsOf z w) s (map (argumentOf L (view u m c) n) (marksFrom (calledOf z w) f k))
+      → r ≡ joinSets (kindsOf z w) b s (map (argumentOf L (view u m c) n) (marksFrom (calledOf z w) f k))
 
 -- instruction i is the Param with place n of function f
 pub record ParamIs (m : List ℕ) (c : Counts) (z : Sizes) (t : List (List 𝔹)) (i f n : ℕ) (p : Program) (v : Attrs) : Type 0 where

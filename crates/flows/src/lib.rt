@@ -7,6 +7,7 @@ use sets::FunId;
 use sets::InsnId;
 use state::NextInsn;
 use state::Sizes;
+ghost use mathlib.Core.Bool.{false};
 ghost use mathlib.Core.Path.{_≡_};
 ghost use mathlib.Core.List.{[], _∷_};
 ghost use Prim.Native.Nat.{ℕ, _+_, _<_};
@@ -40,7 +41,7 @@ pub struct Words {
     pub bits: usize,
 }
 
-// A set of classes, Empty being the empty one; or another kind.
+// A set of classes, Empty being the empty one and Nil that of its class; or another kind.
 enum AsSet {
     Set(u64),
     Other,
@@ -227,16 +228,20 @@ fn as_set(k: Words) -> AsSet
     if k.tag == 0 {
         return AsSet::Set(0);
     }
+    if k.tag == 1 {
+        return AsSet::Set(1);
+    }
     AsSet::Other
 }
 
-// The union of the kinds of the arguments for place n of the callers of f, if all are sets.
+// The union of the kinds of the arguments for place n of the callers of f, if all are sets, Empty or Nil: 0 where none is a set.
 fn join_sets(p: &[usize], c: Counts, m: &[usize], z: Sizes, f: FunId, n: usize) -> AsSet
     requires { ⌜ Held z (now m) ⌝ }
     requires { ⌜ Known (now p) c z (calledOf z (now m)) ⌝ }
     requires { ⌜ f .0 < z .functions ⌝ }
-    ensures { λ r. ⌜ SetsFrom (now (p .entry)) c z (now (m .entry)) (f .0) n 0 0 r ⌝ }
+    ensures { λ r. ⌜ SetsFrom (now (p .entry)) c z (now (m .entry)) (f .0) n 0 false 0 r ⌝ }
 {
+    let mut met = false;
     let mut s = 0;
     let mut from = InsnId(0);
     loop {
@@ -246,6 +251,7 @@ fn join_sets(p: &[usize], c: Counts, m: &[usize], z: Sizes, f: FunId, n: usize) 
                 let k = opnd_words(p, m, z, at);
                 match as_set(k) {
                     AsSet::Set(t) => {
+                        met = met | (k.tag == 8);
                         s = s | t;
                     }
                     AsSet::Other => {
@@ -255,7 +261,10 @@ fn join_sets(p: &[usize], c: Counts, m: &[usize], z: Sizes, f: FunId, n: usize) 
                 from = InsnId(i.0 + 1);
             }
             NextInsn::Done => {
-                return AsSet::Set(s);
+                if met {
+                    return AsSet::Set(s);
+                }
+                return AsSet::Set(0);
             }
         }
     }
