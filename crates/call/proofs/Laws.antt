@@ -98,8 +98,8 @@ module _ (s p : List ℕ) (c : Counts) (u u₁ m : List ℕ) {r : Went} (h : Par
   image y = ifAnswered y (λ e. answered (imageOf (recordOf P e)))
 
   -- the number of a refusal is a question's
-  pub program-number : {n : ℕ} → r ≡ No n → n ≤ 20
-  program-number {n} e = andThen (start-fine limits P) (λ x q. run-fine limits P (bound P) x) .refuses n (sym (rw e at ends)) .1
+  pub program-number : {n : ℕ} → r ≡ No n → n < 256
+  program-number {n} e = omega (arith, andThen (start-fine limits P) (λ x q. run-fine limits P (bound P) x) .refuses n (sym (rw e at ends)) .1)
 
   pub program-refused : {n : ℕ} (a : List ℕ) → r ≡ No n → found (Refused n) a ≡ analyzed P
   unfolding analyzed image
@@ -169,8 +169,8 @@ number-of s n e = go (leb (length s) (limits .script)) refl
     go false h = let z : refused n ≡ refused 1 = sym e ∙ too-long-refused limits s h in let i : n ≡ 1 = cc in omega arith
 
 module _ (s t : List ℕ) {r : Readout} (g : ReadsScript s t r) where
-  pub reading-number : {n : ℕ} → r ≡ R.Refused n → n ≤ 20
-  reading-number {n} e = number-of s n (sym ((rw e at g) .is))
+  pub reading-number : {n : ℕ} → r ≡ R.Refused n → n < 256
+  reading-number {n} e = omega (arith, number-of s n (sym ((rw e at g) .is)))
 
   pub reading-refused : {n : ℕ} (a : List ℕ) → r ≡ R.Refused n → found (Refused n) a ≡ imaged (analyze limits s)
   reading-refused {n} a e = sym (imaged-no s n (sym ((rw e at g) .is)))

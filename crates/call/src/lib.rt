@@ -69,7 +69,10 @@ fn analyze_program(
             publish_state(state, c, q.count, answer);
             Outcome::Answered
         }
-        Went::No(n) => Outcome::Refused(n as u8),
+        Went::No(n) => {
+            let number = n as u8;
+            Outcome::Refused(number)
+        }
     }
 }
 
@@ -88,7 +91,10 @@ fn analyze_script(
             memory::clear(answer);
             analyze_program(script, answer, program, state, c)
         }
-        reader::Outcome::Refused(n) => Outcome::Refused(n as u8),
+        reader::Outcome::Refused(n) => {
+            let number = n as u8;
+            Outcome::Refused(number)
+        }
     }
 }
 

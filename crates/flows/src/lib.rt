@@ -166,7 +166,7 @@ pub fn insn_words(m: &[usize], z: Sizes, i: InsnId) -> Words
     let at = i.0 as usize;
     Words {
         tag: m[at],
-        bits: m[2048 + at],
+        bits: m[state::BITS + at],
     }
 }
 

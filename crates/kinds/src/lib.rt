@@ -249,19 +249,6 @@ pub fn union(a: Kind, b: Kind) -> Joined
     union_of(a, b)
 }
 
-// A quick test that the union of a with k is a: k is Empty, or both are sets and k's lies within a's.
-pub fn surely_covers(a: Kind, k: Kind) -> bool
-    ensures { λ r. ⌜ (r ≡ true → unionOf a k ≡ Joined.Of a) ⌝ }
-{
-    if let Kind::Objects(t) = k {
-        if let Kind::Objects(s) = a {
-            return (s | t) == s;
-        }
-        return false;
-    }
-    k.is_empty()
-}
-
 // A step of the union of many.
 pub fn join(j: Joined, k: Kind) -> Joined
     ensures { λ r. ⌜ r ≡ joinOf j k ⌝ }

@@ -60,7 +60,7 @@ pub struct TakenBlock {
 }
 
 // Where the tables start; kind bytes stand at 0.
-const BITS: usize = 2048;
+pub const BITS: usize = 2048;
 
 pub const LIVE: usize = 4096;
 

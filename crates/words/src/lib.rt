@@ -56,7 +56,7 @@ pub enum Lexed {
 pub enum Glimpse {
     Sign(u8, usize),
     Other,
-    Refused(u8),
+    Refused(usize),
 }
 
 // A literal's value, where i64 holds it.
@@ -347,8 +347,8 @@ fn word_at(s: &[u8], at: usize) -> Lexed
     Lexed::Refused(3)
 }
 
-// The next word where only signs are told apart: the letters of a word need not be read.
-pub fn glance(s: &[u8], at: usize) -> Glimpse
+// The next word from a place on, where only signs are told apart: the letters of a word need not be read.
+fn sign_at(s: &[u8], at: usize) -> Glimpse
     ensures { λ r. ⌜ Glances (now (s .entry)) at r ⌝ }
 {
     let start = skip_blank(s, at);
@@ -403,4 +403,18 @@ pub fn read_word(s: &[u8], at: usize) -> Lexed
     ensures { λ r. ⌜ Lexes (now (s .entry)) at r ⌝ }
 {
     next(new(s, at))
+}
+
+// The next word from the reader's place on, where only signs are told apart.
+pub fn next_sign<'a>(r: Reader<'a>) -> Glimpse
+    ensures { λ x. ⌜ Glances (now (r .entry .src)) (r .entry .at) x ⌝ }
+{
+    sign_at(r.src, r.at)
+}
+
+// The same of a reader at that place.
+pub fn glance(s: &[u8], at: usize) -> Glimpse
+    ensures { λ r. ⌜ Glances (now (s .entry)) at r ⌝ }
+{
+    next_sign(new(s, at))
 }

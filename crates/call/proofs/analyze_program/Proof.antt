@@ -1,4 +1,4 @@
-use Rattle.call.proofs.Laws.{given, program-refused, program-answered, held-after, answer-kept, blocks-few}
+use Rattle.call.proofs.Laws.{given, program-number, program-refused, program-answered, held-after, answer-kept, blocks-few}
 use borrow.Author.Needs.{needs}
 use Rattle.call.proofs.analyze_program.Statement.{statement}
 use Rattle.call.proofs.analyze_program.Tie as tie
@@ -14,6 +14,9 @@ publish-state-requires c κs = (search held-after, (search answer-kept, search b
 
 enum-known-n : tie.Need-enum-known-n
 enum-known-n c = search needs
+
+cast-number : tie.Need-cast-number
+cast-number c = search program-number
 
 same-length : tie.Need-same-length
 same-length c = search needs
@@ -47,6 +50,7 @@ analyze-program-spec =
     enum-known-q
     publish-state-requires
     enum-known-n
+    cast-number
     same-length
     same-length-2
     same-length-3

@@ -1,4 +1,4 @@
-use Rattle.call.proofs.Laws.{reading-refused, reading-finished, parsed, fresh, sized-kept}
+use Rattle.call.proofs.Laws.{reading-number, reading-refused, reading-finished, parsed, fresh, sized-kept}
 use borrow.Author.Needs.{needs}
 use Rattle.call.proofs.analyze_script.Statement.{statement}
 use Rattle.call.proofs.analyze_script.Tie as tie
@@ -17,6 +17,9 @@ analyze-program-requires c κs = (search parsed, search fresh)
 
 enum-known-n : tie.Need-enum-known-n
 enum-known-n c = search needs
+
+cast-number : tie.Need-cast-number
+cast-number c = search reading-number
 
 same-length : tie.Need-same-length
 same-length c = search needs
@@ -48,6 +51,7 @@ analyze-script-spec =
     clear-requires
     analyze-program-requires
     enum-known-n
+    cast-number
     same-length
     same-length-2
     same-length-3
