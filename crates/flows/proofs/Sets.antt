@@ -1,21 +1,22 @@
--- Where all kinds are sets, Empty or Nil, and one is a set, their union is the union of the sets, in any order. Assumes nothing.
-use mathlib.Core.Bool.{Bool as 𝔹, true, false, cond, _&&_, _||_}
-use mathlib.Core.Logic.{_⊎_, inl, inr}
+-- Where no kind is a name or Any, and one is a set, their union is the union of their classes, in any order. Assumes nothing.
+use mathlib.Core.Bool.{Bool as 𝔹, true, false, cond, _&&_, _||_, or-self as or-self𝔹}
 use mathlib.Core.Path.{_≡_, refl, sym, ap, _∙_}
 use mathlib.Core.List.{List, [], _∷_, map}
 use Prim.Native.Nat.{ℕ, _<_, _≤_}
 use native.Mathlib.Omega.{arith}
 use borrow.Author.Tests.{lt-ltb, le-ltb}
 use lib.Dec.{ltb}
-use lib.Bits.{bitOr, or-zero-l, or-zero-r, or-self}
-use Rattle.sets.proofs.Bits.{Either, yes, no, either}
+use lib.Bits.{bitOr, or-zero-l, or-zero-r, or-comm, or-self}
+use Rattle.sets.proofs.Bits.{or-assoc, Either, yes, no, either}
 use Rattle.kinds.specs.declared.Kind.{Kind}
 use Rattle.kinds.specs.declared.Kind.the-variants.{Empty, Nil, Num, Truth, Fun, Class, Int, Bool, Objects, Any}
 use Rattle.kinds.specs.declared.Joined.{Joined}
 use Rattle.kinds.specs.declared.Joined.the-variants.{Of}
-use Rattle.kinds.specs.Kinds.{sameOf, isSet, isAny}
-use Rattle.kinds.specs.Union.{setOf, mixOf, lub, unionOf, joinOf, unionAll}
-use Rattle.kinds.proofs.Laws.{union-idem, union-sets}
+use Rattle.kinds.specs.Kinds.{sameOf, isEmpty, isName, isSet, isAny}
+use Rattle.kinds.specs.Union.{setOf, isAlone, mixOf, lub, unionOf, joinOf, unionAll}
+use Rattle.kinds.proofs.Lub.{lub-comm, lub-assoc}
+use Rattle.kinds.proofs.Laws.{union-plain, union-sets, lub-plain}
+use Rattle.kinds.proofs.Steps.{empty-is}
 use Rattle.rules.specs.Program.{Opnd, Const, Insn, sameOpnd}
 use Rattle.rules.specs.Machine.{opndSet}
 use Rattle.opnds.specs.Reads.{kindIn}
@@ -29,63 +30,75 @@ use Rattle.flows.proofs.Whole.{union-over}
 never : {A : Type 0} {u : ℕ} → Other ≡ Set u → A
 never e = let z : _≡_ {A = ℕ} 0 1 = cc in absurd (omega arith)
 
--- the union of Nils, or of Nils and sets whose union with Nil's is s
-abbrev kindOf : 𝔹 → ℕ → Kind
-kindOf true s = Objects s
-kindOf false s = Nil
-
-abbrev Fine : 𝔹 → ℕ → Type 0
-Fine true s = Unit {0}
-Fine false s = s ≡ setOf Nil
-
-set-is : (k : Kind) (u : ℕ) → asSet k ≡ Set u → ((k ≡ Empty) × (u ≡ 0)) ⊎ ((k ≡ kindOf (isSet k) u) × Fine (isSet k) u)
-set-is Empty u e = inl (refl, cc)
-set-is Nil u e = inr (refl, cc)
-set-is (Num n) u e = never e
-set-is (Truth t) u e = never e
-set-is (Fun f) u e = never e
-set-is (Class c) u e = never e
-set-is Int u e = never e
-set-is Bool u e = never e
-set-is (Objects s) u e = inr (ap Objects cc, tt)
-set-is Any u e = never e
-
-set-not-any : (k : Kind) (u : ℕ) → asSet k ≡ Set u → isAny k ≡ false
-set-not-any Empty u e = refl
-set-not-any Nil u e = refl
-set-not-any (Num n) u e = never e
-set-not-any (Truth t) u e = never e
-set-not-any (Fun f) u e = never e
-set-not-any (Class c) u e = never e
-set-not-any Int u e = never e
-set-not-any Bool u e = never e
-set-not-any (Objects s) u e = refl
-set-not-any Any u e = never e
-
-union-right : (s : ℕ) → unionOf (Objects s) Nil ≡ Of (Objects (bitOr s (setOf Nil)))
-unfolding unionOf lub mixOf sameOf
-union-right s = refl
-
-union-left : (u : ℕ) → unionOf Nil (Objects u) ≡ Of (Objects (bitOr (setOf Nil) u))
-unfolding unionOf lub mixOf sameOf
-union-left u = refl
-
-union-both : (b d : 𝔹) (s u : ℕ) → Fine b s → Fine d u → (unionOf (kindOf b s) (kindOf d u) ≡ Of (kindOf (b || d) (bitOr s u))) × Fine (b || d) (bitOr s u)
-union-both true true s u f g = (union-sets s u, tt)
-union-both true false s u f g = (rw g (union-right s), tt)
-union-both false true s u f g = (rw f (union-left u), tt)
-union-both false false s u f g = (union-idem Nil refl, rw (f, g) (or-self (setOf Nil)))
-
--- the same once more
-union-same : (b d : 𝔹) (s u : ℕ) → Fine b s → Fine d u → kindOf d u ≡ kindOf b s → ((b || d) ≡ b) × (bitOr s u ≡ s)
-union-same true true s u f g e = (refl, ap (bitOr s) (ap setOf e) ∙ or-self s)
-union-same true false s u f g e = let z : _≡_ {A = ℕ} 0 1 = cc in absurd (omega arith)
-union-same false true s u f g e = let z : _≡_ {A = ℕ} 0 1 = cc in absurd (omega arith)
-union-same false false s u f g e = (refl, rw (f, g) (or-self (setOf Nil)))
+or-parts : (a b : 𝔹) → (a || b) ≡ false → (a ≡ false) × (b ≡ false)
+or-parts true b h = let z : _≡_ {A = ℕ} 0 1 = cc in absurd (omega arith)
+or-parts false b h = (refl, h)
 
 or-none : (b : 𝔹) → (b || false) ≡ b
 or-none true = refl
 or-none false = refl
+
+-- ---- one kind
+
+-- neither a name nor Any
+classes-are : (k : Kind) (u : ℕ) → asSet k ≡ Set u → (isAlone k ≡ false) × (u ≡ setOf k)
+classes-are k u e = go (either (isAlone k))
+  where
+    go : Either (isAlone k) → (isAlone k ≡ false) × (u ≡ setOf k)
+    go (yes p) = never (rw p at e)
+    go (no p) = let z : Set (setOf k) ≡ Set u = rw p at e in (p, cc)
+
+not-any : (k : Kind) (u : ℕ) → asSet k ≡ Set u → isAny k ≡ false
+not-any k u e = or-parts (isName k) (isAny k) (classes-are k u e .0) .1
+
+set-is : (k : Kind) → isSet k ≡ true → k ≡ Objects (setOf k)
+set-is Empty h = cc
+set-is Nil h = cc
+set-is (Num n) h = cc
+set-is (Truth t) h = cc
+set-is (Fun f) h = cc
+set-is (Class c) h = cc
+set-is Int h = cc
+set-is Bool h = cc
+set-is (Objects s) h = refl
+set-is Any h = cc
+
+sets-lub : (s x : ℕ) → lub (Objects s) (Objects x) ≡ Objects (bitOr s x)
+sets-lub s x = let e : Of (lub (Objects s) (Objects x)) ≡ Of (Objects (bitOr s x)) = sym (union-plain (Objects s) (Objects x) refl refl) ∙ union-sets s x in cc
+
+with-set : (k : Kind) (x : ℕ) → isAlone k ≡ false → isEmpty k ≡ false → lub k (Objects x) ≡ Objects (bitOr (setOf k) x)
+unfolding lub mixOf sameOf
+with-set Empty x a e = cc
+with-set Nil x a e = refl
+with-set (Num n) x a e = refl
+with-set (Truth t) x a e = refl
+with-set (Fun f) x a e = cc
+with-set (Class c) x a e = cc
+with-set Int x a e = refl
+with-set Bool x a e = refl
+with-set (Objects s) x a e = sets-lub s x
+with-set Any x a e = cc
+
+-- ---- joined kinds: with a set among them (b) they are one, and if not, a set that joins them has their classes too
+
+abbrev Absorbs : 𝔹 → Kind → ℕ → Type 0
+Absorbs true j s = j ≡ Objects s
+Absorbs false j s = (x : ℕ) → lub j (Objects x) ≡ Objects (bitOr s x)
+
+one-absorbs : (k : Kind) → isAlone k ≡ false → isEmpty k ≡ false → Absorbs (isSet k) k (setOf k)
+one-absorbs k a e = go (either (isSet k))
+  where
+    go : Either (isSet k) → Absorbs (isSet k) k (setOf k)
+    go (yes p) = rw p (set-is k p)
+    go (no p) = rw p (λ x. with-set k x a e)
+
+two-absorb : (b : 𝔹) (j k : Kind) (s : ℕ) → Absorbs b j s → isAlone k ≡ false → isEmpty k ≡ false → Absorbs (b || isSet k) (lub j k) (bitOr s (setOf k))
+two-absorb true j k s h a e = rw h (lub-comm (Objects s) k ∙ with-set k s a e ∙ ap Objects (or-comm (setOf k) s))
+two-absorb false j k s h a e = go (either (isSet k))
+  where
+    go : Either (isSet k) → Absorbs (isSet k) (lub j k) (bitOr s (setOf k))
+    go (yes p) = rw p (ap (lub j) (set-is k p) ∙ h (setOf k))
+    go (no p) = rw p (λ x. lub-assoc j k (Objects x) ∙ ap (lub j) (with-set k x a e) ∙ h (bitOr (setOf k) x) ∙ ap Objects (sym (or-assoc s (setOf k) x)))
 
 module _ (ks : List Kind) where
   abbrev kind : Opnd → Kind
@@ -93,7 +106,7 @@ module _ (ks : List Kind) where
 
   lower-set : (a : ℕ) (o : Opnd) (u : ℕ) → asSet (kind o) ≡ Set u → lower ks a o ≡ a
   lower-set a (Const k) u e = refl
-  lower-set a (Insn j) u e = rw (set-not-any (kind (Insn j)) u e)
+  lower-set a (Insn j) u e = rw (not-any (kind (Insn j)) u e)
 
   sets-least : (a : ℕ) (b : 𝔹) (s r : ℕ) (l : List Opnd) → joinSets ks b s l ≡ Set r → least ks a l ≡ a
   unfolding least joinSets
@@ -105,11 +118,11 @@ module _ (ks : List Kind) where
       go (Set u) e g ih = ap (λ (c : ℕ). least ks c l) (lower-set a o u e) ∙ ih a (b || isSet (kind o)) (bitOr s u) g
       go Other e g ih = never g
 
-  -- a tally comes to s
+  -- a tally comes to the classes s, and has met a set (b)
   abbrev Holds : Tally → 𝔹 → ℕ → Type 0
   Holds Nothing b s = (b ≡ false) × (s ≡ 0)
-  Holds (One w j) b s = (j ≡ kindOf b s) × (j ≡ kind w) × Fine b s
-  Holds (Many j) b s = (j ≡ Of (kindOf b s)) × Fine b s
+  Holds (One w j) b s = (j ≡ kind w) × (isAlone j ≡ false) × (isEmpty j ≡ false) × (b ≡ isSet j) × (s ≡ setOf j)
+  Holds (Many m) b s = (j : Kind) × (m ≡ Of j) × (isName j ≡ false) × Absorbs b j s
 
   fits-before : (n : ℕ) (o : Opnd) → FitsAt n o → before ks n o ≡ true
   fits-before n (Const k) f = refl
@@ -123,33 +136,41 @@ module _ (ks : List Kind) where
       go true = rw e
       go false = refl
 
-  take-set : (n : ℕ) (d : 𝔹) (u : ℕ) (t : Tally) (o : Opnd) → FitsAt n o → kind o ≡ kindOf d u → take ks n t o ≡ add ks t o
+  take-one : (n : ℕ) (t : Tally) (o : Opnd) → FitsAt n o → isEmpty (kind o) ≡ false → isAny (kind o) ≡ false → take ks n t o ≡ add ks t o
   unfolding take
-  take-set n true u t o f e = rw (fits-before n o f, e)
-  take-set n false u t o f e = rw (fits-before n o f, e)
+  take-one n t o f e a = rw (fits-before n o f, e, a)
 
-  add-holds : (b d : 𝔹) (s u : ℕ) (t : Tally) (o : Opnd) → kind o ≡ kindOf d u → Fine d u → Holds t b s → Holds (add ks t o) (b || d) (bitOr s u)
-  add-holds b d s u Nothing o e g h = rw (h .0, h .1, or-zero-l u) (e, refl, g)
-  add-holds b d s u (One w j) o e g h = go (either (sameOpnd o w))
+  add-holds : (b : 𝔹) (s : ℕ) (t : Tally) (o : Opnd) → isAlone (kind o) ≡ false → isEmpty (kind o) ≡ false → Holds t b s → Holds (add ks t o) (b || isSet (kind o)) (bitOr s (setOf (kind o)))
+  add-holds b s Nothing o a e h = rw (h .0, h .1, or-zero-l (setOf (kind o))) (refl, a, e, refl, refl)
+  add-holds b s (One w j) o a e h = go (either (sameOpnd o w))
     where
-      go : Either (sameOpnd o w) → Holds (cond (sameOpnd o w) (One w j) (Many (unionOf j (kind o)))) (b || d) (bitOr s u)
+      go : Either (sameOpnd o w) → Holds (cond (sameOpnd o w) (One w j) (Many (unionOf j (kind o)))) (b || isSet (kind o)) (bitOr s (setOf (kind o)))
       go (yes p) =
-          let a = union-same b d s u (h .2) g (sym e ∙ ap kind (same-is o w p) ∙ sym (h .1) ∙ h .0) in
-          rw (p, a .0, a .1) h
-      go (no p) = rw (p, h .0, e) (union-both b d s u (h .2) g)
-  add-holds b d s u (Many j) o e g h = rw (h .0, e) (union-both b d s u (h .1) g)
+          let k : kind o ≡ j = ap kind (same-is o w p) ∙ sym (h .0) in
+          rw (p, k, h .3, h .4, or-self𝔹 (isSet j), or-self (setOf j)) (h .0, h .1, h .2, refl, refl)
+      go (no p) =
+          let m = or-parts (isName j) (isAny j) (h .1) .0 in
+          let n = or-parts (isName (kind o)) (isAny (kind o)) a .0 in
+          rw p (lub j (kind o), union-plain j (kind o) m n, lub-plain j (kind o) m n, rw (h .3, h .4) (two-absorb (isSet j) j (kind o) (setOf j) (one-absorbs j (h .1) (h .2)) a e))
+  add-holds b s (Many m) o a e h =
+      let n = or-parts (isName (kind o)) (isAny (kind o)) a .0 in
+      (lub (h .0) (kind o), ap (λ (x : Joined). joinOf x (kind o)) (h .1) ∙ union-plain (h .0) (kind o) (h .2) n, lub-plain (h .0) (kind o) (h .2) n, two-absorb b (h .0) (kind o) s (h .3) a e)
 
   take-holds : (n : ℕ) (b : 𝔹) (s u : ℕ) (t : Tally) (o : Opnd) → FitsAt n o → asSet (kind o) ≡ Set u → Holds t b s → Holds (take ks n t o) (b || isSet (kind o)) (bitOr s u)
-  take-holds n b s u t o f e h = elim (set-is (kind o) u e) [
-    | inl p ↦ rw (take-none n t o (p .0), p .0, p .1, or-zero-r s, or-none b) h
-    | inr p ↦ rw (take-set n (isSet (kind o)) u t o f (p .0)) (add-holds b (isSet (kind o)) s u t o (p .0) (p .1) h)
-  ]
+  take-holds n b s u t o f e h = go (either (isEmpty (kind o)))
+    where
+      c : (isAlone (kind o) ≡ false) × (u ≡ setOf (kind o))
+      c = classes-are (kind o) u e
+
+      go : Either (isEmpty (kind o)) → Holds (take ks n t o) (b || isSet (kind o)) (bitOr s u)
+      go (yes p) = let k = empty-is (kind o) p in rw (take-none n t o k, c .1, k, or-zero-r s, or-none b) h
+      go (no p) = rw (take-one n t o f p (not-any (kind o) u e), c .1) (add-holds b s t o (c .0) p h)
 
   holds-close : (t : Tally) (b : 𝔹) (s r : ℕ) → cond b s 0 ≡ r → 0 < r → Holds t b s → Of (Objects r) ≡ close ks t
   holds-close t false s r e lt h = absurd (omega arith)
   holds-close Nothing true s r e lt h = let z : _≡_ {A = ℕ} 0 1 = cc in absurd (omega arith)
-  holds-close (One w j) true s r e lt h = rw (sym e) (ap Of (sym (h .0)))
-  holds-close (Many j) true s r e lt h = rw (sym e) (sym (h .0))
+  holds-close (One w j) true s r e lt h = rw (sym e, h .4) (ap Of (sym (set-is j (sym (h .3)))))
+  holds-close (Many m) true s r e lt h = rw (sym e) (sym (h .1 ∙ ap Of (h .3)))
 
   sets-take : (n : ℕ) (b : 𝔹) (s r : ℕ) (t : Tally) (l : List Opnd) → Fits n l → joinSets ks b s l ≡ Set r → Holds t b s → 0 < r → Of (Objects r) ≡ close ks (takeAll ks n t l)
   unfolding takeAll joinSets

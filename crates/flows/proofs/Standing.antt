@@ -73,18 +73,38 @@ pub nil-set : {t : ℕ} (x : ℕ) → t ≡ 1 → Set 1 ≡ asSet (kindFrom t x)
 unfolding kindFrom
 nil-set x e = rw e
 
-pub no-set : (t x : ℕ) → (t ≡ 8 → ⊥) → (t ≡ 0 → ⊥) → (t ≡ 1 → ⊥) → Other ≡ asSet (kindFrom t x)
+pub number-set : {t : ℕ} (x : ℕ) → t ≡ 2 → Set 2 ≡ asSet (kindFrom t x)
 unfolding kindFrom
-no-set zero x h8 h0 h1 = absurd (h0 refl)
-no-set (suc zero) x h8 h0 h1 = absurd (h1 refl)
-no-set (suc (suc zero)) x h8 h0 h1 = refl
-no-set (suc (suc (suc zero))) x h8 h0 h1 = refl
-no-set (suc (suc (suc (suc zero)))) x h8 h0 h1 = refl
-no-set (suc (suc (suc (suc (suc zero))))) x h8 h0 h1 = refl
-no-set (suc (suc (suc (suc (suc (suc zero)))))) x h8 h0 h1 = refl
-no-set (suc (suc (suc (suc (suc (suc (suc zero))))))) x h8 h0 h1 = refl
-no-set (suc (suc (suc (suc (suc (suc (suc (suc zero)))))))) x h8 h0 h1 = absurd (h8 refl)
-no-set (suc (suc (suc (suc (suc (suc (suc (suc (suc n))))))))) x h8 h0 h1 = refl
+number-set x e = rw e
+
+pub int-set : {t : ℕ} (x : ℕ) → t ≡ 6 → Set 2 ≡ asSet (kindFrom t x)
+unfolding kindFrom
+int-set x e = rw e
+
+pub bool-set : {t : ℕ} (x : ℕ) → t ≡ 7 → Set 12 ≡ asSet (kindFrom t x)
+unfolding kindFrom
+bool-set x e = rw e
+
+pub false-set : {t x : ℕ} → t ≡ 3 → x ≡ 0 → Set 8 ≡ asSet (kindFrom t x)
+unfolding kindFrom
+false-set e f = rw (e, f)
+
+pub true-set : {t x : ℕ} → t ≡ 3 → (x ≡ 0 → ⊥) → Set 4 ≡ asSet (kindFrom t x)
+unfolding kindFrom
+true-set {t} {x} e f = rw (e, ne-eqb x 0 f)
+
+pub no-set : (t x : ℕ) → (t ≡ 8 → ⊥) → (t ≡ 0 → ⊥) → (t ≡ 1 → ⊥) → (t ≡ 2 → ⊥) → (t ≡ 6 → ⊥) → (t ≡ 7 → ⊥) → (t ≡ 3 → ⊥) → Other ≡ asSet (kindFrom t x)
+unfolding kindFrom
+no-set zero x h8 h0 h1 h2 h6 h7 h3 = absurd (h0 refl)
+no-set (suc zero) x h8 h0 h1 h2 h6 h7 h3 = absurd (h1 refl)
+no-set (suc (suc zero)) x h8 h0 h1 h2 h6 h7 h3 = absurd (h2 refl)
+no-set (suc (suc (suc zero))) x h8 h0 h1 h2 h6 h7 h3 = absurd (h3 refl)
+no-set (suc (suc (suc (suc zero)))) x h8 h0 h1 h2 h6 h7 h3 = refl
+no-set (suc (suc (suc (suc (suc zero))))) x h8 h0 h1 h2 h6 h7 h3 = refl
+no-set (suc (suc (suc (suc (suc (suc zero)))))) x h8 h0 h1 h2 h6 h7 h3 = absurd (h6 refl)
+no-set (suc (suc (suc (suc (suc (suc (suc zero))))))) x h8 h0 h1 h2 h6 h7 h3 = absurd (h7 refl)
+no-set (suc (suc (suc (suc (suc (suc (suc (suc zero)))))))) x h8 h0 h1 h2 h6 h7 h3 = absurd (h8 refl)
+no-set (suc (suc (suc (suc (suc (suc (suc (suc (suc n))))))))) x h8 h0 h1 h2 h6 h7 h3 = refl
 
 pub is-set : (t x : ℕ) → eqb t 8 ≡ isSet (kindFrom t x)
 unfolding kindFrom

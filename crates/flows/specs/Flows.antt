@@ -7,9 +7,9 @@ use lib.Bits.{bitOr}
 use lib.Dec.{eqb}
 use lib.ListN.{length, getD}
 use Rattle.kinds.specs.declared.Kind.{Kind}
-use Rattle.kinds.specs.declared.Kind.the-variants.{Empty, Nil, Num, Truth, Fun, Class, Int, Bool, Objects, Any}
+use Rattle.kinds.specs.declared.Kind.the-variants.{Empty}
 use Rattle.kinds.specs.Kinds.{kindFrom, isSet}
-use Rattle.kinds.specs.Union.{setOf}
+use Rattle.kinds.specs.Union.{setOf, isAlone}
 use Rattle.rules.specs.Lists.{has}
 use Rattle.rules.specs.Program as P
 use Rattle.rules.specs.Program.{Limits, Program, Param, about, opOf, functionOf}
@@ -79,20 +79,11 @@ pub record PassedIn (m : List ℕ) (c : Counts) (z : Sizes) (w : List ℕ) (f n 
   pub passed : (L : Limits) (s : List ℕ) → Sound (view s m c) (z .insns) (calledOf z w)
       → Passed (kindsOf z w) (map (argumentOf L (view s m c) n) (marksFrom (calledOf z w) f k)) x y
 
--- a kind as a set: Nil is that of its class
+-- a kind as the set of its classes, unless it is a name or Any
 abbrev pub asSet : Kind → AsSet
-asSet Empty = Set 0
-asSet Nil = Set (setOf Nil)
-asSet (Num n) = Other
-asSet (Truth t) = Other
-asSet (Fun f) = Other
-asSet (Class c) = Other
-asSet Int = Other
-asSet Bool = Other
-asSet (Objects s) = Set s
-asSet Any = Other
+asSet k = cond (isAlone k) Other (Set (setOf k))
 
--- the union of s with the kinds of operands, if all are sets, Empty or Nil: 0 unless one is a set, of them or before (b)
+-- the union of s with the classes of operands, if none is a name or Any: 0 unless one is a set, of them or before (b)
 unfoldable pub joinSets : List Kind → 𝔹 → ℕ → List P.Opnd → AsSet
 joinSets ks b s [] = Set (cond b s 0)
 joinSets ks b s (o ∷ l) = elim (asSet (kindIn ks o)) [ Set t ↦ joinSets ks (b || isSet (kindIn ks o)) (bitOr s t) l | Other ↦ Other ]

@@ -41,7 +41,7 @@ pub struct Words {
     pub bits: usize,
 }
 
-// A set of classes, Empty being the empty one and Nil that of its class; or another kind.
+// The classes of a kind, or that it is a name or Any.
 enum AsSet {
     Set(u64),
     Other,
@@ -219,6 +219,7 @@ fn pass_callers(
     }
 }
 
+// The built-in classes are 0 to 3: bits 1, 2, 4 and 8.
 fn as_set(k: Words) -> AsSet
     ensures { λ r. ⌜ r ≡ asSet (wordsOf k) ⌝ }
 {
@@ -231,10 +232,25 @@ fn as_set(k: Words) -> AsSet
     if k.tag == 1 {
         return AsSet::Set(1);
     }
+    if k.tag == 2 {
+        return AsSet::Set(2);
+    }
+    if k.tag == 6 {
+        return AsSet::Set(2);
+    }
+    if k.tag == 7 {
+        return AsSet::Set(12);
+    }
+    if k.tag == 3 {
+        if k.bits == 0 {
+            return AsSet::Set(8);
+        }
+        return AsSet::Set(4);
+    }
     AsSet::Other
 }
 
-// The union of the kinds of the arguments for place n of the callers of f, if all are sets, Empty or Nil: 0 where none is a set.
+// The union of the kinds of the arguments for place n of the callers of f, if none is a name or Any and one is a set; 0 where none is a set.
 fn join_sets(p: &[usize], c: Counts, m: &[usize], z: Sizes, f: FunId, n: usize) -> AsSet
     requires { ⌜ Held z (now m) ⌝ }
     requires { ⌜ Known (now p) c z (calledOf z (now m)) ⌝ }
@@ -332,7 +348,7 @@ fn param_by_passes(p: &[usize], c: Counts, m: &[usize], z: Sizes, f: FunId, n: u
     finish_pass(z.insns, a, t)
 }
 
-// The same; sets are joined at once, since their order means nothing.
+// The same; classes are joined at once, since their order means nothing.
 pub fn param(p: &[usize], c: Counts, m: &[usize], z: Sizes, f: FunId, n: usize) -> Joined
     requires { ⌜ Held z (now m) ⌝ }
     requires { ⌜ Known (now p) c z (calledOf z (now m)) ⌝ }
