@@ -1,36 +1,40 @@
 /* Which blocks of a farm script can run: the library behind libdinqosa.a.
  *
- * Lent memory is 8-byte words in three parts that must not overlap. Each part may be longer than its published
- * length; words beyond it are never changed. docs/MEMORY.md says what the answer part holds. The deepest scripts tried use
- * 600 KB of stack: give a call a megabyte. */
+ * dinqosa_analyze_in needs one block of memory and is the call to take. dinqosa_analyze is lent the parts one by one.
+ * docs/MEMORY.md says what the answer part holds. */
 #ifndef DINQOSA_H
 #define DINQOSA_H
 
 #include <stddef.h>
 #include <stdint.h>
+#include <string.h>
 
 #ifdef __cplusplus
 extern "C" {
 #endif
 
-/* Bytes of the longest script, and the published lengths in words. */
+/* Bytes of the longest script, and the published lengths in words of 8 bytes. */
 #define DINQOSA_SCRIPT_MOST 16384
 #define DINQOSA_ANSWER_WORDS 22788
 #define DINQOSA_PROGRAM_WORDS 57088
 #define DINQOSA_STATE_WORDS 52224
 
+/* Bytes of stack to give a call. Measured, not proved: the deepest script found takes 577,920 (docs/MEMORY.md). */
+#define DINQOSA_STACK_BYTES 786432
+
 /* Where the answer part has its tables: totals (functions, blocks, instructions, count), then by block: live;
  * by instruction: kind and payload; users of instruction i stand at users[starts[i]] to users[starts[i + 1] - 1];
- * 32 words of bits a function: its callers. */
+ * DINQOSA_ROW_WORDS words of bits a function: its callers. */
 #define DINQOSA_LIVE 4
 #define DINQOSA_TAGS 259
 #define DINQOSA_PAYLOADS 2307
 #define DINQOSA_STARTS 4355
 #define DINQOSA_USERS 6404
 #define DINQOSA_CALLERS 18692
+#define DINQOSA_ROW_WORDS 32
 
-/* What a call gives. 1 and 2 leave all memory as it was; the others clear the published words of all three parts. An
- * answer clears the two work parts and the places of the answer part that it doesn't use. */
+/* What a call gives (docs/QUESTIONS.md). 1 and 2 leave all memory as it was; the others clear the published words of all
+ * three parts. An answer clears the two work parts and the places of the answer part that it doesn't use. */
 enum {
     DINQOSA_ANSWERED = 0,
     DINQOSA_SCRIPT_TOO_LONG = 1,
@@ -55,10 +59,31 @@ enum {
     DINQOSA_WORKLIST_FULL = 20
 };
 
+/* The call as the library has it. The script and the three parts must not overlap: the call can't see it, and gives wrong live
+ * blocks. Each part may be longer than its published length; words beyond it are never changed. */
 uint8_t dinqosa_analyze(const uint8_t *script, size_t script_len,
                         uint64_t *answer, size_t answer_len,
                         uint64_t *program, size_t program_len,
                         uint64_t *state, size_t state_len);
+
+/* All that a call is lent, side by side. The script's place has one byte more than the longest script, so that a script can be
+ * read into it and be found too long. 1,073,192 bytes: not for the stack. */
+struct dinqosa_memory {
+    uint64_t answer[DINQOSA_ANSWER_WORDS];
+    uint64_t program[DINQOSA_PROGRAM_WORDS];
+    uint64_t state[DINQOSA_STATE_WORDS];
+    uint8_t script[DINQOSA_SCRIPT_MOST + 1];
+};
+
+/* The call over one block: the script is copied to its place there first, so nothing overlaps. It may stand anywhere: outside,
+ * at its own place in the block (then it isn't moved), or in a part, which the call then overwrites. A script that is too long
+ * isn't copied and changes nothing. Never gives DINQOSA_MEMORY_TOO_SHORT. The copy of the script is left in the block. */
+static inline uint8_t dinqosa_analyze_in(struct dinqosa_memory *memory, const uint8_t *script, size_t script_len) {
+    if (DINQOSA_SCRIPT_MOST < script_len) return DINQOSA_SCRIPT_TOO_LONG;
+    if (script_len != 0) memmove(memory->script, script, script_len);
+    return dinqosa_analyze(memory->script, script_len, memory->answer, DINQOSA_ANSWER_WORDS,
+                           memory->program, DINQOSA_PROGRAM_WORDS, memory->state, DINQOSA_STATE_WORDS);
+}
 
 #ifdef __cplusplus
 }

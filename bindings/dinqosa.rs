@@ -1,8 +1,8 @@
 //! Which blocks of a farm script can run: a safe wrapper of libdinqosa.a.
 //!
 //! Lent memory is 8-byte words in three parts; each may be longer than its published length, and words beyond it are
-//! never changed. `docs/MEMORY.md` says what the answer part holds. The deepest scripts tried use 600 KB of stack: give a call
-//! a megabyte.
+//! never changed. The parts and the script must not overlap, and the borrows of `analyze` see to it. `docs/MEMORY.md` says
+//! what the answer part holds.
 
 /// Bytes of the longest script.
 pub const SCRIPT_MOST: usize = 16_384;
@@ -10,6 +10,9 @@ pub const SCRIPT_MOST: usize = 16_384;
 pub const ANSWER_WORDS: usize = 22_788;
 pub const PROGRAM_WORDS: usize = 57_088;
 pub const STATE_WORDS: usize = 52_224;
+
+/// Bytes of stack to give a call. Measured, not proved: the deepest script found takes 577,920 (`docs/MEMORY.md`).
+pub const STACK_BYTES: usize = 786_432;
 
 /// Where the answer part has its tables, behind the totals (functions, blocks, instructions, count).
 pub const LIVE: usize = 4;
@@ -21,7 +24,7 @@ pub const CALLERS: usize = 18_692;
 /// Words of a function's row of callers.
 pub const ROW_WORDS: usize = 32;
 
-/// Why a script got no answer. `ScriptTooLong` and `MemoryTooShort` leave all memory as it was; the others clear the
+/// Why a script got no answer (`docs/QUESTIONS.md`). `ScriptTooLong` and `MemoryTooShort` leave all memory as it was; the others clear the
 /// published words of all three parts.
 #[derive(Clone, Copy, PartialEq, Eq, Debug)]
 #[repr(u8)]
@@ -74,7 +77,7 @@ mod raw {
 
 /// One call. An answer clears `program`, `state` and the places of `answer` that it doesn't use.
 pub fn analyze(script: &[u8], answer: &mut [u64], program: &mut [u64], state: &mut [u64]) -> Result<(), Refusal> {
-    // The borrows keep the parts apart and alive for the call.
+    // The borrows keep the script and the parts apart and alive for the call.
     let number = unsafe {
         raw::dinqosa_analyze(
             script.as_ptr(), script.len(), answer.as_mut_ptr(), answer.len(), program.as_mut_ptr(), program.len(),
