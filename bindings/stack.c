@@ -2,12 +2,12 @@
  *
  * stack            runs the deepest scripts known in a thread with exactly DINQOSA_STACK_BYTES of stack, and one of them in a
  *                  stack that is too small, which must be seen
- * stack --measure  reads a batch of scripts from standard input; prints the deepest of them and its bytes of stack
+ * stack --measure  reads a batch of scripts from standard input; prints the deepest of them and its bytes of stack, which must
+ *                  not be above DINQOSA_STACK_BYTES
  */
 #define _GNU_SOURCE
 #include "dinqosa.h"
 #include <pthread.h>
-#include <signal.h>
 #include <stdio.h>
 #include <stdlib.h>
 #include <sys/mman.h>
@@ -17,7 +17,7 @@
 /* Wider than any frame of the library, so that none reaches beyond it. */
 enum { GUARD = 1 << 20, NEVER = 256 };
 static const unsigned char PATTERN = 0xa5;
-static const size_t AMPLE = 4 << 20;
+static const size_t AMPLE = 2 * DINQOSA_STACK_BYTES;
 static struct dinqosa_memory memory;
 
 struct run {
@@ -129,8 +129,8 @@ static int measure(void) {
         if (deepest < r.used) deepest = r.used, found = place;
         place++;
     }
-    printf("%ld scripts; the deepest is number %ld: %zu bytes\n", place, found, deepest);
-    return 0;
+    printf("stack: %ld scripts; the deepest is number %ld: %zu bytes\n", place, found, deepest);
+    return DINQOSA_STACK_BYTES < deepest;
 }
 
 int main(int words, char **word) {
