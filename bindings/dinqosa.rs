@@ -24,8 +24,8 @@ pub const CALLERS: usize = 18_692;
 /// Words of a function's row of callers.
 pub const ROW_WORDS: usize = 32;
 
-/// Why a script got no answer (`docs/QUESTIONS.md`). `ScriptTooLong` and `MemoryTooShort` leave all memory as it was; the others clear the
-/// published words of all three parts.
+/// Why a script got no answer (`docs/QUESTIONS.md`). `ScriptTooLong` and `MemoryTooShort` leave all memory as it was; the
+/// others clear the published words of all three parts.
 #[derive(Clone, Copy, PartialEq, Eq, Debug)]
 #[repr(u8)]
 pub enum Refusal {

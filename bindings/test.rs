@@ -1,4 +1,5 @@
-//! Links libdinqosa.a from Rust, through the wrapper: every stored vector, dirty memory, red zones, memory too short.
+//! Links libdinqosa.a from Rust, through the wrapper: every stored vector, dirty memory, red zones, memory too short, the
+//! published stack.
 #[path = "dinqosa.rs"]
 mod dinqosa;
 use dinqosa::*;
@@ -106,6 +107,11 @@ fn main() {
         check(analyze(b"def main() 1 end", a.lent(), p.lent(), s.lent()) == Err(Refusal::MemoryTooShort), format!("part {short} one short"));
         check(parts.iter().all(|part| part.words.iter().all(|w| *w == RED)), format!("part {short} one short: memory changed"));
     }
+    // 128 nested calls, the deepest script known; a stack that is too small ends the test by a signal
+    let deep = format!("def f(a) a end def main() {}1{} end", "f(".repeat(128), ")".repeat(128));
+    let call = move || analyze(deep.as_bytes(), &mut vec![RED; ANSWER_WORDS], &mut vec![RED; PROGRAM_WORDS], &mut vec![RED; STATE_WORDS]);
+    let thread = std::thread::Builder::new().stack_size(STACK_BYTES).spawn(call).expect("a thread");
+    check(thread.join().expect("the thread ends") == Err(Refusal::Limit), "the deepest script in the published stack".to_string());
     println!("Rust: {} scripts, {failed} failed", scripts.len());
     std::process::exit((failed != 0) as i32)
 }
