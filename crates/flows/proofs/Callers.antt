@@ -241,12 +241,12 @@ Summing m c z w f n b s k = (y : AsSet) → SetsFrom m c z w f n k b s y → Set
 pub sets-start : (m : List ℕ) (c : Counts) (z : Sizes) (w : List ℕ) (f n : ℕ) → Summing m c z w f n false 0 0
 sets-start m c z w f n y p = p
 
-join-step : (ks : List Kind) (b : 𝔹) (s : ℕ) (o : P.Opnd) (l : List P.Opnd) {x : AsSet} → asSet (kindIn ks o) ≡ x
+pub join-step : (ks : List Kind) (b : 𝔹) (s : ℕ) (o : P.Opnd) (l : List P.Opnd) {x : AsSet} → asSet (kindIn ks o) ≡ x
     → joinSets ks b s (o ∷ l) ≡ elim x [ Set t ↦ joinSets ks (b || isSet (kindIn ks o)) (bitOr s t) l | Other ↦ Other ]
 unfolding joinSets
 join-step ks b s o l e = ap (λ (y : AsSet). elim y [ Set t ↦ joinSets ks (b || isSet (kindIn ks o)) (bitOr s t) l | Other ↦ Other ]) e
 
-join-none : (ks : List Kind) (b : 𝔹) (s : ℕ) → joinSets ks b s [] ≡ Set (cond b s 0)
+pub join-none : (ks : List Kind) (b : 𝔹) (s : ℕ) → joinSets ks b s [] ≡ Set (cond b s 0)
 unfolding joinSets
 join-none ks b s = refl
 

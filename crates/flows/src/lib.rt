@@ -42,7 +42,7 @@ pub struct Words {
 }
 
 // The classes of a kind, or that it is a name or Any.
-enum AsSet {
+pub enum AsSet {
     Set(u64),
     Other,
 }
@@ -220,7 +220,7 @@ fn pass_callers(
 }
 
 // The built-in classes are 0 to 3: bits 1, 2, 4 and 8.
-fn as_set(k: Words) -> AsSet
+pub fn as_set(k: Words) -> AsSet
     ensures { λ r. ⌜ r ≡ asSet (wordsOf k) ⌝ }
 {
     if k.tag == 8 {

@@ -87,6 +87,14 @@ module _ {A : Type 0} (t : A → Bool) where
     unfolding tab
     first-start n = record { high = omega arith; same = refl }
 
+    -- a search that starts behind places that don't pass
+    pub first-from : (n i : ℕ) → i ≤ n → ((j : ℕ) → j < i → t (f j) ≡ false) → First n i
+    first-from n i le h = record { high = le; same = none-below i h }
+      where
+        none-below : (i : ℕ) → ((j : ℕ) → j < i → t (f j) ≡ false) → places t (tab f i) ≡ []
+        none-below zero h = first-start n .same
+        none-below (suc i) h = more-no i (h i (omega arith)) ∙ none-below i (λ j p. h j (omega arith))
+
     module _ {n i : ℕ} (g : First n i) where
       pub first-none : n ≤ i → none ≡ first (places t (tab f n))
       first-none h = let e : i ≡ n = omega (arith, g .high) in sym (ap (first {A = ℕ}) (rw e at (g .same)))

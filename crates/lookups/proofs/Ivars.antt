@@ -22,7 +22,7 @@ use Rattle.program.specs.declared.Counts.{Counts}
 use Rattle.program.specs.declared.Limits.{Limits}
 use Rattle.program.specs.declared.Name.{Name}
 use Rattle.program.proofs.Tables.{tab-ext, tab-more, tab-set, tab-length}
-use Rattle.program.proofs.Viewing.{Keeps, opnds-end, insn-keep, instructions-keep, functions-keep, blocks-keep}
+use Rattle.program.proofs.Viewing.{Keeps, owns-same, opnds-end, insn-keep, fun-keep, instructions-keep, functions-keep, blocks-keep}
 use Rattle.program.proofs.Adding.{terminated-same, listed-same}
 use Rattle.lookups.specs.Look.{ivarRow, PutsIvar, Declares, ivarFound}
 use Rattle.lookups.specs.declared.Declared.the-variants.{Done, Refused}
@@ -122,6 +122,7 @@ module _ {m m' : List ℕ} {c : Counts} {k : ℕ} (n : Name) (r : Ready m c) (hk
         inside = r .inside;
         flags = λ s b h. r .flags s b h ∙ ap bitOf (terminated-same (view s m c) (view s m (none-of c)) b refl);
         listing = λ s. r .listing s ∙ listed-same (view s m c) (view s m (none-of c)) refl;
+        firsts = λ d h. absurd (omega arith);
       }
 
   rest-keeps : Keeps (none-of c) m m'
@@ -178,6 +179,9 @@ module _ {m m' : List ℕ} {c : Counts} {k : ℕ} (n : Name) (r : Ready m c) (hk
             apart (blocksAt + 2 * b + 1) (omega (arith, r .blocks)) ∙ r .flags s b h
             ∙ ap bitOf (sym (terminated-same (view s m' c) (view s m c) b (same-instructions s)));
         listing = λ s. r .listing s ∙ sym (listed-same (view s m' c) (view s m c) (same-instructions s));
+        firsts = λ d h.
+            rw (p .other (classesAt + 4 * d + 3) (λ z. omega (arith, r .classes)) (λ z. omega (arith, r .classes)) (λ z. omega arith))
+            (owns-same (fun-keep rest-ready rest-keeps) (r .firsts d h));
       }
 
 -- ---- the rules' action

@@ -1,15 +1,15 @@
 -- Tests of rows, and what a search over them finds, in the rules' words. Assumes nothing.
 use mathlib.Core.Bool.{Bool, true, false, not}
-use mathlib.Core.Path.{_≡_, refl, sym, ap, _∙_}
+use mathlib.Core.Path.{_≡_, sym, ap, _∙_}
 use mathlib.Core.Option.{Option, none, some}
 use mathlib.Core.List.{List}
-use Prim.Native.Nat.{ℕ, zero, suc, _+_, _-_, _*_, _%_, _≤_, _<_, min}
+use Prim.Native.Nat.{ℕ, _+_, _-_, _*_, _≤_, _<_, min}
 use native.Mathlib.Omega.{arith}
-use lib.Dec.{eqb, ltb}
+use lib.Dec.{eqb}
 use lib.ListN.{getD, take}
-use borrow.Author.Tests.{eq-eqb, ne-eqb, lt-ltb}
 use Rattle.kinds.specs.Kinds.{bitOf}
 use Rattle.sets.specs.declared.ClassId.{ClassId}
+use Rattle.sets.proofs.Bits.{Either, yes, no, either}
 use Rattle.words.specs.Names.{name}
 use Rattle.rules.specs.Lists.{same, isJust, orElse, places, first, final, bytes}
 use Rattle.rules.specs.Program as P
@@ -17,13 +17,12 @@ use Rattle.rules.specs.Program.{terminated, functionNamed, methodNamed, ivarNam
 use Rattle.rules.specs.Reading.{classNamed}
 use Rattle.program.specs.Tab.{tab}
 use Rattle.program.specs.Rows.{nameIn, ownerIn, ownerFrom, funAt, functionIn, classAt, ivarsOf, flagAt}
-use Rattle.program.specs.View.{view, functionsOf, classesOf, Ready, ReadsFun}
+use Rattle.program.specs.View.{view, functionsOf, classesOf, OwnsFrom, Ready, ReadsFun}
 use Rattle.program.specs.declared.Counts.{Counts}
 use Rattle.program.specs.declared.Name.{Name}
 use Rattle.program.specs.declared.Function.{Function}
 use Rattle.program.specs.declared.Owner.{Owner}
 use Rattle.program.specs.declared.Owner.the-variants.{Class, Nobody}
-use Rattle.program.proofs.Forms.{owner-none, owner-class}
 use Rattle.program.proofs.Tables.{tab-at, tab-take}
 use Rattle.program.proofs.Viewing.{classes-length}
 use Rattle.lookups.specs.Look.{funRow, ivarRow, isFun, isMethod, isMain, isClass, isIvar, Known, Constructs, Tells, classFound}
@@ -31,7 +30,7 @@ use Rattle.words.proofs.Texts.{same-eq, and-right}
 use Rattle.lookups.specs.declared.Constructor.the-variants as K
 use Rattle.lookups.specs.declared.FoundClass.{FoundClass}
 use Rattle.lookups.specs.declared.FoundClass.the-variants as C
-use Rattle.lookups.proofs.Finds.{Latest, latest-none, latest-hit, First, first-none, first-hit, take-min}
+use Rattle.lookups.proofs.Finds.{Latest, latest-none, latest-hit, First, first-from, first-none, first-hit, take-min}
 
 -- ---- tests
 
@@ -48,23 +47,6 @@ module _ (s m : List ℕ) (n : Name) where
       → r ≡ isIvar (nameIn s n) (ivarRow s m k j)
   unfolding isIvar ivarRow
   is-ivar k j e = e
-
--- the word of an owner, as the code compares it
-owner-some : (y k : ℕ) {b : Bool} → eqb (y % 4294967296) k ≡ b → isJust (ownerIn (ownerFrom (suc y))) k ≡ b
-owner-some y k e =
-    ap (λ (o : Owner). isJust (ownerIn o) k) (sym (owner-class (suc y) (λ h. omega arith)))
-    ∙ ap (λ (x : ℕ). eqb (x % 4294967296) k) (omega arith) ∙ e
-
-owner-zero : (k : ℕ) → isJust (ownerIn (ownerFrom 0)) k ≡ false
-owner-zero k = ap (λ (o : Owner). isJust (ownerIn o) k) (sym (owner-none 0 refl))
-
-pub owned-same : (x k : ℕ) → k < 4294967296 → x % 4294967296 ≡ (k + 1) % 4294967296 → ltb 0 x ≡ isJust (ownerIn (ownerFrom x)) k
-owned-same zero k lt e = sym (owner-zero k)
-owned-same (suc y) k lt e = lt-ltb 0 (suc y) (omega arith) ∙ sym (owner-some y k (eq-eqb (y % 4294967296) k (omega arith)))
-
-pub owned-other : (x k : ℕ) → k < 4294967296 → (x % 4294967296 ≡ (k + 1) % 4294967296 → ⊥) → false ≡ isJust (ownerIn (ownerFrom x)) k
-owned-other zero k lt e = sym (owner-zero k)
-owned-other (suc y) k lt e = sym (owner-some y k (ne-eqb (y % 4294967296) k (λ h. e (omega arith))))
 
 module _ (s m : List ℕ) (i : ℕ) (n : List ℕ) (k : ℕ) {o : Bool} (e : o ≡ isJust (ownerIn (ownerFrom (getD m (38912 + 4 * i + 2) 0))) k) where
   pub method-here : {r : Bool} → o ≡ true → r ≡ same (name s (getD m (38912 + 4 * i) 0) (getD m (38912 + 4 * i + 1) 0)) n → r ≡ isMethod k n (funRow s m i)
@@ -98,6 +80,16 @@ module _ (s m : List ℕ) {c : Counts} (i : ℕ) {f : Function} (e : ReadsFun m 
     main-other t = rw (← e .row, ← q, t)
 
 -- ---- functions
+
+-- no method of a class stands below its first function
+pub methods-from : (s : List ℕ) {m : List ℕ} {l k i : ℕ} (n : List ℕ) → OwnsFrom m l k i → First (isMethod k n) (funRow s m) l i
+unfolding isMethod funRow
+methods-from s {m} {l} {k} {i} n o =
+    first-from (isMethod k n) (funRow s m) l i (o .high) (λ j h. go j h (either (isJust (ownerIn (funAt m j .class)) k)))
+  where
+    go : (j : ℕ) → j < i → Either (isJust (ownerIn (funAt m j .class)) k) → isMethod k n (funRow s m j) ≡ false
+    go j h (yes e) = absurd (omega (arith, o .owned j (omega (arith, o .high)) e))
+    go j h (no e) = rw e
 
 module _ (s m : List ℕ) (c : Counts) (n : Name) {i : ℕ} (g : Latest (isFun (nameIn s n)) (funRow s m) (c .functions) i) where
   as-latest : {x : Option ℕ} → x ≡ final (places (isFun (nameIn s n)) (tab (funRow s m) (c .functions))) → x ≡ functionNamed (view s m c) (nameIn s n)

@@ -9,9 +9,9 @@ use sets::FunId;
 ghost use mathlib.Core.Path.{_≡_};
 ghost use Prim.Native.Nat.{_+_, _*_, _≤_, _<_, min};
 ghost use lib.ListN.{length};
-ghost use Rattle.rules.specs.Lists.{bytes, orElse, isJust};
+ghost use Rattle.rules.specs.Lists.{bytes, orElse};
 ghost use Rattle.rules.specs.Program.{functionNamed, methodNamed, ivarNamed, mainFunction};
-ghost use Rattle.program.specs.Rows.{size, nameIn, ownerIn, ownerFrom, classAt};
+ghost use Rattle.program.specs.Rows.{size, nameIn, ownerIn, classAt};
 ghost use Rattle.program.specs.View.{view, Ready, Small};
 ghost use Rattle.lookups.specs.Look.{funFound, ivarFound, funRow, ivarRow, isFun, isMethod, isMain, isClass, isIvar, Known, Constructs, Tells, PutsIvar, Declares};
 
@@ -52,23 +52,13 @@ fn fun_is(s: &[u8], m: &[usize], f: FunId, n: Name) -> bool
     words::same_name(s, m[at], m[at + 1], n.start, n.len)
 }
 
-// The word of an owner stands for class k.
-fn is_owned(x: usize, k: ClassId) -> bool
-    ensures { λ r. ⌜ r ≡ isJust (ownerIn (ownerFrom x)) (k .0) ⌝ }
-{
-    if x % 4294967296 == (k.0 as usize + 1) % 4294967296 {
-        return 0 < x;
-    }
-    false
-}
-
 fn method_is(s: &[u8], m: &[usize], c: Counts, f: FunId, k: ClassId, n: Name) -> bool
     requires { ⌜ Ready (now m) c ⌝ }
     requires { ⌜ f .0 < c .functions ⌝ }
     ensures { λ r. ⌜ r ≡ isMethod (k .0) (nameIn (now (s .entry)) n) (funRow (now (s .entry)) (now (m .entry)) (f .0)) ⌝ }
 {
     let at = program::FUNCTIONS + 4 * (f.0 as usize);
-    if is_owned(m[at + 2], k) {
+    if program::is_owned(m[at + 2], k) {
         return words::same_name(s, m[at], m[at + 1], n.start, n.len);
     }
     false
@@ -80,7 +70,7 @@ fn constructor_is(s: &[u8], m: &[usize], c: Counts, f: FunId, k: ClassId) -> boo
     ensures { λ r. ⌜ r ≡ isMethod (k .0) (bytes "initialize") (funRow (now (s .entry)) (now (m .entry)) (f .0)) ⌝ }
 {
     let at = program::FUNCTIONS + 4 * (f.0 as usize);
-    if is_owned(m[at + 2], k) {
+    if program::is_owned(m[at + 2], k) {
         return words::spells(s, m[at], m[at + 1], b"initialize");
     }
     false
@@ -146,7 +136,7 @@ pub fn method_named(s: &[u8], m: &[usize], c: Counts, k: ClassId, n: Name) -> Fo
     ensures { λ r. ⌜ funFound r ≡ methodNamed (view (now (s .entry)) (now (m .entry)) c) (k .0) (nameIn (now (s .entry)) n) ⌝ }
 {
     let most = c.functions;
-    let mut i = 0;
+    let mut i = program::first_function(m, c, k);
     while i < most {
         let f = FunId(i as u32);
         if method_is(s, m, c, f, k, n) {
@@ -163,7 +153,7 @@ pub fn constructor_of(s: &[u8], m: &[usize], c: Counts, k: ClassId) -> Construct
     ensures { λ r. ⌜ Constructs (now (s .entry)) (now (m .entry)) c (k .0) r ⌝ }
 {
     let most = c.functions;
-    let mut i = 0;
+    let mut i = program::first_function(m, c, k);
     while i < most {
         let f = FunId(i as u32);
         if constructor_is(s, m, c, f, k) {

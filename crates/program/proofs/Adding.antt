@@ -17,8 +17,8 @@ use Rattle.rules.specs.Program.{isTerminator, terminated, listedCount}
 use Rattle.rules.specs.Reading.{withProgram, withBlock, withClass, newBlockOf, newFun, newClass}
 use Rattle.words.specs.Names.{name}
 use Rattle.program.specs.Tab.{tab}
-use Rattle.program.specs.Rows.{classesAt, insnAt, instructionAt, functionIn, nameIn, ownerIn, classAt, ivarAt, ivarsOf, flagAt}
-use Rattle.program.specs.View.{instructionsOf, functionsOf, classesOf, blocksOf, view, Ready, Small, limitsOf, PutsBlock, PutsFun, PutsClass, Did, DidFun, Starts, grew, stopped, blockOf, blockFor, classFor, unchanged, moreBlocks, moreFunctions, moreClasses}
+use Rattle.program.specs.Rows.{classesAt, insnAt, instructionAt, functionIn, nameIn, ownerIn, classAt, ivarAt, ivarsOf, firstOf, flagAt}
+use Rattle.program.specs.View.{instructionsOf, functionsOf, classesOf, blocksOf, view, OwnsFrom, Ready, Small, limitsOf, PutsBlock, PutsFun, PutsClass, Did, DidFun, Starts, grew, stopped, blockOf, blockFor, classFor, unchanged, moreBlocks, moreFunctions, moreClasses}
 use Rattle.program.specs.declared.Counts.{Counts}
 use Rattle.program.specs.declared.Limits.{Limits}
 use Rattle.program.specs.declared.Name.{Name}
@@ -28,7 +28,7 @@ use Rattle.program.specs.declared.NewBlock.{NewBlock}
 use Rattle.program.specs.declared.NewBlock.the-variants as B
 use Rattle.program.specs.declared.NewFun.the-variants as F
 use Rattle.program.proofs.Committing.{any-snoc}
-use Rattle.program.proofs.Viewing.{Keeps, insn-keep, ivars-keep, instructions-keep, functions-keep, classes-keep, blocks-keep, free-blocks, free-functions, free-classes, flags-below, functions-more, classes-more, blocks-more, functions-length, classes-length, blocks-length}
+use Rattle.program.proofs.Viewing.{Keeps, owns-same, owns-more, insn-keep, fun-keep, ivars-keep, firsts-keep, instructions-keep, functions-keep, classes-keep, blocks-keep, free-blocks, free-functions, free-classes, flags-below, functions-more, classes-more, blocks-more, functions-length, classes-length, blocks-length}
 
 -- what the rules ask of a program's instructions alone
 pub terminated-same : (p q : P.Program) (b : ℕ) → p .instructions ≡ q .instructions → terminated p b ≡ terminated q b
@@ -93,6 +93,7 @@ module _ {m m' : List ℕ} {c : Counts} {l : Limits} (f : ℕ) (r : Ready m c) (
             ∙ ap bitOf (sym (terminated-same (view s m' (moreBlocks c)) (view s m c) b same)))
             (p .flag ∙ ap bitOf (sym (terminated-same (view s m' (moreBlocks c)) (view s m c) (c .blocks) same ∙ open-block r s)));
         listing = λ s. r .listing s ∙ sym (listed-same (view s m' (moreBlocks c)) (view s m c) (instructions-keep r K s));
+        firsts = firsts-keep r K;
       }
 
   pub block-grew : Did (blockFor (limitsOf l) f) unchanged (c .blocks) (moreBlocks c) m c m' (grew (c .blocks) (moreBlocks c))
@@ -145,6 +146,7 @@ module _ {m m' : List ℕ} {c : Counts} (x : Function) (r : Ready m c) (few : c 
             flags-below c (p .only) (omega (arith, r .blocks)) b h ∙ r .flags s b h
             ∙ ap bitOf (sym (terminated-same (view s m' (moreFunctions c)) (view s m c) b (instructions-keep r K s)));
         listing = λ s. r .listing s ∙ sym (listed-same (view s m' (moreFunctions c)) (view s m c) (instructions-keep r K s));
+        firsts = λ k h. owns-more (firsts-keep r K k h);
       }
 
 -- the block first, then the function's own question
@@ -210,7 +212,7 @@ module _ {m m1 : List ℕ} {c : Counts} {l : Limits} {q : NewBlock} (n : Name) (
 
 -- ---- a class
 
-module _ {m m' : List ℕ} {c : Counts} {l : Limits} (n : Name) (r : Ready m c) (small : Small l) (few : c .classes < l .classes) (p : PutsClass (c .classes) n m m') where
+module _ {m m' : List ℕ} {c : Counts} {l : Limits} (n : Name) (r : Ready m c) (small : Small l) (few : c .classes < l .classes) {a : ℕ} (owns : OwnsFrom m (c .functions) (c .classes) a) (p : PutsClass (c .classes) n a m m') where
   class-keeps : Keeps c m m'
   class-keeps = free-classes r (p .only) (omega (arith, small .classes))
 
@@ -250,6 +252,9 @@ module _ {m m' : List ℕ} {c : Counts} {l : Limits} (n : Name) (r : Ready m c) 
             flags-below c (p .only) (omega (arith, r .blocks)) b h ∙ r .flags s b h
             ∙ ap bitOf (sym (terminated-same (view s m' (moreClasses c)) (view s m c) b (instructions-keep r K s)));
         listing = λ s. r .listing s ∙ sym (listed-same (view s m' (moreClasses c)) (view s m c) (instructions-keep r K s));
+        firsts =
+            old-or-new (λ k. OwnsFrom m' (c .functions) k (firstOf m' k)) (c .classes) (firsts-keep r K)
+            (rw (p .first) (owns-same (fun-keep r K) owns));
       }
 
   pub class-grew : Did (classFor (limitsOf l) n) unchanged (c .classes) (moreClasses c) m c m' (grew (c .classes) (moreClasses c))
@@ -277,10 +282,10 @@ empty-class s m k e f =
     (ap (tab (λ j. nameIn s (ivarAt m k j))) f)
 
 -- the row of class k stays while those of later classes are stored
-row-stays : {k j : ℕ} {x : Name} {m m' : List ℕ} → PutsClass j x m m' → k < j → (d : ℕ) → d < 4 → getD m' (classesAt + 4 * k + d) 0 ≡ getD m (classesAt + 4 * k + d) 0
+row-stays : {k j : ℕ} {x : Name} {f : ℕ} {m m' : List ℕ} → PutsClass j x f m m' → k < j → (d : ℕ) → d < 4 → getD m' (classesAt + 4 * k + d) 0 ≡ getD m (classesAt + 4 * k + d) 0
 row-stays {k = k} p h d g = p .only .below (classesAt + 4 * k + d) (omega arith)
 
-pub starts-is : {m m1 m2 m3 m4 : List ℕ} (x : Name) → x .len ≡ 0 → 47872 ≤ length m → PutsClass 0 x m m1 → PutsClass 1 x m1 m2 → PutsClass 2 x m2 m3 → PutsClass 3 x m3 m4
+pub starts-is : {m m1 m2 m3 m4 : List ℕ} (x : Name) → x .len ≡ 0 → 47872 ≤ length m → PutsClass 0 x 0 m m1 → PutsClass 1 x 0 m1 m2 → PutsClass 2 x 0 m2 m3 → PutsClass 3 x 0 m3 m4
     → Starts m4 (record { functions = 0; classes = 4; blocks = 0; insns = 0; opnds = 0; listed = 0 })
 unfolding instructionsOf functionsOf classesOf blocksOf listedCount tab
 starts-is {m4 = m4} x z long p0 p1 p2 p3 =
@@ -296,6 +301,11 @@ starts-is {m4 = m4} x z long p0 p1 p2 p3 =
     ∙ p0 .none in
     let none1 : ivarsOf m4 1 ≡ 0 = row-stays {k = 1} p3 (omega arith) 2 (omega arith) ∙ row-stays {k = 1} p2 (omega arith) 2 (omega arith) ∙ p1 .none in
     let none2 : ivarsOf m4 2 ≡ 0 = row-stays {k = 2} p3 (omega arith) 2 (omega arith) ∙ p2 .none in
+    let first0 : firstOf m4 0 ≡ 0 =
+    row-stays {k = 0} p3 (omega arith) 3 (omega arith) ∙ row-stays {k = 0} p2 (omega arith) 3 (omega arith) ∙ row-stays {k = 0} p1 (omega arith) 3 (omega arith)
+    ∙ p0 .first in
+    let first1 : firstOf m4 1 ≡ 0 = row-stays {k = 1} p3 (omega arith) 3 (omega arith) ∙ row-stays {k = 1} p2 (omega arith) 3 (omega arith) ∙ p1 .first in
+    let first2 : firstOf m4 2 ≡ 0 = row-stays {k = 2} p3 (omega arith) 3 (omega arith) ∙ p2 .first in
     record {
       is = λ s. rw (empty-class s m4 0 len0 none0, empty-class s m4 1 len1 none1, empty-class s m4 2 len2 none2, empty-class s m4 3 len3 (p3 .none));
       ok =
@@ -307,17 +317,18 @@ starts-is {m4 = m4} x z long p0 p1 p2 p3 =
             insns = omega arith;
             listed = omega arith;
             opnds = omega arith;
-            ivars = below-four none0 none1 none2 (p3 .none);
+            ivars = below-four (λ k. ivarsOf m4 k) 64 none0 none1 none2 (p3 .none);
             ranges = λ i h. absurd (omega arith);
             inside = λ i h. absurd (omega arith);
             flags = λ s b h. absurd (omega arith);
             listing = λ s. refl;
+            firsts = λ k h. record { high = below-four (λ k. firstOf m4 k) 0 first0 first1 first2 (p3 .first) k h; owned = λ f g e. absurd (omega arith) };
           };
     }
   where
-    below-four : ivarsOf m4 0 ≡ 0 → ivarsOf m4 1 ≡ 0 → ivarsOf m4 2 ≡ 0 → ivarsOf m4 3 ≡ 0 → (k : ℕ) → k < 4 → ivarsOf m4 k ≤ 64
-    below-four a b c d zero h = omega arith
-    below-four a b c d (suc zero) h = omega arith
-    below-four a b c d (suc (suc zero)) h = omega arith
-    below-four a b c d (suc (suc (suc zero))) h = omega arith
-    below-four a b c d (suc (suc (suc (suc k)))) h = absurd (omega arith)
+    below-four : (w : ℕ → ℕ) (n : ℕ) → w 0 ≡ 0 → w 1 ≡ 0 → w 2 ≡ 0 → w 3 ≡ 0 → (k : ℕ) → k < 4 → w k ≤ n
+    below-four w n a b c d zero h = omega arith
+    below-four w n a b c d (suc zero) h = omega arith
+    below-four w n a b c d (suc (suc zero)) h = omega arith
+    below-four w n a b c d (suc (suc (suc zero))) h = omega arith
+    below-four w n a b c d (suc (suc (suc (suc k)))) h = absurd (omega arith)

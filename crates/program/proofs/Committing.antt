@@ -20,7 +20,7 @@ use Rattle.program.specs.declared.Counts.{Counts}
 use Rattle.program.specs.declared.Op.{Op}
 use Rattle.program.specs.declared.Op.the-variants.{Jump, IfTrue, Return, SendStatic, SendDynamic, Compute, Phi, Param, SelfParam, New, GetIvar, SetIvar}
 use Rattle.program.proofs.Areas.{Same, opnds-same, given-length, same-above}
-use Rattle.program.proofs.Viewing.{Keeps, keeps-then, insn-keep, ivars-keep, instructions-keep, functions-keep, classes-keep, blocks-keep, free-insns, opnds-end, flags-same, instructions-more}
+use Rattle.program.proofs.Viewing.{Keeps, keeps-then, insn-keep, ivars-keep, firsts-keep, instructions-keep, functions-keep, classes-keep, blocks-keep, free-insns, opnds-end, flags-same, instructions-more}
 
 -- ---- what the rules ask of one instruction more
 
@@ -180,6 +180,7 @@ module _ {m : List ℕ} {c : Counts} (b : BlockId) (o : Op) (n : ℕ) (r : Ready
               ∙ ap (λ (k : ℕ). listedCount (view s m c) + k) (sym (new-listed s))
               ∙ sym (listed-more (view s m c) (new s))
               ∙ sym (ap listedCount (commit-view s));
+          firsts = firsts-keep r K;
         }
 
   -- an instruction that ends no block

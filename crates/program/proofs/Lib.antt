@@ -1,5 +1,6 @@
 pub mod Tables
 pub mod Forms
+pub mod Owners
 pub mod Areas
 pub mod Stores
 pub mod Viewing

@@ -1,4 +1,4 @@
--- Rows of two, three, four and six words: what stands in memory after their stores. Assumes nothing.
+-- Rows of two, four and six words: what stands in memory after their stores. Assumes nothing.
 use mathlib.Core.Path.{_≡_, _∙_}
 use mathlib.Core.List.{List}
 use Prim.Native.Nat.{ℕ, _+_, _*_, _≤_, _<_}
@@ -13,7 +13,7 @@ use Rattle.program.specs.declared.Name.{Name}
 use Rattle.program.specs.declared.Row.{Row}
 use Rattle.program.specs.declared.Function.{Function}
 use Rattle.program.proofs.Forms.{id-mod}
-use Rattle.program.proofs.Areas.{only-none, only-set, only-wide}
+use Rattle.program.proofs.Areas.{only-none, only-set}
 
 module _ (m : List ℕ) (at v0 v1 : ℕ) (h : at + 1 < length m) where
   abbrev twoStored : List ℕ
@@ -33,31 +33,6 @@ module _ (m : List ℕ) (at v0 v1 : ℕ) (h : at + 1 < length m) where
 
   two-only : Only at (at + 2) m twoStored
   two-only = only-set (at + 1) v1 (only-set at v0 (only-none m) (omega arith) (omega arith)) (omega arith) (omega arith)
-
-module _ (m : List ℕ) (at v0 v1 v2 : ℕ) (h : at + 2 < length m) where
-  abbrev threeStored : List ℕ
-  threeStored = set (set (set m at v0) (at + 1) v1) (at + 2) v2
-
-  three-length : length threeStored ≡ length m
-  three-length = simp length-set
-
-  three-0 : getD threeStored at 0 ≡ v0
-  three-0 =
-      getD-set-other (set (set m at v0) (at + 1) v1) (at + 2) at v2 0 (λ z. omega arith)
-      ∙ getD-set-other (set m at v0) (at + 1) at v1 0 (λ z. omega arith)
-      ∙ getD-set-same m at v0 0 (omega arith)
-
-  three-1 : getD threeStored (at + 1) 0 ≡ v1
-  three-1 =
-      getD-set-other (set (set m at v0) (at + 1) v1) (at + 2) (at + 1) v2 0 (λ z. omega arith)
-      ∙ getD-set-same (set m at v0) (at + 1) v1 0 (simp length-set (omega arith))
-
-  three-2 : getD threeStored (at + 2) 0 ≡ v2
-  three-2 =
-      getD-set-same (set (set m at v0) (at + 1) v1) (at + 2) v2 0 (simp length-set (omega arith))
-
-  three-only : Only at (at + 3) m threeStored
-  three-only = only-set (at + 2) v2 (only-set (at + 1) v1 (only-set at v0 (only-none m) (omega arith) (omega arith)) (omega arith) (omega arith)) (omega arith) (omega arith)
 
 module _ (m : List ℕ) (at v0 v1 v2 v3 : ℕ) (h : at + 3 < length m) where
   abbrev fourStored : List ℕ
@@ -195,16 +170,18 @@ fun-put m n x w e f long h =
       here = rw (four-0 m at a k w b g, four-1 m at a k w b g, four-2 m at a k w b g, four-3 m at a k w b g, id-mod b f, e);
     }
 
--- a class's three
-pub class-put : (m : List ℕ) (n : ℕ) (x : Name) → size ≤ length m → n < 64
-    → PutsClass n x m (set (set (set m (classesAt + 4 * n) (x .start)) (classesAt + 4 * n + 1) (x .len)) (classesAt + 4 * n + 2) 0)
-class-put m n x long h =
+-- a class's four
+pub class-put : (m : List ℕ) (n : ℕ) (x : Name) (f : ℕ) → size ≤ length m → n < 64
+    → PutsClass n x f m
+    (set (set (set (set m (classesAt + 4 * n) (x .start)) (classesAt + 4 * n + 1) (x .len)) (classesAt + 4 * n + 2) 0) (classesAt + 4 * n + 3) f)
+class-put m n x f long h =
     let at = classesAt + 4 * n in
     let a = x .start in
     let k = x .len in
-    let g : at + 2 < length m = omega arith in
+    let g : at + 3 < length m = omega arith in
     record {
-      only = only-wide at (at + 4) (three-only m at a k 0 g) (omega arith) (omega arith);
-      here = rw (three-0 m at a k 0 g, three-1 m at a k 0 g);
-      none = three-2 m at a k 0 g;
+      only = four-only m at a k 0 f g;
+      here = rw (four-0 m at a k 0 f g, four-1 m at a k 0 f g);
+      none = four-2 m at a k 0 f g;
+      first = four-3 m at a k 0 f g;
     }

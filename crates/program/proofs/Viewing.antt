@@ -3,12 +3,13 @@ use mathlib.Core.Path.{_≡_, sym, ap, _∙_}
 use mathlib.Core.List.{List, [], _∷_, _++_}
 use Prim.Native.Nat.{ℕ, _+_, _*_, _≤_, _<_}
 use native.Mathlib.Omega.{arith}
+use native.Mathlib.Decide.{ℕ-discrete}
 use lib.ListN.{length, getD}
 use Rattle.kinds.specs.Kinds.{bitOf}
 use Rattle.rules.specs.Program as P
 use Rattle.rules.specs.Program.{terminated, listedCount}
-use Rattle.program.specs.Rows.{insnsAt, opndsAt, blocksAt, functionsAt, classesAt, ivarsAt, insnAt, instructionAt, funAt, functionIn, nameIn, ivarAt, ivarsOf, classAt, blockAt, flagAt}
-use Rattle.program.specs.View.{instructionsOf, functionsOf, classesOf, blocksOf, view, Ready, Only}
+use Rattle.program.specs.Rows.{insnsAt, opndsAt, blocksAt, functionsAt, classesAt, ivarsAt, insnAt, instructionAt, funAt, functionIn, nameIn, ivarAt, ivarsOf, firstOf, classAt, blockAt, flagAt}
+use Rattle.program.specs.View.{instructionsOf, functionsOf, classesOf, blocksOf, view, OwnsFrom, Ready, Only}
 use Rattle.program.specs.declared.Counts.{Counts}
 use Rattle.program.proofs.Tables.{tab-ext, tab-more, tab-length}
 use Rattle.program.proofs.Areas.{Same, same-below, same-above, opnds-same}
@@ -39,6 +40,21 @@ keeps-then p q =
       ivars = λ k a e. q .ivars k a e ∙ p .ivars k a e;
     }
 
+-- ---- the functions from which on methods stand
+
+-- the functions' rows stay
+pub owns-same : {m m' : List ℕ} {n k x : ℕ} → ((f : ℕ) → f < n → funAt m' f ≡ funAt m f) → OwnsFrom m n k x → OwnsFrom m' n k x
+owns-same h o = record { high = o .high; owned = λ f g e. o .owned f g (rw (h f g) at e) }
+
+-- a function more
+pub owns-more : {m : List ℕ} {n k x : ℕ} → OwnsFrom m n k x → OwnsFrom m (n + 1) k x
+owns-more {n = n} o =
+    let high = o .high in
+    record {
+      high = omega arith;
+      owned = λ f g e. elim (ℕ-discrete f n) [ yes z ↦ omega arith | no z ↦ o .owned f (omega arith) e ];
+    }
+
 -- ---- rows of tables that stay
 
 module _ {m m' : List ℕ} {c : Counts} (r : Ready m c) (K : Keeps c m m') where
@@ -67,7 +83,7 @@ module _ {m m' : List ℕ} {c : Counts} (r : Ready m c) (K : Keeps c m m') where
   unfolding instructionsOf
   instructions-keep s = tab-ext (instructionAt s m') (instructionAt s m) (c .insns) (instruction-keep s)
 
-  fun-keep : (f : ℕ) → f < c .functions → funAt m' f ≡ funAt m f
+  pub fun-keep : (f : ℕ) → f < c .functions → funAt m' f ≡ funAt m f
   unfolding funAt
   fun-keep f h =
       rw (
@@ -84,6 +100,10 @@ module _ {m m' : List ℕ} {c : Counts} (r : Ready m c) (K : Keeps c m m') where
 
   pub ivars-keep : (k : ℕ) → k < c .classes → ivarsOf m' k ≡ ivarsOf m k
   ivars-keep k h = K .classes (classesAt + 4 * k + 2) (omega arith) (omega arith)
+
+  pub firsts-keep : (k : ℕ) → k < c .classes → OwnsFrom m' (c .functions) k (firstOf m' k)
+  firsts-keep k h =
+      rw (K .classes (classesAt + 4 * k + 3) (omega arith) (omega arith)) (owns-same fun-keep (r .firsts k h))
 
   pub class-keep : (s : List ℕ) (k : ℕ) → k < c .classes → classAt s m' k ≡ classAt s m k
   unfolding classAt
@@ -125,6 +145,7 @@ module _ {m m' : List ℕ} {c : Counts} (r : Ready m c) (K : Keeps c m m') where
         inside = λ i h. rw (insn-keep i h) (r .inside i h);
         flags = λ s b h. F b h ∙ r .flags s b h ∙ sym (ap (λ (p : P.Program). bitOf (terminated p b)) (view-keep s));
         listing = λ s. r .listing s ∙ sym (ap listedCount (view-keep s));
+        firsts = firsts-keep;
       }
 
 -- ---- areas that no row in use lies in

@@ -188,12 +188,15 @@ nameIn s n = name s (n .start) (n .len)
 abbrev pub functionIn : List ℕ → Function → P.Function
 functionIn s f = record { name = nameIn s (f .name); class = ownerIn (f .class); entry = f .entry .0 }
 
--- a class's row: the name's start and length, the number of attributes
+-- a class's row: the name's start and length, the number of attributes, a function below which none is the class's
 abbrev pub classNameAt : List ℕ → ℕ → Name
 classNameAt m c = record { start = getD m (classesAt + 4 * c) 0; len = getD m (classesAt + 4 * c + 1) 0 }
 
 abbrev pub ivarsOf : List ℕ → ℕ → ℕ
 ivarsOf m c = getD m (classesAt + 4 * c + 2) 0
+
+abbrev pub firstOf : List ℕ → ℕ → ℕ
+firstOf m c = getD m (classesAt + 4 * c + 3) 0
 
 -- an attribute's name: 64 places for each class
 abbrev pub ivarAt : List ℕ → ℕ → ℕ → Name

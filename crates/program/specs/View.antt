@@ -1,5 +1,5 @@
 -- The program that memory and counts stand for, what every function may rely on, and what each does. Assumes nothing.
-use mathlib.Core.Bool.{cond}
+use mathlib.Core.Bool.{true, cond}
 use mathlib.Core.Path.{_≡_}
 use mathlib.Core.List.{List, map}
 use Prim.Native.Nat.{ℕ, _+_, _*_, _≤_, _<_}
@@ -7,11 +7,12 @@ use lib.Dec.{ltb, leb}
 use lib.ListN.{length, getD}
 use Rattle.kinds.specs.Kinds.{bitOf}
 use Rattle.rules.specs.Actions.{Answer, answered, refused}
+use Rattle.rules.specs.Lists.{isJust}
 use Rattle.rules.specs.Program as P
 use Rattle.rules.specs.Program.{terminated, listedCount}
 use Rattle.rules.specs.Reading.{Parser, withProgram, withBlock, withClass, pushInsn, newBlockOf, newBlock, newFun, newClass}
 use Rattle.program.specs.Tab.{tab}
-use Rattle.program.specs.Rows.{size, insnsAt, opndsAt, blocksAt, functionsAt, classesAt, opndsIn, opndOf, opIn, listedIn, insnAt, instructionAt, funAt, functionIn, nameIn, ownerIn, classNameAt, classAt, ivarsOf, blockAt, flagAt}
+use Rattle.program.specs.Rows.{size, insnsAt, opndsAt, blocksAt, functionsAt, classesAt, opndsIn, opndOf, opIn, listedIn, insnAt, instructionAt, funAt, functionIn, nameIn, ownerIn, classNameAt, classAt, ivarsOf, firstOf, blockAt, flagAt}
 use Rattle.program.specs.declared.Counts.{Counts}
 use Rattle.program.specs.declared.Limits.{Limits}
 use Rattle.program.specs.declared.Name.{Name}
@@ -57,7 +58,12 @@ view s m c =
 
 -- ---- what every function may rely on, for any script
 
--- the counts stay within the tables; each instruction's block and operands are there; the flags of blocks and the number of listed operands are the program's
+-- of the first n functions, none below x is a method of class k
+pub record OwnsFrom (m : List ℕ) (n k x : ℕ) : Type 0 where
+  pub high : x ≤ n
+  pub owned : (f : ℕ) → f < n → isJust (ownerIn (funAt m f .class)) k ≡ true → x ≤ f
+
+-- the counts stay within the tables; each instruction's block and operands are there; the flags of blocks and the number of listed operands are the program's; a class's methods stand from its first function on
 pub record Ready (m : List ℕ) (c : Counts) : Type 0 where
   pub len-mem : size ≤ length m
   pub functions : c .functions ≤ 128
@@ -71,6 +77,7 @@ pub record Ready (m : List ℕ) (c : Counts) : Type 0 where
   pub inside : (i : ℕ) → i < c .insns → insnAt m i .block .0 < c .blocks
   pub flags : (s : List ℕ) (b : ℕ) → b < c .blocks → flagAt m b ≡ bitOf (terminated (view s m c) b)
   pub listing : (s : List ℕ) → c .listed ≡ listedCount (view s m c)
+  pub firsts : (k : ℕ) → k < c .classes → OwnsFrom m (c .functions) k (firstOf m k)
 
 -- the limits that a call is given are at most the tables' room
 pub record Small (l : Limits) : Type 0 where
@@ -142,10 +149,11 @@ pub record PutsFun (n : ℕ) (x : Function) (m m' : List ℕ) : Type 0 where
   pub only : Only (functionsAt + 4 * n) (functionsAt + 4 * n + 4) m m'
   pub here : funAt m' n ≡ x
 
-pub record PutsClass (n : ℕ) (x : Name) (m m' : List ℕ) : Type 0 where
+pub record PutsClass (n : ℕ) (x : Name) (f : ℕ) (m m' : List ℕ) : Type 0 where
   pub only : Only (classesAt + 4 * n) (classesAt + 4 * n + 4) m m'
   pub here : classNameAt m' n ≡ x
   pub none : ivarsOf m' n ≡ 0
+  pub first : firstOf m' n ≡ f
 
 -- ---- additions
 

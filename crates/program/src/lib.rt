@@ -9,9 +9,10 @@ ghost use mathlib.Core.Path.{_≡_};
 ghost use mathlib.Core.List.{[], _∷_, _++_, map};
 ghost use Prim.Native.Nat.{_+_, _*_, _≤_, _<_};
 ghost use lib.ListN.{length};
+ghost use Rattle.rules.specs.Lists.{isJust};
 ghost use Rattle.rules.specs.Program.{limits, sameOpnd};
-ghost use Rattle.program.specs.Rows.{size, opndsAt, opndFrom, opndAt, opndsIn, opndOf, nth, given, opFrom, listedIn, endsBlock, ownerFrom};
-ghost use Rattle.program.specs.View.{Ready, Small, limitsOf, ReadsInsn, ReadsFun, ReadsBlock, Puts, PutsRow, Asks, Room, PutsBlock, PutsFun, PutsClass, Commits, Adds, Did, DidFun, Starts, insnOf, blockOf, classOf, pushOf, callOf, blockFor, nextBlock, classFor, moreInsns, moreCalls, moreBlocks, moreClasses, unchanged};
+ghost use Rattle.program.specs.Rows.{size, opndsAt, opndFrom, opndAt, opndsIn, opndOf, nth, given, opFrom, listedIn, endsBlock, ownerFrom, ownerIn};
+ghost use Rattle.program.specs.View.{OwnsFrom, Ready, Small, limitsOf, ReadsInsn, ReadsFun, ReadsBlock, Puts, PutsRow, Asks, Room, PutsBlock, PutsFun, PutsClass, Commits, Adds, Did, DidFun, Starts, insnOf, blockOf, classOf, pushOf, callOf, blockFor, nextBlock, classFor, moreInsns, moreCalls, moreBlocks, moreClasses, unchanged};
 
 // Where the tables start, in words, and how many words they take together.
 pub const INSNS: usize = 0;
@@ -355,6 +356,16 @@ fn owner_word(o: Owner) -> usize
     }
 }
 
+// The word of an owner stands for class k.
+pub fn is_owned(x: usize, k: ClassId) -> bool
+    ensures { λ r. ⌜ r ≡ isJust (ownerIn (ownerFrom x)) (k .0) ⌝ }
+{
+    if x % 4294967296 == (k.0 as usize + 1) % 4294967296 {
+        return 0 < x;
+    }
+    false
+}
+
 // ---- rows read
 
 // The operand that stands at a word of a memory.
@@ -403,6 +414,18 @@ pub fn read_fun(m: &[usize], c: Counts, f: FunId) -> Function
         class: owner_from(m[at + 2]),
         entry: BlockId((m[at + 3] % 4294967296) as u32),
     }
+}
+
+// No function of class k stands below this one.
+pub fn first_function(m: &[usize], c: Counts, k: ClassId) -> usize
+    requires { ⌜ Ready (now m) c ⌝ }
+    ensures { λ r. ⌜ OwnsFrom (now (m .entry)) (c .functions) (k .0) r ⌝ }
+{
+    let n = k.0 as usize;
+    if n < c.classes {
+        return m[CLASSES + 4 * n + 3];
+    }
+    0
 }
 
 // The function of a block.
@@ -695,15 +718,16 @@ fn put_fun(m: &mut [usize], f: FunId, x: Function)
     m[at + 3] = entry.0 as usize;
 }
 
-fn put_class(m: &mut [usize], k: ClassId, x: Name)
+fn put_class(m: &mut [usize], k: ClassId, x: Name, first: usize)
     requires { ⌜ size ≤ length (now m) ⌝ }
     requires { ⌜ k .0 < 64 ⌝ }
-    ensures { λ _. ⌜ PutsClass (k .0) x (now (m .entry)) (now (m .exit)) ⌝ }
+    ensures { λ _. ⌜ PutsClass (k .0) x first (now (m .entry)) (now (m .exit)) ⌝ }
 {
     let at = CLASSES + 4 * (k.0 as usize);
     m[at] = x.start;
     m[at + 1] = x.len;
     m[at + 2] = 0;
+    m[at + 3] = first;
 }
 
 // A block of function f is opened, or 11.
@@ -775,6 +799,22 @@ pub fn new_fun(m: &mut [usize], c: Counts, l: Limits, name: Name, class: Owner) 
     }
 }
 
+// The first function of class k, else the number of functions. The reader adds a class before its methods.
+fn first_owned(m: &[usize], c: Counts, k: ClassId) -> usize
+    requires { ⌜ Ready (now m) c ⌝ }
+    ensures { λ r. ⌜ OwnsFrom (now (m .entry)) (c .functions) (k .0) r ⌝ }
+{
+    let most = c.functions;
+    let mut i = 0;
+    while i < most {
+        if is_owned(m[FUNCTIONS + 4 * i + 2], k) {
+            return i;
+        }
+        i += 1;
+    }
+    most
+}
+
 pub fn new_class(m: &mut [usize], c: Counts, l: Limits, name: Name) -> NewClass
     requires { ⌜ Ready (now m) c ⌝ }
     requires { ⌜ Small l ⌝ }
@@ -785,7 +825,8 @@ pub fn new_class(m: &mut [usize], c: Counts, l: Limits, name: Name) -> NewClass
         return NewClass::Refused(11);
     }
     let k = ClassId(n as u32);
-    put_class(m, k, name);
+    let first = first_owned(m, c, k);
+    put_class(m, k, name, first);
     NewClass::Added(
         k,
         Counts {
@@ -804,10 +845,10 @@ pub fn no_program(m: &mut [usize]) -> Counts
     requires { ⌜ size ≤ length (now m) ⌝ }
     ensures { λ r. ⌜ Starts (now (m .exit)) r ⌝ }
 {
-    put_class(m, ClassId(0), Name { start: 0, len: 0 });
-    put_class(m, ClassId(1), Name { start: 0, len: 0 });
-    put_class(m, ClassId(2), Name { start: 0, len: 0 });
-    put_class(m, ClassId(3), Name { start: 0, len: 0 });
+    put_class(m, ClassId(0), Name { start: 0, len: 0 }, 0);
+    put_class(m, ClassId(1), Name { start: 0, len: 0 }, 0);
+    put_class(m, ClassId(2), Name { start: 0, len: 0 }, 0);
+    put_class(m, ClassId(3), Name { start: 0, len: 0 }, 0);
     Counts {
         functions: 0,
         classes: 4,

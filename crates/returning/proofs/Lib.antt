@@ -1,3 +1,4 @@
 pub mod Opnds
 pub mod Passes
+pub mod Sets
 pub mod Given

@@ -1,10 +1,10 @@
 -- What the passes over returned operands promise, and what they rely on. Assumes nothing.
-use mathlib.Core.Bool.{Bool as 𝔹, true, false, cond}
+use mathlib.Core.Bool.{Bool as 𝔹, true, false}
 use mathlib.Core.Option.{some}
 use mathlib.Core.Path.{_≡_}
-use mathlib.Core.List.{List, [], _∷_, map}
+use mathlib.Core.List.{List, [], _∷_, _++_, map}
 use Prim.Native.Nat.{ℕ, _+_, _≤_, _<_}
-use lib.ListN.{getD, drop}
+use lib.ListN.{length, getD, drop}
 use Rattle.kinds.specs.declared.Kind.{Kind}
 use Rattle.rules.specs.Actions.{_>>=_, the}
 use Rattle.rules.specs.Lists.{placesFrom, concat}
@@ -20,7 +20,10 @@ use Rattle.state.specs.View.{Attrs, kindsOf, calledOf}
 use Rattle.index.specs.Chains.{Index}
 use Rattle.flows.specs.declared.Pass.{Pass}
 use Rattle.flows.specs.Tally.{FitsAt}
-use Rattle.flows.specs.Flows.{Passed}
+use Rattle.flows.specs.declared.AsSet.the-variants.{Set}
+use Rattle.flows.specs.Flows.{Passed, standing, joinSets}
+use Rattle.returning.specs.declared.Met.{Met}
+use Rattle.returning.specs.declared.Met.the-variants.{Classes, Other}
 
 -- the end of a call's rule: the kind of what has flowed back to it
 unfoldable pub callKind : Limits → Program → ℕ → Acts Kind
@@ -31,6 +34,11 @@ callKind L p i = do
 -- r is the operand of instruction j, if that is a Return
 pub record Returns (m : List ℕ) (c : Counts) (j : ℕ) (r : Opnd) : Type 0 where
   pub is : (s : List ℕ) (o : P.Opnd) → returned (opOf (view s m c) j) ≡ some o → opndOf r ≡ o
+
+-- that operand stands at a word; 0 where there is none
+pub record ReturnsAt (m : List ℕ) (c : Counts) (j at : ℕ) : Type 0 where
+  pub is : (at ≡ 0 → ⊥) → Returns m c j (standing m at)
+  pub inside : at + 1 < length m
 
 -- these instructions are Returns, and these are their operands
 unfoldable pub Gives : Program → List ℕ → List P.Opnd → Type 0
@@ -66,12 +74,29 @@ pub record BackIn (m : List ℕ) (c : Counts) (z : Sizes) (t : List (List 𝔹))
   pub sound : Sound (view script m c) (z .insns)
   pub among : Among t i f n
 
--- a pass over the operands of the Returns of f; the same where i has called f; over those of all functions that i has called, if they are among n from f on
+-- r is the first function from f on that i has called, or e
+pub record NextCalled (t : List (List 𝔹)) (i f e r : ℕ) : Type 0 where
+  pub low : f ≤ r
+  pub high : r ≤ e
+  pub none : (g : ℕ) → f ≤ g → g < r → marked t g i ≡ false
+  pub here : r < e → marked t r i ≡ true
+
+-- a pass over the operands of the Returns of f; over those of all functions that i has called, if they are among n from f on
 pub record PassedBack (m : List ℕ) (c : Counts) (z : Sizes) (w : List ℕ) (f : ℕ) (x y : Pass) : Type 0 where
   pub passed : (s : List ℕ) → Passed (kindsOf z w) (returns (view s m c) f) x y
 
-pub record PassedIf (m : List ℕ) (c : Counts) (z : Sizes) (w : List ℕ) (i f : ℕ) (x y : Pass) : Type 0 where
-  pub passed : (s : List ℕ) → Passed (kindsOf z w) (cond (marked (calledOf z w) f i) (returns (view s m c) f) []) x y
-
 pub record PassedAll (m : List ℕ) (c : Counts) (z : Sizes) (w : List ℕ) (i f n : ℕ) (x y : Pass) : Type 0 where
   pub passed : Among (calledOf z w) i f n → (s : List ℕ) → Passed (kindsOf z w) (backFrom (view s m c) (calledOf z w) i 0) x y
+
+-- the classes s, with a set among the kinds or not (b), become r by operands l, whatever follows
+abbrev pub Joins : List Kind → List P.Opnd → 𝔹 → ℕ → Met → Type 0
+Joins ks l b s (Classes d t) = (k : List P.Opnd) → joinSets ks b s (l ++ k) ≡ joinSets ks d t k
+Joins ks l b s Other = Unit {0}
+
+-- by the operands of the Returns of f
+pub record JoinsBack (m : List ℕ) (c : Counts) (z : Sizes) (w : List ℕ) (f : ℕ) (b : 𝔹) (s : ℕ) (r : Met) : Type 0 where
+  pub joins : (u : List ℕ) → Joins (kindsOf z w) (returns (view u m c) f) b s r
+
+-- r is 0, or the union of the classes of what has flowed back to i, if it has called none but the n functions from f on
+pub record JoinedAll (m : List ℕ) (c : Counts) (z : Sizes) (w : List ℕ) (i f n r : ℕ) : Type 0 where
+  pub joined : 0 < r → Among (calledOf z w) i f n → (u : List ℕ) → joinSets (kindsOf z w) false 0 (backFrom (view u m c) (calledOf z w) i 0) ≡ Set r

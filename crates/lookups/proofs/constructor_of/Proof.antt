@@ -2,8 +2,8 @@
 use Prim.Native.Nat.{_-_}
 use Rattle.rules.specs.Lists.{bytes}
 use Rattle.lookups.specs.Look.{isMethod, funRow}
-use Rattle.lookups.proofs.Finds.{First, first-start, first-more}
-use Rattle.lookups.proofs.Rows.{constructs-none, constructs-hit}
+use Rattle.lookups.proofs.Finds.{First, first-more}
+use Rattle.lookups.proofs.Rows.{methods-from, constructs-none, constructs-hit}
 use borrow.Author.Needs.{needs}
 use Rattle.lookups.proofs.constructor_of.Statement.{statement}
 use Rattle.lookups.proofs.constructor_of.Tie as tie
@@ -14,8 +14,11 @@ Inv-loop s m c k most i₀ i = First (isMethod (k .0) (bytes "initialize")) (fun
 abbrev μ-loop : tie.MeasureT-loop
 μ-loop s m c k most i₀ i = most - i
 
+first-function-requires : tie.Need-first-function-requires Inv-loop μ-loop
+first-function-requires c κs = search needs
+
 loop-holds : tie.Need-loop-holds Inv-loop μ-loop
-loop-holds c = search first-start
+loop-holds c = search methods-from
 
 cast-t11 : tie.Need-cast-t11 Inv-loop μ-loop
 cast-t11 c = search needs
@@ -47,6 +50,7 @@ constructor-of-spec =
     (tie.spec
     Inv-loop
     μ-loop
+    first-function-requires
     loop-holds
     cast-t11
     constructor-is-requires

@@ -2,8 +2,8 @@
 use Prim.Native.Nat.{_-_}
 use Rattle.program.specs.Rows.{nameIn}
 use Rattle.lookups.specs.Look.{isMethod, funRow}
-use Rattle.lookups.proofs.Finds.{First, first-start, first-more}
-use Rattle.lookups.proofs.Rows.{methods-none, methods-hit}
+use Rattle.lookups.proofs.Finds.{First, first-more}
+use Rattle.lookups.proofs.Rows.{methods-from, methods-none, methods-hit}
 use borrow.Author.Needs.{needs}
 use Rattle.lookups.proofs.method_named.Statement.{statement}
 use Rattle.lookups.proofs.method_named.Tie as tie
@@ -14,8 +14,11 @@ Inv-loop s m c k n most i₀ i = First (isMethod (k .0) (nameIn s n)) (funRow s 
 abbrev μ-loop : tie.MeasureT-loop
 μ-loop s m c k n most i₀ i = most - i
 
+first-function-requires : tie.Need-first-function-requires Inv-loop μ-loop
+first-function-requires c κs = search needs
+
 loop-holds : tie.Need-loop-holds Inv-loop μ-loop
-loop-holds c = search first-start
+loop-holds c = search methods-from
 
 cast-t10 : tie.Need-cast-t10 Inv-loop μ-loop
 cast-t10 c = search needs
@@ -44,6 +47,7 @@ method-named-spec =
     (tie.spec
     Inv-loop
     μ-loop
+    first-function-requires
     loop-holds
     cast-t10
     method-is-requires

@@ -39,6 +39,15 @@ mul-m-3 c = search needs
 slice-write-m-3 : tie.Need-slice-write-m-3
 slice-write-m-3 c = simp length-set (omega arith)
 
+add-m-3 : tie.Need-add-m-3
+add-m-3 c = search needs
+
+mul-m-4 : tie.Need-mul-m-4
+mul-m-4 c = search needs
+
+slice-write-m-4 : tie.Need-slice-write-m-4
+slice-write-m-4 c = simp length-set (omega arith)
+
 same-length : tie.Need-same-length
 same-length c = search needs
 
@@ -60,5 +69,8 @@ put-class-spec =
     add-m-2
     mul-m-3
     slice-write-m-3
+    add-m-3
+    mul-m-4
+    slice-write-m-4
     same-length
     returns)

@@ -1,33 +1,20 @@
-use Rattle.returning.proofs.Passes.{call-kind-is, call-kind-once}
+-- `returning::call_kind` meets its contract. Assumes nothing.
+use Rattle.returning.proofs.Sets.{call-kind-set}
 use borrow.Author.Needs.{needs}
 use Rattle.returning.proofs.call_kind.Statement.{statement}
 use Rattle.returning.proofs.call_kind.Tie as tie
 
-pass-called-requires : tie.Need-pass-called-requires
-pass-called-requires c κs = search needs
-
-finish-pass-requires : tie.Need-finish-pass-requires
-finish-pass-requires c κs = search needs
+join-called-requires : tie.Need-join-called-requires
+join-called-requires c κs = search needs
 
 returns : tie.Need-returns
-returns c = call-kind-once (c .before .before .before .before .before .before .before .args .p .now) (c .before .before .before .before .before .before .before .args .c) (c .before .before .before .before .before .before .before .args .z) (c .before .before .before .before .before .before .before .args .m .now) (c .before .before .before .before .before .before .before .args .i .0) (c .before .before .before .before .before .before .before .args .first .0) (c .before .before .before .before .before .before .before .args .n) (c .before .before .before .pass-called .ensures) (c .before .if1 .taken) (c .finish-pass .ensures)
+returns c = search call-kind-set
 
-pass-called-requires-2 : tie.Need-pass-called-requires-2
-pass-called-requires-2 c κs = search needs
-
-finish-pass-requires-2 : tie.Need-finish-pass-requires-2
-finish-pass-requires-2 c κs = search needs
+kind-by-passes-requires : tie.Need-kind-by-passes-requires
+kind-by-passes-requires c κs = search needs
 
 returns-2 : tie.Need-returns-2
-returns-2 c = call-kind-is (c .before .before .before .before .before .before .before .before .args .p .now) (c .before .before .before .before .before .before .before .before .args .c) (c .before .before .before .before .before .before .before .before .args .z) (c .before .before .before .before .before .before .before .before .args .m .now) (c .before .before .before .before .before .before .before .before .args .i .0) (c .before .before .before .before .before .before .before .before .args .first .0) (c .before .before .before .before .before .before .before .before .args .n) (c .before .before .before .before .pass-called .ensures) (c .before .pass-called2 .ensures) (c .finish-pass2 .ensures)
+returns-2 c = search needs
 
 pub call-kind-spec : {M : Type 1} → statement M
-call-kind-spec =
-    tie.close
-    (tie.spec
-    pass-called-requires
-    finish-pass-requires
-    returns
-    pass-called-requires-2
-    finish-pass-requires-2
-    returns-2)
+call-kind-spec = tie.close (tie.spec join-called-requires returns kind-by-passes-requires returns-2)

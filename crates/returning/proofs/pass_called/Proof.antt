@@ -1,53 +1,48 @@
+-- `returning::pass_called` meets its contract. Assumes nothing.
+use Prim.Native.Nat.{_-_}
 use Rattle.returning.proofs.Passes.{Calling, calling-start, calling-fits, calling-below, calling-more, calling-done}
-use Prim.Native.Nat.{_+_, _-_}
 use borrow.Author.Needs.{needs}
 use Rattle.returning.proofs.pass_called.Statement.{statement}
 use Rattle.returning.proofs.pass_called.Tie as tie
-use Rattle.returning.proofs.pass_called.Reads as reads
-use Rattle.returning.proofs.pass_called.Lts as lts
-use Rattle.returning.proofs.pass_if_called.Reads as pass-if-called-reads
 
 abbrev Inv-loop : tie.InvT-loop
-Inv-loop p c x m z i n y₀ f₀ end y f = Calling p c z m (i .0) f₀ y₀ y f
+Inv-loop p c x m z i n y₀ from end f₀ y f = Calling p c z m (i .0) from end y₀ y f
 
 abbrev μ-loop : tie.MeasureT-loop
-μ-loop p c x m z i n y₀ f₀ end y f = end - f
+μ-loop p c x m z i n y₀ from end f₀ y f = end - f
 
--- src/lib.rt:97:17
-cast-f : tie.Need-cast-f Inv-loop μ-loop
-cast-f c = search needs
+cast-from : tie.Need-cast-from Inv-loop μ-loop
+cast-from c = search needs
 
--- src/lib.rt:98:15
 add-end : tie.Need-add-end Inv-loop μ-loop
 add-end c = search needs
 
--- src/lib.rt:99:5
+next-called-requires : tie.Need-next-called-requires Inv-loop μ-loop
+next-called-requires c κs = search needs
+
 loop-holds : tie.Need-loop-holds Inv-loop μ-loop
-loop-holds c = calling-start (c .before .before .before .before .args .p .now) (c .before .before .before .before .args .c) (c .before .before .before .before .args .z) (c .before .before .before .before .args .m .now) (c .before .before .before .before .args .i .0) (c .before .before .before .before .args .start) (c .before .before .before .before .args .first .0)
+loop-holds c = search calling-start
 
--- src/lib.rt:100:52
-cast-t14 : tie.Need-cast-t14 Inv-loop μ-loop
-cast-t14 c = calling-fits (c .before .before .before .before .before .before .args .z) (c .before .before .before .before .before .before .args .m .now) (c .before .before .before .before .before .before .args .first .0) (c .before .before .before .before .before .before .args .n) (c .before .before .before .before .before .before .pre .0) (c .before .before .before .before .before .before .pre .1 .1 .1) (c .loop-test .taken)
+cast-t15 : tie.Need-cast-t15 Inv-loop μ-loop
+cast-t15 c = search calling-fits
 
--- src/lib.rt:100:9
-pass-if-called-requires : tie.Need-pass-if-called-requires Inv-loop μ-loop
-pass-if-called-requires c κs = (c .before .before .before .before .before .before .pre .0, (c .before .before .before .before .before .before .pre .1 .0, (calling-below (c .before .before .before .before .before .before .args .z) (c .before .before .before .before .before .before .args .first .0) (c .before .before .before .before .before .before .args .n) (c .before .before .before .before .before .before .pre .1 .1 .1) (c .loop-test .taken), c .before .before .before .before .before .before .pre .1 .1 .0)))
+pass-returns-requires : tie.Need-pass-returns-requires Inv-loop μ-loop
+pass-returns-requires c κs = search (needs, calling-below)
 
--- src/lib.rt:101:9
-add-f : tie.Need-add-f Inv-loop μ-loop
-add-f c = search needs
+add-next-called : tie.Need-add-next-called Inv-loop μ-loop
+add-next-called c = search needs
 
--- src/lib.rt:99:5
+next-called-requires-2 : tie.Need-next-called-requires-2 Inv-loop μ-loop
+next-called-requires-2 c κs = search needs
+
 loop-less : tie.Need-loop-less Inv-loop μ-loop
 loop-less c = search needs
 
--- src/lib.rt:99:5
 loop-again : tie.Need-loop-again Inv-loop μ-loop
-loop-again c = calling-more (c .before .before .loop .inv) (c .before .before .before .before .before .before .before .args .n) (c .before .before .before .before .before .before .before .pre .1 .1 .1) (c .before .loop-test .taken) (c .pass-if-called .ensures)
+loop-again c = search calling-more
 
--- src/lib.rt:80:1
 returns : tie.Need-returns Inv-loop μ-loop
-returns c = calling-done (c .before .loop .inv) (c .before .before .before .before .before .before .args .n) (c .before .before .before .before .before .before .pre .1 .1 .1) (c .loop-test .left)
+returns c = search calling-done
 
 pub pass-called-spec : {M : Type 1} → statement M
 pass-called-spec =
@@ -55,12 +50,14 @@ pass-called-spec =
     (tie.spec
     Inv-loop
     μ-loop
-    cast-f
+    cast-from
     add-end
+    next-called-requires
     loop-holds
-    cast-t14
-    pass-if-called-requires
-    add-f
+    cast-t15
+    pass-returns-requires
+    add-next-called
+    next-called-requires-2
     loop-less
     loop-again
     returns)

@@ -1,9 +1,9 @@
--- `lookups::is_owned` meets its contract. Assumes nothing.
+-- `program::is_owned` meets its contract. Assumes nothing.
 use native.Mathlib.Omega.{arith}
-use Rattle.lookups.proofs.Rows.{owned-same, owned-other}
+use Rattle.program.proofs.Owners.{owned-same, owned-other}
 use borrow.Author.Needs.{needs}
-use Rattle.lookups.proofs.is_owned.Statement.{statement}
-use Rattle.lookups.proofs.is_owned.Tie as tie
+use Rattle.program.proofs.is_owned.Statement.{statement}
+use Rattle.program.proofs.is_owned.Tie as tie
 
 cast-if1 : tie.Need-cast-if1
 cast-if1 c = search needs

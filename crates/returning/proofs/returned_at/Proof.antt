@@ -1,0 +1,63 @@
+-- `returning::returned_at` meets its contract. Assumes nothing.
+use native.Mathlib.Omega.{arith}
+use Rattle.returning.proofs.Sets.{at-fits, return-here, return-none}
+use borrow.Author.Needs.{needs}
+use Rattle.returning.proofs.returned_at.Statement.{statement}
+use Rattle.returning.proofs.returned_at.Tie as tie
+
+cast-at : tie.Need-cast-at
+cast-at c = search needs
+
+mul-at : tie.Need-mul-at
+mul-at c = search needs
+
+add-at : tie.Need-add-at
+add-at c = search needs
+
+add-first : tie.Need-add-first
+add-first c = search needs
+
+mul-first : tie.Need-mul-first
+mul-first c = search needs
+
+shared-slice-read-first : tie.Need-shared-slice-read-first
+shared-slice-read-first c = search needs
+
+add-count : tie.Need-add-count
+add-count c = search needs
+
+mul-count : tie.Need-mul-count
+mul-count c = search needs
+
+shared-slice-read-count : tie.Need-shared-slice-read-count
+shared-slice-read-count c = search needs
+
+mul-result : tie.Need-mul-result
+mul-result c = at-fits (c .before .before .before .before .args .p .now) (c .before .before .before .before .args .c) (c .before .before .before .before .args .j .0) (c .before .before .before .before .pre .0) (c .before .before .before .before .pre .1) _ (omega arith)
+
+add-result : tie.Need-add-result
+add-result c = at-fits (c .before .before .before .before .args .p .now) (c .before .before .before .before .args .c) (c .before .before .before .before .args .j .0) (c .before .before .before .before .pre .0) (c .before .before .before .before .pre .1) _ (omega arith)
+
+returns : tie.Need-returns
+returns c = return-here (c .before .before .before .before .args .p .now) (c .before .before .before .before .args .c) (c .before .before .before .before .args .j .0) (c .before .before .before .before .pre .0) (c .before .before .before .before .pre .1) (c .if1 .taken)
+
+returns-2 : tie.Need-returns-2
+returns-2 c = return-none (c .before .before .before .before .args .p .now) (c .before .before .before .before .args .c) (c .before .before .before .before .args .j .0) (c .before .before .before .before .pre .0) (c .before .before .before .before .pre .1)
+
+pub returned-at-spec : {M : Type 1} → statement M
+returned-at-spec =
+    tie.close
+    (tie.spec
+    cast-at
+    mul-at
+    add-at
+    add-first
+    mul-first
+    shared-slice-read-first
+    add-count
+    mul-count
+    shared-slice-read-count
+    mul-result
+    add-result
+    returns
+    returns-2)
