@@ -21,7 +21,7 @@ use Rattle.calls.specs.Calls.{CallIs}
 abbrev asks : ℕ → ℕ → Answer (Unit {0} × State) → Answer (Unit {0} × State)
 asks n k a = ifAnswered a (λ r. ask 16 (leb n k) (r .1))
 
-old-is : (L : Limits) (p : Program) (i f : ℕ) (s : State) → marked (s .calledBy) f i ≡ true → addCall L p i f s ≡ answered (tt, s)
+pub old-is : (L : Limits) (p : Program) (i f : ℕ) (s : State) → marked (s .calledBy) f i ≡ true → addCall L p i f s ≡ answered (tt, s)
 unfolding addCall
 old-is L p i f s e = rw e
 

@@ -233,13 +233,7 @@ module _ {m : List ℕ} {c : Counts} {z : Sizes} (w : List ℕ) {f k : ℕ} {s :
 pub callers-start : (m : List ℕ) (c : Counts) (z : Sizes) (w : List ℕ) (f n : ℕ) (x : Pass) → Passing m c z w f n x x 0
 callers-start m c z w f n x y p = p
 
--- ---- join_sets at its loop's head
-
-abbrev pub Summing : List ℕ → Counts → Sizes → List ℕ → ℕ → ℕ → 𝔹 → ℕ → ℕ → Type 0
-Summing m c z w f n b s k = (y : AsSet) → SetsFrom m c z w f n k b s y → SetsFrom m c z w f n 0 false 0 y
-
-pub sets-start : (m : List ℕ) (c : Counts) (z : Sizes) (w : List ℕ) (f n : ℕ) → Summing m c z w f n false 0 0
-sets-start m c z w f n y p = p
+-- ---- a step of joinSets
 
 pub join-step : (ks : List Kind) (b : 𝔹) (s : ℕ) (o : P.Opnd) (l : List P.Opnd) {x : AsSet} → asSet (kindIn ks o) ≡ x
     → joinSets ks b s (o ∷ l) ≡ elim x [ Set t ↦ joinSets ks (b || isSet (kindIn ks o)) (bitOr s t) l | Other ↦ Other ]
@@ -249,34 +243,6 @@ join-step ks b s o l e = ap (λ (y : AsSet). elim y [ Set t ↦ joinSets ks (b |
 pub join-none : (ks : List Kind) (b : 𝔹) (s : ℕ) → joinSets ks b s [] ≡ Set (cond b s 0)
 unfolding joinSets
 join-none ks b s = refl
-
-module _ {m : List ℕ} {c : Counts} {z : Sizes} (w : List ℕ) {f k : ℕ} {x : NextInsn} (q : Known m c z (calledOf z w))
-    (h : Following (calledOf z w) f (z .insns) k x) (n : ℕ) (b : 𝔹) (s : ℕ) (g : Summing m c z w f n b s k) where
-  done : {r : ℕ} → x ≡ Done → r ≡ cond b s 0 → SetsFrom m c z w f n 0 false 0 (Set r)
-  done {r} e er = g (Set r) (record { passed = λ L u _. rw (next-is w q h e .is) (ap Set er ∙ sym (join-none (kindsOf z w) b s)) })
-
-  pub sets-done : x ≡ Done → b ≡ true → SetsFrom m c z w f n 0 false 0 (Set s)
-  sets-done e eb = done e (rw eb)
-
-  pub sets-none : x ≡ Done → b ≡ false → SetsFrom m c z w f n 0 false 0 (Set 0)
-  sets-none e eb = done e (rw eb)
-
-  module _ (i : InsnId) {o : Opnd} {j : Kind} {y : AsSet} (e : x ≡ Place i) (a : Argues m c (i .0) n o) (ej : j ≡ kindIn (kindsOf z w) (opndOf o)) (ey : y ≡ asSet j) where
-    step : (L : Limits) (u : List ℕ) → Sound (view u m c) (z .insns) (calledOf z w) → {v : AsSet} → y ≡ v
-        → joinSets (kindsOf z w) b s (map (argument L (view u m c) n) (marksFrom (calledOf z w) f k))
-        ≡ elim v [ Set t ↦ joinSets (kindsOf z w) (b || isSet j) (bitOr s t) (map (argument L (view u m c) n) (marksFrom (calledOf z w) f (i .0 + 1))) | Other ↦ Other ]
-    step L u so {v} ev =
-        let d : opndOf o ≡ argument L (view u m c) n (i .0) = a .is L u (so .calls f (i .0) (mark-is (calledOf z w) f k (i .0) (next-is w q h e .is))) in
-        let t : marksFrom (calledOf z w) f k ≡ i .0 ∷ marksFrom (calledOf z w) f (i .0 + 1) = next-is w q h e .is ∙ ap (λ (j : ℕ). i .0 ∷ marksFrom (calledOf z w) f j) (sym (add-one (i .0))) in
-        let ek : kindIn (kindsOf z w) (argument L (view u m c) n (i .0)) ≡ j = ap (kindIn (kindsOf z w)) (sym d) ∙ sym ej in
-        rw t (join-step (kindsOf z w) b s (argument L (view u m c) n (i .0)) (map (argument L (view u m c) n) (marksFrom (calledOf z w) f (i .0 + 1))) (ap asSet ek ∙ sym ey ∙ ev)
-        ∙ ap (λ (k : Kind). elim v [ Set t ↦ joinSets (kindsOf z w) (b || isSet k) (bitOr s t) (map (argument L (view u m c) n) (marksFrom (calledOf z w) f (i .0 + 1))) | Other ↦ Other ]) ek)
-
-    pub sets-more : {d : 𝔹} (t : ℕ) → y ≡ Set t → d ≡ isSet j → Summing m c z w f n (b || d) (bitOr s t) (i .0 + 1)
-    sets-more t ev ed v p = g v (record { passed = λ L u so. p .passed L u so ∙ ap (λ (d : 𝔹). joinSets (kindsOf z w) (b || d) (bitOr s t) (map (argument L (view u m c) n) (marksFrom (calledOf z w) f (i .0 + 1)))) ed ∙ sym (step L u so ev) })
-
-    pub sets-other : y ≡ Other → SetsFrom m c z w f n 0 false 0 Other
-    sets-other ev = g Other (record { passed = λ L u so. sym (step L u so ev) })
 
 -- ---- a Param
 

@@ -5,4 +5,5 @@ pub mod Sets
 pub mod Standing
 pub mod Tallied
 pub mod Callers
+pub mod Joining
 pub mod Sounds

@@ -1,8 +1,9 @@
 -- Where an operand stands, and its kind in words. Assumes nothing.
-use mathlib.Core.Path.{_≡_, refl, sym, _∙_}
+use mathlib.Core.Bool.{Bool as 𝔹, true, false, _&&_}
+use mathlib.Core.Path.{_≡_, refl, sym, ap₂, _∙_}
 use mathlib.Core.List.{List}
 use Prim.Native.Nat.{ℕ, zero, suc, _+_, _%_, _^_, _<_}
-use borrow.Author.Tests.{ne-eqb}
+use borrow.Author.Tests.{ne-eqb, eqb-true}
 use native.Mathlib.Omega.{arith}
 use lib.Dec.{eqb}
 use lib.ListN.{getD}
@@ -12,11 +13,12 @@ use Rattle.kinds.specs.Kinds.{kindFrom, isSet}
 use Rattle.program.specs.declared.Counts.{Counts}
 use Rattle.program.specs.declared.Opnd.{Opnd}
 use Rattle.program.specs.declared.Opnd.the-variants.{Const, Insn}
-use Rattle.program.specs.Rows.{opndOf, opndAt}
+use Rattle.program.specs.Rows.{opndOf, opndFrom, opndAt}
 use Rattle.program.proofs.Forms.{opnd-insn, opnd-const}
 use Rattle.state.specs.declared.Sizes.{Sizes}
 use Rattle.opnds.specs.Reads.{Inside, kindIn}
 use Rattle.opnds.proofs.Given.{inside-at, const-read, insn-read}
+use Rattle.flows.specs.declared.Words.{Words}
 use Rattle.flows.specs.declared.AsSet.the-variants.{Set, Other}
 use Rattle.flows.specs.Flows.{Argues, standing, ArguesAt, asSet}
 
@@ -29,15 +31,6 @@ module _ (m : List ℕ) {at : ℕ} where
   unfolding standing
   stands h = rw (ne-eqb at 0 h)
 
-  stands-insn : (at ≡ 0 → ⊥) → getD m at 0 ≡ 10 → standing m at ≡ Insn (record { 0 = getD m (at + 1) 0 % 2 ^ 32 })
-  stands-insn h e = stands h ∙ sym (opnd-insn (getD m (at + 1) 0) e)
-
-  stands-const : (at ≡ 0 → ⊥) → (getD m at 0 ≡ 10 → ⊥) → standing m at ≡ Const (kindFrom (getD m at 0) (getD m (at + 1) 0))
-  stands-const h e = stands h ∙ sym (opnd-const (getD m (at + 1) 0) e refl)
-
-  pub stands-inside : (z : Sizes) → Inside z (standing m at) → (at ≡ 0 → ⊥) → getD m at 0 ≡ 10 → getD m (at + 1) 0 % 2 ^ 32 < z .insns
-  stands-inside z g h e = inside-at z (record { 0 = getD m (at + 1) 0 % 2 ^ 32 }) g (stands-insn h e)
-
   module _ {c : Counts} {i n : ℕ} (a : ArguesAt m c i n at) where
     argues : {o : Opnd} → standing m at ≡ o → Argues m c i n o
     argues e = rw e at (a .is)
@@ -48,16 +41,32 @@ module _ (m : List ℕ) {at : ℕ} where
     pub argues-some : {o : Opnd} → (at ≡ 0 → ⊥) → o ≡ opndAt m at → Argues m c i n o
     argues-some h e = argues (stands h ∙ sym e)
 
-  module _ (ks : List Kind) where
-    pub words-none : at ≡ 0 → kindFrom 0 0 ≡ kindIn ks (opndOf (standing m at))
-    unfolding kindFrom
-    words-none e = const-read ks Empty (stands-none e)
+  -- its two words
+  pub stood-none : at ≡ 0 → opndFrom 0 0 ≡ standing m at
+  unfolding kindFrom
+  stood-none e = sym (opnd-const 0 (λ h. omega arith) refl) ∙ sym (stands-none e)
 
-    pub words-insn : {k : Kind} → (at ≡ 0 → ⊥) → getD m at 0 ≡ 10 → k ≡ getD ks (getD m (at + 1) 0 % 2 ^ 32) Empty → k ≡ kindIn ks (opndOf (standing m at))
-    words-insn h e g = insn-read ks (record { 0 = getD m (at + 1) 0 % 2 ^ 32 }) (stands-insn h e) g
+  pub stood : (at ≡ 0 → ⊥) → opndFrom (getD m at 0) (getD m (at + 1) 0) ≡ standing m at
+  stood h = sym (stands h)
 
-    pub words-const : (at ≡ 0 → ⊥) → (getD m at 0 ≡ 10 → ⊥) → kindFrom (getD m at 0) (getD m (at + 1) 0) ≡ kindIn ks (opndOf (standing m at))
-    words-const h e = const-read ks (kindFrom (getD m at 0) (getD m (at + 1) 0)) (stands-const h e)
+-- ---- the kind of an operand in words
+
+module _ {t : ℕ} (x : ℕ) where
+  pub words-inside : (z : Sizes) → Inside z (opndFrom t x) → t ≡ 10 → x % 2 ^ 32 < z .insns
+  words-inside z g e = inside-at z (record { 0 = x % 2 ^ 32 }) g (sym (opnd-insn x e))
+
+  pub words-insn : (ks : List Kind) {k : Kind} → t ≡ 10 → k ≡ getD ks (x % 2 ^ 32) Empty → k ≡ kindIn ks (opndOf (opndFrom t x))
+  words-insn ks e g = insn-read ks (record { 0 = x % 2 ^ 32 }) (sym (opnd-insn x e)) g
+
+  pub words-const : (ks : List Kind) → (t ≡ 10 → ⊥) → kindFrom t x ≡ kindIn ks (opndOf (opndFrom t x))
+  words-const ks e = const-read ks (kindFrom t x) (sym (opnd-const x e refl))
+
+pub same-parts : (a b : Words) → (eqb (a .tag) (b .tag) && eqb (a .bits) (b .bits)) ≡ true → a ≡ b
+same-parts a b h = go (eqb (a .tag) (b .tag)) refl h
+  where
+    go : (x : 𝔹) → eqb (a .tag) (b .tag) ≡ x → (x && eqb (a .bits) (b .bits)) ≡ true → a ≡ b
+    go true e g = ap₂ (λ (t : ℕ) (y : ℕ). record { tag = t; bits = y }) (eqb-true (a .tag) (b .tag) e) (eqb-true (a .bits) (b .bits) g)
+    go false e g = cc
 
 -- ---- words as a set
 

@@ -17,7 +17,7 @@ use Rattle.rules.specs.Machine.{marked, argument as argumentOf}
 use Rattle.program.specs.declared.Opnd.{Opnd}
 use Rattle.program.specs.declared.Opnd.the-variants.{Const}
 use Rattle.program.specs.declared.Counts.{Counts}
-use Rattle.program.specs.Rows.{opndOf, opndAt}
+use Rattle.program.specs.Rows.{opndOf, opndFrom, opndAt}
 use Rattle.program.specs.View.{view, Ready}
 use Rattle.state.specs.declared.Sizes.{Sizes}
 use Rattle.state.specs.View.{Attrs, kindsOf, calledOf}
@@ -59,9 +59,12 @@ pub record ArguesAt (m : List ℕ) (c : Counts) (i n r : ℕ) : Type 0 where
   pub is : Argues m c i n (standing m r)
   pub inside : r + 1 < length m
 
--- the kind that two words stand for
+-- the kind that two words stand for, and the operand
 abbrev pub wordsOf : Words → Kind
 wordsOf x = kindFrom (x .tag) (x .bits)
+
+abbrev pub operandOf : Words → Opnd
+operandOf x = opndFrom (x .tag) (x .bits)
 
 -- the callers are calls, and no argument is Any or a result beyond the program's
 pub record Sound (p : Program) (n : ℕ) (t : List (List 𝔹)) : Type 0 where

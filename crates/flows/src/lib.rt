@@ -7,7 +7,7 @@ use sets::FunId;
 use sets::InsnId;
 use state::NextInsn;
 use state::Sizes;
-ghost use mathlib.Core.Bool.{false};
+ghost use mathlib.Core.Bool.{true, false};
 ghost use mathlib.Core.Path.{_≡_};
 ghost use mathlib.Core.List.{[], _∷_};
 ghost use Prim.Native.Nat.{ℕ, _+_, _<_};
@@ -19,7 +19,7 @@ ghost use Rattle.program.specs.View.{Ready};
 ghost use Rattle.state.specs.View.{kindsOf, calledOf, Held};
 ghost use Rattle.opnds.specs.Reads.{Inside, kindIn, Reads};
 ghost use Rattle.flows.specs.Tally.{lower, before, take as taken, close, finish};
-ghost use Rattle.flows.specs.Flows.{tallyOf, Adds, Passed, Argues, standing, ArguesAt, wordsOf, Known, PassedIn, asSet, SetsFrom, ParamIs};
+ghost use Rattle.flows.specs.Flows.{tallyOf, Adds, Passed, Argues, standing, ArguesAt, wordsOf, operandOf, Known, PassedIn, asSet, SetsFrom, ParamIs};
 
 // What was met so far: no operand, one operand and its kind, or the union of several.
 pub enum Tally {
@@ -35,7 +35,7 @@ pub struct Pass {
     pub tally: Tally,
 }
 
-// A kind's byte and payload.
+// The byte and payload of a kind, or of an operand.
 pub struct Words {
     pub tag: usize,
     pub bits: usize,
@@ -170,6 +170,32 @@ pub fn insn_words(m: &[usize], z: Sizes, i: InsnId) -> Words
     }
 }
 
+// The operand that stands at a word, in words; Empty for 0.
+fn standing_words(p: &[usize], at: usize) -> Words
+    requires { ⌜ at + 1 < length (now p) ⌝ }
+    ensures { λ r. ⌜ operandOf r ≡ standing (now (p .entry)) at ⌝ }
+{
+    if at == 0 {
+        return Words { tag: 0, bits: 0 };
+    }
+    Words {
+        tag: p[at],
+        bits: p[at + 1],
+    }
+}
+
+// The kind of an operand, both in words.
+fn words_of(m: &[usize], z: Sizes, o: Words) -> Words
+    requires { ⌜ Held z (now m) ⌝ }
+    requires { ⌜ Inside z (operandOf o) ⌝ }
+    ensures { λ r. ⌜ wordsOf r ≡ kindIn (kindsOf z (now (m .entry))) (opndOf (operandOf o)) ⌝ }
+{
+    if o.tag == 10 {
+        return insn_words(m, z, InsnId((o.bits % 4294967296) as u32));
+    }
+    o
+}
+
 // The kind of the operand that stands at a word, in words.
 pub fn opnd_words(p: &[usize], m: &[usize], z: Sizes, at: usize) -> Words
     requires { ⌜ at + 1 < length (now p) ⌝ }
@@ -177,15 +203,14 @@ pub fn opnd_words(p: &[usize], m: &[usize], z: Sizes, at: usize) -> Words
     requires { ⌜ Inside z (standing (now p) at) ⌝ }
     ensures { λ r. ⌜ wordsOf r ≡ kindIn (kindsOf z (now (m .entry))) (opndOf (standing (now (p .entry)) at)) ⌝ }
 {
-    if at == 0 {
-        return Words { tag: 0, bits: 0 };
-    }
-    let tag = p[at];
-    let bits = p[at + 1];
-    if tag == 10 {
-        return insn_words(m, z, InsnId((bits % 4294967296) as u32));
-    }
-    Words { tag, bits }
+    let o = standing_words(p, at);
+    words_of(m, z, o)
+}
+
+fn same_words(a: Words, b: Words) -> bool
+    ensures { λ r. ⌜ (r ≡ true → a ≡ b) ⌝ }
+{
+    (a.tag == b.tag) & (a.bits == b.bits)
 }
 
 // The arguments for place n of the callers of f, in a pass.
@@ -250,7 +275,8 @@ pub fn as_set(k: Words) -> AsSet
     AsSet::Other
 }
 
-// The union of the kinds of the arguments for place n of the callers of f, if none is a name or Any and one is a set; 0 where none is a set.
+// The union of the kinds of the arguments for place n of the callers of f, if none is a name or Any and one is a set; 0 where none is a set. An operand
+// that came just before adds nothing.
 fn join_sets(p: &[usize], c: Counts, m: &[usize], z: Sizes, f: FunId, n: usize) -> AsSet
     requires { ⌜ Held z (now m) ⌝ }
     requires { ⌜ Known (now p) c z (calledOf z (now m)) ⌝ }
@@ -259,31 +285,36 @@ fn join_sets(p: &[usize], c: Counts, m: &[usize], z: Sizes, f: FunId, n: usize) 
 {
     let mut met = false;
     let mut s = 0;
-    let mut from = InsnId(0);
-    loop {
-        match state::next_caller(m, z, f, from) {
-            NextInsn::Place(i) => {
-                let at = argument_at(p, c, i, n);
-                let k = opnd_words(p, m, z, at);
-                match as_set(k) {
+    let mut last = Words { tag: 0, bits: 0 };
+    let mut k = 0;
+    while k * 64 < z.insns {
+        let mut left = state::caller_word(m, z, f, k);
+        while left != 0 {
+            let b = tables::lowest_bit(left);
+            let i = InsnId((k * 64 + b.place) as u32);
+            let at = argument_at(p, c, i, n);
+            let o = standing_words(p, at);
+            if !same_words(o, last) {
+                let x = words_of(m, z, o);
+                match as_set(x) {
                     AsSet::Set(t) => {
-                        met = met | (k.tag == 8);
+                        met = met | (x.tag == 8);
                         s = s | t;
+                        last = o;
                     }
                     AsSet::Other => {
                         return AsSet::Other;
                     }
                 }
-                from = InsnId(i.0 + 1);
             }
-            NextInsn::Done => {
-                if met {
-                    return AsSet::Set(s);
-                }
-                return AsSet::Set(0);
-            }
+            left = b.rest;
         }
+        k += 1;
     }
+    if met {
+        return AsSet::Set(s);
+    }
+    AsSet::Set(0)
 }
 
 fn close_tally(t: Tally) -> Joined

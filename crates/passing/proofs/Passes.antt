@@ -32,7 +32,7 @@ use Rattle.state.specs.declared.Sizes.{Sizes}
 use Rattle.state.specs.declared.Regs.{Regs}
 use Rattle.state.specs.declared.Went.{Went}
 use Rattle.state.specs.declared.Went.the-variants.{On, No}
-use Rattle.state.specs.View.{Attrs, kindsOf, Ready}
+use Rattle.state.specs.View.{Attrs, kindsOf, Held, Ready, noEntries}
 use Rattle.state.specs.View.{view as stateView}
 use Rattle.state.specs.Changes.{Did, Every}
 use Rattle.state.proofs.Wakes.{wake-same}
@@ -43,7 +43,7 @@ use Rattle.opnds.proofs.Given.{kind-of}
 use Rattle.flows.specs.Flows.{Argues}
 use Rattle.flows.proofs.Callers.{fits-inside}
 use Rattle.blocks.proofs.Walk.{From, Walking, walk-ready, walk-falls, walk-word, walk-more, walk-stop, walk-done}
-use Rattle.passing.specs.Passing.{passTo, HasParams, Caller, Placed, Passes, Keeps, CallIn, PassIn}
+use Rattle.passing.specs.Passing.{passTo, HasParams, Caller, Placed, Passes, Keeps, CallIn, PassIn, Idle}
 
 -- ---- one Param
 
@@ -211,6 +211,32 @@ module _ {m : List ℕ} {c : Counts} {z : Sizes} {x : List ℕ} {h : ℕ} {m₀ 
       yes : (b : 𝔹) → not b ≡ false → b ≡ true
       yes true e = refl
       yes false e = sym e
+
+-- ---- surely_keeps_all at its loop's head: the same walk from whatever registers, and none of them changes
+
+abbrev pub Keeping : List ℕ → Counts → Sizes → List ℕ → ℕ → List ℕ → ℕ → ℕ → Type 0
+Keeping m c z x h w i j = (q : Regs) → Ready z w q → Walking z x 4096 (λ L p. passTo L p i) (CallIn m c i) h w q w q j
+
+module _ {m : List ℕ} {c : Counts} {z : Sizes} {x : List ℕ} {h : ℕ} {w : List ℕ} {i j : ℕ} (g : Keeping m c z x h w i j) where
+  pub keeping-walk : Held z w → Walking z x 4096 (λ L p. passTo L p i) (CallIn m c i) h w noEntries w noEntries j
+  keeping-walk held = g noEntries (record {
+    held = held;
+    insnHead = omega arith;
+    insnLen = omega arith;
+    blockHead = omega arith;
+    blockLen = omega arith;
+    insnsBelow = λ k lt. absurd (omega arith);
+    blocksBelow = λ k lt. absurd (omega arith);
+  })
+
+  pub keeping-more : {b : 𝔹} {n : ℕ} → j < z .insns → (b ≡ true → Keeps m c z w i j) → not b ≡ false → n ≡ getD x (4096 + j) 0 → Keeping m c z x h w i n
+  keeping-more lt f t en q r = param-kept (g q r) lt f t en refl refl
+
+  pub keeping-done : (e : ℕ) → h ≡ getD x (3072 + e) 0 → z .insns ≤ j → (f : ℕ) → Idle z (PassIn m c z x i f e) (λ L p. passArguments L p i f) w
+  keeping-done e eh le f = record { is = λ q r. params-done (g q r) e eh le f }
+
+pub no-truth : {A : Type 0} → false ≡ true → A
+no-truth e = let z : _≡_ {A = ℕ} 0 1 = cc in absurd (omega arith)
 
 -- ---- count_params at its loop's head: what is left of a chain's list, and how many were counted
 

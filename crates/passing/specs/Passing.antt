@@ -16,7 +16,11 @@ use Rattle.rules.specs.Machine.{Acts, kindOf, wakeIfWider, placeOf, argument}
 use Rattle.program.specs.declared.Counts.{Counts}
 use Rattle.program.specs.View.{view, Ready}
 use Rattle.state.specs.declared.Sizes.{Sizes}
+use Rattle.state.specs.declared.Regs.{Regs}
+use Rattle.state.specs.declared.Went.the-variants.{On}
 use Rattle.state.specs.View.{Attrs, kindsOf}
+use Rattle.state.specs.View.{Ready as Waits}
+use Rattle.state.specs.Changes.{Did}
 use Rattle.opnds.specs.Reads.{kindIn}
 use Rattle.index.specs.Chains.{size, ChainIs}
 use Rattle.flows.specs.Tally.{FitsAt}
@@ -68,3 +72,7 @@ pub record CallIn (m : List ℕ) (c : Counts) (i : ℕ) (p : Program) (v : Attrs
 pub record PassIn (m : List ℕ) (c : Counts) (z : Sizes) (x : List ℕ) (i f e : ℕ) (p : Program) (v : Attrs) : Type 0 where
   pub call : CallIn m c i p v
   pub params : ChainIs x (z .insns) 1 e (parameters p f)
+
+-- an action that leaves the state as it is, whatever waits
+pub record Idle (z : Sizes) (fits : Program → Attrs → Type 0) (f : Limits → Program → Acts (Unit {0})) (m : List ℕ) : Type 0 where
+  pub is : (q : Regs) → Waits z m q → Did z fits f m q m (On q)

@@ -20,7 +20,7 @@ ghost use Rattle.state.specs.View.{Held, Ready};
 ghost use Rattle.state.specs.Changes.{Did};
 ghost use Rattle.index.specs.Chains.{ChainIs};
 ghost use Rattle.flows.specs.Flows.{wordsOf};
-ghost use Rattle.passing.specs.Passing.{Placed, HasParams, Caller, Passes, Keeps, PassIn};
+ghost use Rattle.passing.specs.Passing.{Placed, HasParams, Caller, Passes, Keeps, PassIn, Idle};
 
 // A Param's place.
 fn place_of(p: &[usize], c: Counts, j: InsnId) -> usize
@@ -120,6 +120,33 @@ pub fn pass_arguments(
         j = index::next_param(x, j);
     }
     Went::On(at)
+}
+
+// A quick test that the arguments of call i leave the kinds of all Params of a function with this entry as they are. No registers are handed through: to copy
+// them costs more than the test.
+pub fn surely_keeps_all(
+    p: &[usize],
+    c: Counts,
+    x: &[usize],
+    m: &[usize],
+    z: Sizes,
+    i: InsnId,
+    entry: BlockId,
+) -> bool
+    requires { ⌜ Held z (now m) ⌝ }
+    requires { ⌜ Caller (now p) c z (i .0) ⌝ }
+    requires { ⌜ HasParams (z .insns) (now x) (entry .0) ⌝ }
+    ensures { λ r. ⌜ (r ≡ true → (f : ℕ) → Idle z (PassIn (now (p .entry)) c z (now (x .entry)) (i .0) f (entry .0)) (λ L p. passArguments L p (i .0) f) (now (m .entry))) ⌝ }
+{
+    let n = z.insns;
+    let mut j = index::first_param(x, entry);
+    while (j.0 as usize) < n {
+        if !surely_keeps(p, c, m, z, i, j) {
+            return false;
+        }
+        j = index::next_param(x, j);
+    }
+    true
 }
 
 // How many Params a function with this entry has.

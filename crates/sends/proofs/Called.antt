@@ -1,7 +1,7 @@
 -- The ways through a call. Assumes nothing.
-use mathlib.Core.Bool.{true, false, not, _&&_}
+use mathlib.Core.Bool.{Bool as 𝔹, true, false, not, _&&_}
 use mathlib.Core.Option.{none, some}
-use mathlib.Core.Path.{_≡_, sym, ap, subst, _∙_}
+use mathlib.Core.Path.{_≡_, refl, sym, ap, subst, _∙_}
 use mathlib.Core.List.{List, []}
 use Prim.Native.Nat.{ℕ, _<_, _^_}
 use native.Mathlib.Omega.{arith}
@@ -13,7 +13,7 @@ use Rattle.rules.specs.Actions.{refused, _>>_, ask}
 use Rattle.rules.specs.Lists.{same, has, isJust}
 use Rattle.rules.specs.Program as P
 use Rattle.rules.specs.Program.{Limits, Program, about, opOf, function, entry, parameters, methodNamed}
-use Rattle.rules.specs.Machine.{State, Acts, addCall, passArguments}
+use Rattle.rules.specs.Machine.{State, Acts, marked, addCall, passArguments}
 use Rattle.rules.proofs.Exactness.Sums.{places-∈}
 use Rattle.rules.proofs.Exactness.Promise.{first-in}
 use Rattle.program.specs.declared.Counts.{Counts}
@@ -31,12 +31,13 @@ use Rattle.state.specs.declared.Sizes.{Sizes}
 use Rattle.state.specs.declared.Regs.{Regs}
 use Rattle.state.specs.declared.Went.{Went}
 use Rattle.state.specs.declared.Went.the-variants.{On, No}
-use Rattle.state.specs.View.{Attrs, view, Ready}
+use Rattle.state.specs.View.{Attrs, calledOf, view, Ready}
 use Rattle.state.specs.Changes.{Did}
 use Rattle.opnds.proofs.Acting.{did-then, did-stop}
 use Rattle.index.specs.Chains.{ChainIs}
 use Rattle.calls.specs.Calls.{CallIs}
-use Rattle.passing.specs.Passing.{HasParams, PassIn}
+use Rattle.calls.proofs.Adding.{old-is}
+use Rattle.passing.specs.Passing.{HasParams, PassIn, Idle}
 use Rattle.passing.proofs.Given.{has-params, pass-in}
 use Rattle.receivers.proofs.Walk.{Walking}
 use Rattle.sends.specs.Sends.{callTo, callStatic, sendTo, Calling, CallsIn}
@@ -135,6 +136,21 @@ module _ (m : List ℕ) (c : Counts) (i k f : ℕ) {z : Sizes} {w : List ℕ} {q
 
   pub static-stop : {n : ℕ} → a ≡ No n → (s : List ℕ) → Did z (CallsIn s m c i k) (λ L p. callStatic L p i f) w q w' (No n)
   static-stop e s = did-stop (d s) (λ L p. ask 17 (not (has (function p f .class))) >> passArguments L p i f) e
+
+-- ---- a call that changes nothing
+
+module _ {z : Sizes} {m : List ℕ} {c : Counts} (i f : ℕ) {w : List ℕ} where
+  pub caller-idle : marked (calledOf z w) f i ≡ true → (s : List ℕ) (k : ℕ) → Idle z (CallsIn s m c i k) (λ L p. addCall L p i f) w
+  caller-idle e s k = record {
+    is = λ q r. record { is = λ L room p v g. sym (old-is L p i f (view z v w q) e); ok = record { ready = r; count = refl } };
+  }
+
+  pub caller-known : {q : Regs} {b : 𝔹} {k : ℕ} → Ready z w q → b ≡ marked (calledOf z w) f i → b ≡ true → (s : List ℕ) → Did z (CallsIn s m c i k) (λ L p. addCall L p i f) w q w (On q)
+  caller-known {q} {b} {k} r e t s = caller-idle (sym e ∙ t) s k .is q r
+
+  pub call-idle : {x : List ℕ} → Calling z m c x i → f < c .functions → {y : Function} → ReadsFun m c f y → {b : 𝔹} → b ≡ marked (calledOf z w) f i → b ≡ true
+      → ((j : ℕ) → Idle z (PassIn m c z x i j (y .entry .0)) (λ L p. passArguments L p i j) w) → (s : List ℕ) (k : ℕ) → Idle z (CallsIn s m c i k) (λ L p. callTo L p i f) w
+  call-idle h lt d e t g s k = record { is = λ q r. did-then (caller-idle (sym e ∙ t) s k .is q r) refl (args-passed h lt d (λ j. g j .is q r) s k) }
 
 -- ---- one class
 

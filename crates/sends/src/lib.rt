@@ -5,22 +5,24 @@ use program::Name;
 use program::Opnd;
 use program::Owner;
 use receivers::Receiver;
-use sets::ClassId;
 use sets::FunId;
 use sets::InsnId;
 use sets::Next;
 use state::Regs;
 use state::Sizes;
 use state::Went;
+ghost use mathlib.Core.Bool.{true};
+ghost use mathlib.Core.Path.{_≡_};
 ghost use mathlib.Core.List.{List};
 ghost use Prim.Native.Nat.{ℕ, _<_};
 ghost use Rattle.sets.specs.Sets.{membersOf};
 ghost use Rattle.rules.specs.Actions.{each};
 ghost use Rattle.rules.specs.Machine.{addCall, passArguments};
 ghost use Rattle.program.specs.Rows.{nameIn, opndOf};
-ghost use Rattle.state.specs.View.{Ready};
+ghost use Rattle.state.specs.View.{Held, Ready};
 ghost use Rattle.state.specs.Changes.{Did};
 ghost use Rattle.opnds.specs.Reads.{Inside};
+ghost use Rattle.passing.specs.Passing.{Idle};
 ghost use Rattle.sends.specs.Sends.{callTo, callStatic, sendTo, sendAll, Calling, CallsIn};
 
 // Call i, which has `args` arguments, is a caller of f, or 16 or 20.
@@ -40,6 +42,9 @@ fn enter_call(
     requires { ⌜ f .0 < c .functions ⌝ }
     ensures { λ r. ⌜ ((s : List ℕ) → Did z (CallsIn s (now (p .entry)) c (i .0) args) (λ L p. addCall L p (i .0) (f .0)) (now (m .entry)) q (now (m .exit)) r) ⌝ }
 {
+    if state::has_called(m, z, f, i) {
+        return Went::On(q);
+    }
     let row = program::read_fun(p, c, f);
     let entry = row.entry;
     let params = passing::count_params(x, z, entry);
@@ -117,30 +122,22 @@ pub fn send_static(
     }
 }
 
-// Call i of the method n of class k, or 15.
-fn send_one(
-    s: &[u8],
-    p: &[usize],
-    c: Counts,
-    x: &[usize],
-    m: &mut [usize],
-    z: Sizes,
-    q: Regs,
-    i: InsnId,
-    args: usize,
-    n: Name,
-    k: ClassId,
-) -> Went
-    requires { ⌜ Ready z (now m) q ⌝ }
+// A quick test that call i of f changes nothing: it is no new caller, and its arguments leave the kinds of f's Params as they are.
+fn settled(p: &[usize], c: Counts, x: &[usize], m: &[usize], z: Sizes, i: InsnId, f: FunId) -> bool
+    requires { ⌜ Held z (now m) ⌝ }
     requires { ⌜ Calling z (now p) c (now x) (i .0) ⌝ }
-    ensures { λ r. ⌜ Did z (CallsIn (now (s .entry)) (now (p .entry)) c (i .0) args) (λ L p. sendTo L p (i .0) (nameIn (now (s .entry)) n) (k .0)) (now (m .entry)) q (now (m .exit)) r ⌝ }
+    requires { ⌜ f .0 < c .functions ⌝ }
+    ensures { λ r. ⌜ (r ≡ true → (s : List ℕ) (k : ℕ) → Idle z (CallsIn s (now (p .entry)) c (i .0) k) (λ L p. callTo L p (i .0) (f .0)) (now (m .entry))) ⌝ }
 {
-    match lookups::method_named(s, p, c, k, n) {
-        FoundFun::At(f) => call_to(p, c, x, m, z, q, i, args, f),
-        FoundFun::Nothing => Went::No(15),
+    if state::has_called(m, z, f, i) {
+        let row = program::read_fun(p, c, f);
+        let entry = row.entry;
+        return passing::surely_keeps_all(p, c, x, m, z, i, entry);
     }
+    false
 }
 
+// Call i of the method n of each class of a set, or 15.
 fn send_each(
     s: &[u8],
     p: &[usize],
@@ -162,13 +159,22 @@ fn send_each(
     let mut left = set;
     loop {
         match sets::smallest(left) {
-            Next::Member(k, rest) => match send_one(s, p, c, x, m, z, at, i, args, n, k) {
-                Went::On(next) => {
-                    at = next;
+            Next::Member(k, rest) => match lookups::method_named(s, p, c, k, n) {
+                FoundFun::At(f) => {
+                    if !settled(p, c, x, m, z, i, f) {
+                        match call_to(p, c, x, m, z, at, i, args, f) {
+                            Went::On(next) => {
+                                at = next;
+                            }
+                            Went::No(e) => {
+                                return Went::No(e);
+                            }
+                        }
+                    }
                     left = rest;
                 }
-                Went::No(e) => {
-                    return Went::No(e);
+                FoundFun::Nothing => {
+                    return Went::No(15);
                 }
             },
             Next::Done => {

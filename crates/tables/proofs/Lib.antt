@@ -3,3 +3,4 @@ pub mod Ring
 pub mod Bit
 pub mod Walk
 pub mod Word
+pub mod Words

@@ -6,6 +6,7 @@ use Prim.Native.Nat.{ℕ, suc, _+_, _*_, _/_, _%_, _^_, _≤_, _<_}
 use lib.Dec.{eqb}
 use lib.Bits.{bitOr}
 use lib.ListN.{getD, set, drop}
+use Rattle.sets.specs.Sets.{membersFrom}
 use Rattle.kinds.specs.Kinds.{bitOf}
 use Rattle.rules.specs.Lists.{placesFrom}
 use Rattle.tables.specs.Tables.{listed}
@@ -42,3 +43,9 @@ pub record Next (b : ℕ → 𝔹) (n k : ℕ) (r : Found) : Type 0 where
 pub record RowWord (row : List 𝔹) (k w : ℕ) : Type 0 where
   pub small : w < 2 ^ 64
   pub bits : (j : ℕ) → j < 64 → w / 2 ^ j % 2 ≡ bitOf (getD row (k * 64 + j) false)
+
+-- i is the lowest of the bits of w, v is w without it, wherever the places of the bits are counted from
+pub record LowestBit (w i v : ℕ) : Type 0 where
+  pub walk : (k : ℕ) → membersFrom 64 k w ≡ (k + i) ∷ membersFrom 64 k v
+  pub below : i < 64
+  pub falls : v < w

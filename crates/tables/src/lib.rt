@@ -3,12 +3,18 @@ ghost use mathlib.Core.Path.{_≡_};
 ghost use Prim.Native.Nat.{_+_, _/_, _≤_, _<_};
 ghost use lib.ListN.{length};
 ghost use Rattle.tables.specs.Tables.{listed};
-ghost use Rattle.tables.specs.Bits.{bitAt, withBit, Next, RowWord};
+ghost use Rattle.tables.specs.Bits.{bitAt, withBit, Next, RowWord, LowestBit};
 
 // The next set bit of a row.
 pub enum Found {
     At(usize),
     Nothing,
+}
+
+// The lowest bit of a word, and the word without it.
+pub struct Lowest {
+    pub place: usize,
+    pub rest: usize,
 }
 
 // Bit i of the row that starts at base.
@@ -65,4 +71,16 @@ pub fn row_word(m: &[usize], base: usize, n: usize, k: usize) -> usize
         return word % (1 << left);
     }
     word
+}
+
+// The lowest bit of a word that has one.
+pub fn lowest_bit(w: usize) -> Lowest
+    requires { ⌜ 0 < w ⌝ }
+    ensures { λ r. ⌜ LowestBit w (r .place) (r .rest) ⌝ }
+{
+    let zeros = u64::trailing_zeros(w as u64);
+    Lowest {
+        place: zeros as usize,
+        rest: w & (w - 1),
+    }
 }

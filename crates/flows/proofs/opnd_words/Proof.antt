@@ -1,49 +1,20 @@
-use Rattle.flows.proofs.Standing.{stands-inside, words-none, words-insn, words-const}
+use mathlib.Core.Path.{ap, sym, subst, _∙_}
 use borrow.Author.Needs.{needs}
+use Rattle.program.specs.declared.Opnd.{Opnd}
+use Rattle.program.specs.Rows.{opndOf}
+use Rattle.state.specs.View.{kindsOf}
+use Rattle.opnds.specs.Reads.{Inside, kindIn}
 use Rattle.flows.proofs.opnd_words.Statement.{statement}
 use Rattle.flows.proofs.opnd_words.Tie as tie
 
+standing-words-requires : tie.Need-standing-words-requires
+standing-words-requires c κs = search needs
+
+words-of-requires : tie.Need-words-of-requires
+words-of-requires c κs = (c .before .before .before .pre .1 .0, subst (Inside (c .before .before .before .args .z)) (sym (c .standing-words .ensures)) (c .before .before .before .pre .1 .1))
+
 returns : tie.Need-returns
-returns c = search words-none
-
-mul-tag : tie.Need-mul-tag
-mul-tag c = search needs
-
-shared-slice-read-tag : tie.Need-shared-slice-read-tag
-shared-slice-read-tag c = search needs
-
-add-bits : tie.Need-add-bits
-add-bits c = search needs
-
-mul-bits : tie.Need-mul-bits
-mul-bits c = search needs
-
-shared-slice-read-bits : tie.Need-shared-slice-read-bits
-shared-slice-read-bits c = search needs
-
-cast-t14 : tie.Need-cast-t14
-cast-t14 c = search needs
-
-insn-words-requires : tie.Need-insn-words-requires
-insn-words-requires c κs = (search needs, search stands-inside)
-
-returns-2 : tie.Need-returns-2
-returns-2 c = search words-insn
-
-returns-3 : tie.Need-returns-3
-returns-3 c = search words-const
+returns c = c .words-of .ensures ∙ ap (λ (o : Opnd). kindIn (kindsOf (c .before .before .before .before .args .z) (c .before .before .before .before .args .m .now)) (opndOf o)) (c .before .standing-words .ensures)
 
 pub opnd-words-spec : {M : Type 1} → statement M
-opnd-words-spec =
-    tie.close
-    (tie.spec
-    returns
-    mul-tag
-    shared-slice-read-tag
-    add-bits
-    mul-bits
-    shared-slice-read-bits
-    cast-t14
-    insn-words-requires
-    returns-2
-    returns-3)
+opnd-words-spec = tie.close (tie.spec standing-words-requires words-of-requires returns)
