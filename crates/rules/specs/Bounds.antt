@@ -19,8 +19,8 @@ worked =
     ∷ ("def main() x = 1+2 x+x end", 45)
     -- LessThan, Return, IfTrue, Return, Return. N 5, E 1, R 3, F 1, h 6; no call, so the returns add nothing. T = 5 + 6·1 = 11; 3·11
     ∷ ("def main() if 1 < 2 return 3 else return 4 end end", 33)
-    -- Param, Add, Return; bare call, Return. N 5, E 3, S 1, R 2, P 1, F 2, h 6. T = 5 + 6·3 + 1·2·7 = 37; 3·37·2 + 1·2
-    ∷ ("def f(a) a+1 end def main() f(2) end", 224)
+    -- Param, Return, IfTrue, Return, Return; bare call, Return. N 7, E 2, S 1, R 4, P 1, F 2, h 6. T = 7 + 6·2 + 1·4·7 = 47; 3·47·2 + 1·2
+    ∷ ("def f(a) if a return 1 else return 2 end end def main() f(2) end", 284)
     -- SelfParam, two GetIvars, Add, Return. N 5, E 5, R 1, G 2, V 3, F 1, h 7. T = 5 + 7·5 + 2·3·7 = 82; 3·82
     ∷ ("class A attr_accessor :x attr_accessor :y attr_accessor :z def m() @x + @y end end", 246)
     -- twice SelfParam, Param, Return; New, two sends, Return. N 10, E 5, S 2, R 3, P 2, F 3, h 7. T = 10 + 7·5 + 2·3·8 = 93; 3·93·3 + 2·3
