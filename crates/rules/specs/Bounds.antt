@@ -23,8 +23,9 @@ worked =
     ∷ ("def f(a) if a return 1 else return 2 end end def main() f(2) end", 284)
     -- SelfParam, two GetIvars, Add, Return. N 5, E 5, R 1, G 2, V 3, F 1, h 7. T = 5 + 7·5 + 2·3·7 = 82; 3·82
     ∷ ("class A attr_accessor :x attr_accessor :y attr_accessor :z def m() @x + @y end end", 246)
-    -- twice SelfParam, Param, Return; New, two sends, Return. N 10, E 5, S 2, R 3, P 2, F 3, h 7. T = 10 + 7·5 + 2·3·8 = 93; 3·93·3 + 2·3
-    ∷ ("class A def initialize(v) v end def m(w) w end end def main() A.new(1).m(2) end", 843)
+    -- SelfParam, Param, Return; SelfParam, two Params, Return; New, two sends, Return. N 11, E 5, S 2, R 3, P 3, F 3, h 7.
+    -- T = 11 + 7·5 + 2·3·8 = 94; 3·94·4 + 2·3
+    ∷ ("class A def initialize(v) v end def m(w, u) w end end def main() A.new(1).m(2, 3) end", 1134)
     -- all at once: SelfParam, Param, SetIvar, Return; SelfParam, Param, GetIvar, Add, Return; Param, send, Return; New, send, bare call, Return.
     -- N 16, E 12, S 3, R 4, G 1, V 1, P 3, F 4, h 7. T = 16 + 7·12 + 3·4·8 + 1·1·7 = 203; 3·203·4 + 3·4
     ∷ ("class A attr_accessor :x def initialize(v) @x = v end def m(w) @x + w end end def f(o) o.m(1) end def main() f(A.new(2)) end", 2448)
