@@ -1,3 +1,4 @@
 pub mod Image
 pub mod Layout
 pub mod Record
+pub mod Published

@@ -1,5 +1,4 @@
 // The answer memory: its layout, publishing into it, and reading it.
-use kinds::Kind;
 use sets::BlockId;
 use sets::FunId;
 use sets::InsnId;
@@ -9,7 +8,6 @@ ghost use mathlib.Core.List.{[], _∷_};
 ghost use Prim.Native.Nat.{_+_, _*_, _/_, _≤_, _<_, min};
 ghost use lib.Dec.{eqb};
 ghost use lib.ListN.{length};
-ghost use Rattle.kinds.specs.Kinds.{kindFrom};
 ghost use Rattle.memory.specs.Memory.{over};
 ghost use Rattle.answer.specs.Layout.{answerLen, functionsMost, blocksMost, instructionsMost, usesMost, rowWords, liveAt, tagsAt, payloadsAt, startsAt, usersAt, callersAt};
 ghost use Rattle.answer.specs.Image.{functionsIn, blocksIn, instructionsIn, countIn, liveIn, tagIn, payloadIn, startIn, userIn, bitsIn, callsIn};
@@ -119,14 +117,6 @@ pub fn payload(answer: &[usize], i: InsnId) -> usize
 {
     let n = i.0 as usize;
     answer[PAYLOADS + n]
-}
-
-pub fn kind(answer: &[usize], i: InsnId) -> Kind
-    requires { ⌜ length (now answer) ≡ answerLen ⌝ }
-    requires { ⌜ i .0 < instructionsMost ⌝ }
-    ensures { λ r. ⌜ r ≡ kindFrom (tagIn (now (answer .entry)) (i .0)) (payloadIn (now (answer .entry)) (i .0)) ⌝ }
-{
-    kinds::kind_from(tag(answer, i), payload(answer, i))
 }
 
 // Where the users of an instruction start and end.

@@ -14,8 +14,8 @@ use Rattle.rules.specs.Actions.{Answer, answered, refused}
 use Rattle.rules.specs.Program.{limits}
 use Rattle.rules.specs.Bound.{bound}
 use Rattle.rules.specs.Frames.{Analysis, analyze}
-use Rattle.rules.specs.Steps.{Reached, Exact}
-use Rattle.rules.proofs.Demand.{limits-usable, demand, Number, numbers, long-refused}
+use Rattle.rules.specs.Steps.{Reached, Exact, Counted}
+use Rattle.rules.proofs.Demand.{limits-usable, demand, counts, Number, numbers, long-refused}
 use Rattle.memory.specs.Memory.{zeros}
 use Rattle.memory.proofs.Laws.{zeros-length}
 use Rattle.answer.specs.Layout.{answerLen}
@@ -131,12 +131,14 @@ module _ (script : List ℕ) where
 
     -- ---- an answer
 
-    -- the published places of the answer part hold an analysis: its count is within the bound, and its live blocks are those that a chain of steps reaches
+    -- the published places of the answer part hold an analysis: its count is the number of steps taken and within the bound, and its live blocks are those
+    -- that a chain of steps reaches
     pub record Answers (a : Analysis) : Type 0 where
       pub is : analyze limits script ≡ answered a
       pub memory : after script l .lent ≡ holding (answerOf a) l
       pub held : take answerLen (after script l .lent .answer) ≡ answerOf a
       pub exact : Exact (a .program) (a .state)
+      pub counted : Counted limits (a .program) (a .state)
       pub read-back : recordIn (answerOf a) ≡ recordOf (a .program) (a .state)
       pub count : countIn (answerOf a) ≤ bound (a .program)
       pub live : (b : ℕ) → b < length (a .program .blocks) → (liveIn (answerOf a) b ≡ true) ↔ Reached (a .program) (a .state) b
@@ -155,6 +157,7 @@ module _ (script : List ℕ) where
               memory = m;
               held = ap (λ (x : Lent). take answerLen (x .answer)) m ∙ take-at (answerOf a) (drop answerLen (l .answer)) answerLen (answer-length a q);
               exact = x;
+              counted = counts limits limits-usable script a q;
               read-back = record-back r (p .legal);
               count = rw (count-is r (p .legal)) (x .count);
               live = λ b h. rw (live-is r (p .legal) b (omega (arith, p .shaped .blocks))) (x .live b);

@@ -60,7 +60,6 @@ fn end_of(m: &[usize], c: Counts, x: &[usize], b: BlockId) -> Ends
     ensures { λ r. ⌜ Ended (now (m .entry)) c (b .0) r ⌝ }
 {
     let n = c.insns;
-    let key = b.0 as usize;
     let mut last = InsnId(n as u32);
     let mut h = index::first_insn(x, b);
     while (h.0 as usize) < n {
@@ -264,7 +263,6 @@ fn sets_of(s: &[u8], m: &[usize], c: Counts, x: &[usize], k: ClassId, b: BlockId
     ensures { λ r. ⌜ SetsIs (now (s .entry)) (now (m .entry)) c (k .0) (b .0) r ⌝ }
 {
     let n = c.insns;
-    let key = b.0 as usize;
     let mut bits = 0;
     let mut h = index::first_insn(x, b);
     while (h.0 as usize) < n {

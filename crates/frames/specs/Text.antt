@@ -137,7 +137,9 @@ pub record Wrote (t d : List ℕ) (n : ℕ) (d' : List ℕ) : Type 0 where
   pub fits : n ≤ length d'
   pub count : n ≡ length (take n d')
 
--- the n bytes at the start are what was left at cursor c up to what is left at c', and the rest is as it was
+-- the n bytes at the start are what was left at cursor c up to what is left at c', and the rest is as it was.
+-- Free: how far a piece goes, n and with it c', of which 01 says nothing. What holds of it: whole frames are written, within the buffer, and as long as frames
+-- are left a piece goes on
 pub record Piece (a : List ℕ) (c : Cursor) (d : List ℕ) (c' : Cursor) (n : ℕ) (d' : List ℕ) : Type 0 where
   pub text : restOf a c ≡ take n d' ++ restOf a c'
   pub kept : drop n d' ≡ drop n d

@@ -4,11 +4,11 @@ use sets::ClassId;
 use sets::FunId;
 ghost use mathlib.Core.Path.{_≡_};
 ghost use mathlib.Core.Bool.{true, false, _||_};
-ghost use Prim.Native.Nat.{_+_, _<_, _≤_};
+ghost use Prim.Native.Nat.{_<_};
 ghost use Rattle.numbers.specs.Numbers.{fitOf};
 ghost use Rattle.sets.specs.Sets.{oneOf, twoOf};
-ghost use Rattle.kinds.specs.Kinds.{tagOf, payloadOf, fitsOf, kindFrom, kindsAt, sameOf, isEmpty, isNumber, isTruth, isName, isAny};
-ghost use Rattle.kinds.specs.Union.{setOf, isAlone, mixOf, unionOf, joinOf, unionAll};
+ghost use Rattle.kinds.specs.Kinds.{tagOf, payloadOf, fitsOf, kindFrom, sameOf, isEmpty, isNumber, isTruth, isName, isAny};
+ghost use Rattle.kinds.specs.Union.{setOf, isAlone, mixOf, unionOf, joinOf};
 ghost use Rattle.kinds.specs.Rules.{knownIn, kindOf, resultOf, wideOf, byUnions, isSub, arithOf, admits};
 
 pub enum Kind {
@@ -257,22 +257,6 @@ pub fn join(j: Joined, k: Kind) -> Joined
         Joined::Of(a) => union(a, k),
         Joined::Refused(n) => Joined::Refused(n),
     }
-}
-
-// The union of a kind with the first n of a table, in order: bytes from `tags` on, payloads from `payloads` on.
-pub fn union_all(k: Kind, words: &[usize], tags: usize, payloads: usize, n: usize) -> Joined
-    requires { do ⌜ (tags + n ≤ (← ⟦words.len()⟧)) × (payloads + n ≤ (← ⟦words.len()⟧)) ⌝ }
-    ensures { λ r. ⌜ r ≡ unionAll k (kindsAt (now (words .entry)) tags payloads n) ⌝ }
-{
-    let mut all = Joined::Of(k);
-    let mut i = 0;
-    while i < n {
-        let t = words[tags + i];
-        let p = words[payloads + i];
-        all = join(all, kind_from(t, p));
-        i += 1;
-    }
-    all
 }
 
 fn known_in(k: Kind) -> Known

@@ -12,7 +12,7 @@ use Rattle.rules.specs.Actions.{Answer, answered, refused}
 use Rattle.rules.specs.Words.{is, isIdent, isLiteral, wordAt}
 use Rattle.rules.specs.Words as W
 use Rattle.rules.specs.Reading.{Parser, peek, pass, next, expect, expectIdent, matchToken}
-use Rattle.words.specs.Lexed.{textOf, wordIn, Reads, Glances}
+use Rattle.words.specs.Lexed.{kindOf, textOf, wordIn, Reads, Glances}
 use Rattle.words.specs.declared.Lexed.{Lexed}
 use Rattle.words.specs.declared.Lexed.the-variants.{Found, Refused}
 use Rattle.words.specs.declared.Glimpse.{Glimpse}
@@ -22,7 +22,7 @@ use Rattle.words.proofs.Names.{by-test}
 use Rattle.words.proofs.Lexes.{signed, unsigned, unseen}
 use Rattle.words.proofs.Texts.{ident-kind, literal-kind, fixed-kind}
 use Rattle.parser.specs.Cursor.{parserOf, moveCur}
-use Rattle.parser.specs.Promises.{outcome, matchedOf, Spelt, Sees, Idents, Expects, Matches}
+use Rattle.parser.specs.Promises.{outcome, matchedOf, movedOf, Moves, Spelt, matchKind, expectKind, Sees, Idents, Expects, Matches}
 use Rattle.parser.specs.declared.Cur.{Cur}
 use Rattle.parser.specs.declared.Moved.the-variants as Moved
 use Rattle.parser.specs.declared.Ident.{Ident}
@@ -42,6 +42,12 @@ module _ (x : Word) {s : List ℕ} {at : ℕ} (h : Reads s at x) where
 
   pub is-no : {k : ℕ} (t : String) → Spelt k t → (x .kind ≡ k → ⊥) → is (wordIn s x) t ≡ false
   is-no {k} t sp e = by-kind k t sp ∙ ne-eqb _ _ e
+
+  kind-yes : {k : ℕ} → x .kind ≡ k → eqb (kindOf (textOf s x)) k ≡ true
+  kind-yes e = eq-eqb _ _ (sym (h .kind) ∙ e)
+
+  kind-no : {k : ℕ} → (x .kind ≡ k → ⊥) → eqb (kindOf (textOf s x)) k ≡ false
+  kind-no e = ne-eqb _ _ (λ z. e (h .kind ∙ z))
 
   pub ident-yes : x .kind ≡ 1 → isIdent (wordIn s x) ≡ true
   ident-yes e = ident-kind (wordIn s x) ∙ eq-eqb _ _ (sym (h .kind) ∙ e)
@@ -158,10 +164,14 @@ module _ {s : List ℕ} {c : Cur} {r : Lexed} (l : Sees s c r) where
       }
 
   pub match-yes : {x : Word} {k : ℕ} {c' : Cur} → 0 < k → r ≡ Found x → x .kind ≡ k → c' ≡ moveCur (x .next) c → Matches s k c (Matched.Yes c')
-  unfolding matchToken
+  unfolding matchToken matchKind
   match-yes {x} {k} {c'} p f q e =
       let o = onward f (λ z. omega arith) e in
       record {
+        takes = record {
+          is = λ m w. rw (e, ← peek-found l m w f, kind-yes x (word-read l f) q, ← pass-found l m w f);
+          ok = (o .0, (omega (arith, o .1 .0), o .1 .1));
+        };
         moves = λ t sp.
             record {
               is = λ m w. rw (e, ← peek-found l m w f, is-yes x (word-read l f) t sp q, ← pass-found l m w f);
@@ -171,17 +181,19 @@ module _ {s : List ℕ} {c : Cur} {r : Lexed} (l : Sees s c r) where
       }
 
   pub match-not : {x : Word} {k : ℕ} → r ≡ Found x → (x .kind ≡ k → ⊥) → Matches s k c Matched.Not
-  unfolding matchToken
+  unfolding matchToken matchKind
   match-not {x} f q =
       record {
+        takes = record { is = λ m w. rw (← peek-found l m w f, kind-no x (word-read l f) q); ok = (refl, (omega arith, λ i. i)) };
         moves = λ t sp. record { is = λ m w. rw (← peek-found l m w f, is-no x (word-read l f) t sp q); ok = (refl, (omega arith, λ i. i)) };
         further = λ d g. let z : _≡_ {A = ℕ} 0 1 = cc in absurd (omega arith);
       }
 
   pub match-none : {k e : ℕ} → r ≡ Refused e → Matches s k c (Matched.Refused e)
-  unfolding matchToken
+  unfolding matchToken matchKind
   match-none f =
       record {
+        takes = record { is = λ m w. rw (← peek-none l m w f); ok = tt };
         moves = λ t sp. record { is = λ m w. rw (← peek-none l m w f); ok = tt };
         further = λ d g. let z : _≡_ {A = ℕ} 0 1 = cc in absurd (omega arith);
       }
@@ -216,20 +228,29 @@ unfolding matchToken expect next pass peek
 insist s t p (answered w) e = by-test (λ _. insisted (matchToken s t p) ≡ expect s t p) (is w t) (λ f. rw (e, f, e, f)) (λ f. rw (e, f, e, f))
 insist s t p (refused n) e = rw e
 
+insist-kind : (s : List ℕ) (k : ℕ) (p : Parser) (a : Answer W.Word) → wordAt s (p .at) ≡ a → insisted (matchKind s k p) ≡ expectKind s k p
+unfolding matchKind expectKind next pass peek
+insist-kind s k p (answered w) e = by-test (λ _. insisted (matchKind s k p) ≡ expectKind s k p) (eqb (kindOf (w .text)) k) (λ f. rw (e, f, e, f)) (λ f. rw (e, f, e, f))
+insist-kind s k p (refused n) e = rw e
+
 module _ {s : List ℕ} {k : ℕ} {c : Cur} {r : Matched} (h : Matches s k c r) where
   insists : {q : Matched} (t : String) → Spelt k t → r ≡ q → (m w : List ℕ) → insisted (outcome s m w (matchedOf c q)) ≡ expect s t (parserOf s m w c)
   insists t sp f m w = let v = rw f at (h .moves t sp) in ap insisted (v .is m w) ∙ insist s t (parserOf s m w c) (wordAt s (parserOf s m w c .at)) refl
 
+  insists-kind : {q : Matched} → r ≡ q → (m w : List ℕ) → insisted (outcome s m w (matchedOf c q)) ≡ expectKind s k (parserOf s m w c)
+  insists-kind f m w = let v = rw f at (h .takes) in ap insisted (v .is m w) ∙ insist-kind s k (parserOf s m w c) (wordAt s (parserOf s m w c .at)) refl
+
   pub expect-yes : {c' : Cur} → r ≡ Matched.Yes c' → Expects s k c (Moved.On c')
   expect-yes {c'} f =
       record {
+        takes = let v = rw f at (h .takes) in record { is = insists-kind f; ok = (v .ok .0, (omega (arith, h .further c' f), v .ok .1 .1)) };
         moves = λ t sp.
             let v = rw f at (h .moves t sp) in
             record { is = insists t sp f; ok = (v .ok .0, (omega (arith, h .further c' f), v .ok .1 .1)) };
       }
 
   pub expect-not : r ≡ Matched.Not → Expects s k c (Moved.Refused 5)
-  expect-not f = record { moves = λ t sp. record { is = insists t sp f; ok = tt } }
+  expect-not f = record { takes = record { is = insists-kind f; ok = tt }; moves = λ t sp. record { is = insists t sp f; ok = tt } }
 
   pub expect-none : {e : ℕ} → r ≡ Matched.Refused e → Expects s k c (Moved.Refused e)
-  expect-none f = record { moves = λ t sp. record { is = insists t sp f; ok = tt } }
+  expect-none f = record { takes = record { is = insists-kind f; ok = tt }; moves = λ t sp. record { is = insists t sp f; ok = tt } }

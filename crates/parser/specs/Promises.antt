@@ -7,10 +7,10 @@ use Prim.Native.Nat.{ℕ, _+_, _*_, _≤_, _<_}
 use Prim.Native.String.{String}
 use lib.Dec.{eqb}
 use lib.ListN.{length, getD}
-use Rattle.rules.specs.Actions.{Answer, answered, refused}
+use Rattle.rules.specs.Actions.{Answer, answered, refused, _>>=_, _>>_, give, ask, if_then_else_}
 use Rattle.rules.specs.Lists.{bytes, same}
 use Rattle.rules.specs.Program as P
-use Rattle.rules.specs.Reading.{Parser, Reads, expect, expectIdent, matchToken}
+use Rattle.rules.specs.Reading.{Parser, Reads, peek, pass, next, expect, expectIdent, matchToken}
 use Rattle.words.specs.Lexed.{kindOf, Lexes}
 use Rattle.words.specs.declared.Lexed.{Lexed}
 use Rattle.program.specs.Rows.{opndOf, nameIn}
@@ -108,15 +108,31 @@ pub record Sees (s : List ℕ) (c : Cur) (r : Lexed) : Type 0 where
 abbrev pub Spelt : ℕ → String → Type 0
 Spelt k t = (x : List ℕ) → same x (bytes t) ≡ eqb (kindOf x) k
 
+-- the rules' `matchToken` and `expect`, asked of the word's kind. Words of kind 1 and 2 have many texts, and some numbers are no word's kind; these say what
+-- is done there too. Where a text is spelt by the kind they are the rules' own
+unfoldable pub matchKind : List ℕ → ℕ → Reads 𝔹
+matchKind s k = do
+  w ← peek s
+  if eqb (kindOf (w .text)) k then (do
+    pass s
+    give true) else give false
+
+unfoldable pub expectKind : List ℕ → ℕ → Reads (Unit {0})
+expectKind s k = do
+  w ← next s
+  ask 5 (eqb (kindOf (w .text)) k)
+
 -- a name, which lies inside of the script
 pub record Idents (s : List ℕ) (c : Cur) (r : Ident) : Type 0 where
   pub moves : Moves (expectIdent s) 1 s c (identOf s r)
   pub inside : (c' : Cur) (n : Name) → r ≡ Ident.Found c' n → c .at ≤ length s → n .start + n .len ≤ length s
 
 pub record Expects (s : List ℕ) (k : ℕ) (c : Cur) (r : Moved) : Type 0 where
+  pub takes : Moves (expectKind s k) 1 s c (movedOf r)
   pub moves : (t : String) → Spelt k t → Moves (expect s t) 1 s c (movedOf r)
 
 pub record Matches (s : List ℕ) (k : ℕ) (c : Cur) (r : Matched) : Type 0 where
+  pub takes : Moves (matchKind s k) 0 s c (matchedOf c r)
   pub moves : (t : String) → Spelt k t → Moves (matchToken s t) 0 s c (matchedOf c r)
   pub further : (c' : Cur) → r ≡ Matched.Yes c' → c .at < c' .at
 

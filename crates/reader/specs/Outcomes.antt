@@ -31,7 +31,9 @@ pub record ReadsWithin (l : Limits) (s m' : List ℕ) (r : Outcome) : Type 0 whe
   pub is : answerOf s m' r ≡ parseProgram (View.limitsOf l) s
   pub ok : ReadyIf m' r
 
--- the same under the built-in ones
+-- the same under the built-in ones.
+-- Free: the words of the scratch memory, of which nothing is said; in the tables the words beyond the rows in use (`View.view` reads none), and all of them
+-- after a refusal. Both memories keep their lengths, as lent slices do
 pub record ReadsScript (s m' : List ℕ) (r : Outcome) : Type 0 where
   pub is : answerOf s m' r ≡ parseProgram P.limits s
   pub ok : ReadyIf m' r

@@ -14,13 +14,14 @@ use Rattle.rules.specs.Machine.{start, run}
 use Rattle.rules.specs.Bound.{bound}
 use Rattle.rules.specs.Finished.{Usable}
 use Rattle.rules.specs.Frames.{Analysis, analyze}
-use Rattle.rules.specs.Steps.{Demand, Told, Answers}
+use Rattle.rules.specs.Steps.{Demand, Counts, Told, Answers}
 use Rattle.rules.proofs.Wellformed.Laws.{Comes, done, andThen}
 use Rattle.rules.proofs.Wellformed.Operands.{Sane}
 use Rattle.rules.proofs.Wellformed.Wording.{Question}
 use Rattle.rules.proofs.Wellformed.Forward.{program-comes, too-long}
 use Rattle.rules.proofs.Wellformed.Whole.{finished}
 use Rattle.rules.proofs.Exactness.Theorem.{exact-of}
+use Rattle.rules.proofs.Exactness.Counted.{counted-of}
 use Rattle.rules.proofs.Questions.{Asked, Anything, start-fine, run-fine}
 
 -- the built-in limits are such
@@ -32,6 +33,9 @@ usable-sane L u = record { builtIns = u .builtIns; functions = u .functions; cla
 
 pub demand : Demand
 demand L u script a e = exact-of L (u .classes) script a (finished L (usable-sane L u) script) e
+
+pub counts : Counts
+counts L u script a e = counted-of L (u .classes) script a (finished L (usable-sane L u) script) e
 
 -- a question's number, of the reading after question 1 or of the analysis
 abbrev pub Number : ℕ → Type 0

@@ -16,4 +16,5 @@ pub mod Lawful
 pub mod Room
 pub mod Theorem
 pub mod Loop
+pub mod Counted
 pub mod Applied

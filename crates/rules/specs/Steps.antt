@@ -4,7 +4,7 @@ use mathlib.Core.Option.{none, some}
 use mathlib.Core.Path.{_≡_}
 use mathlib.Core.Logic.{_↔_}
 use mathlib.Core.List.{List, [], _∷_, _++_, map}
-use Prim.Native.Nat.{ℕ, _≤_}
+use Prim.Native.Nat.{ℕ, suc, _≤_}
 use lib.ListN.{getD}
 use lib.Dec.{eqb, T}
 use Rattle.sets.specs.Sets.{membersOf}
@@ -13,7 +13,7 @@ use Rattle.rules.specs.Actions.{Answer, answered, refused}
 use Rattle.rules.specs.Lists.{consIf, toList, concat, any}
 use Rattle.rules.specs.Values.{classesIn}
 use Rattle.rules.specs.Program.{Limits, Opnd, Terminator, Jump, IfTrue, Return, Callee, Static, Dynamic, Op, about, Program, opOf, code, entry, methodNamed, mainFunction}
-use Rattle.rules.specs.Machine.{State, kindOf, atRest}
+use Rattle.rules.specs.Machine.{State, kindOf, atRest, step, start}
 use Rattle.rules.specs.Bound.{bound}
 use Rattle.rules.specs.Finished.{Usable}
 use Rattle.rules.specs.Frames.{Analysis, analyze}
@@ -55,6 +55,22 @@ module _ (p : Program) (s : State) where
 -- demand 3: every answer is exact and within the bound
 abbrev pub Demand : Type 0
 Demand = (L : Limits) → Usable L → (script : List ℕ) (a : Analysis) → analyze L script ≡ answered a → Exact (a .program) (a .state)
+
+module _ (L : Limits) (p : Program) where
+  -- n steps lead from one state to another, and each takes an entry off a worklist: something waits before it
+  pub data Stepped : ℕ → State → State → Type 0 where
+    none-taken : {s : State} → Stepped 0 s s
+    one-taken : {n : ℕ} {s t e : State} → atRest s ≡ false → step L p s ≡ answered t → Stepped n t e → Stepped (suc n) s e
+
+  -- as many steps as the count says lead from the start to e
+  pub record Counted (e : State) : Type 0 where
+    pub first : State
+    pub starts : start L p ≡ answered first
+    pub steps : Stepped (e .count) first e
+
+-- demand 3: the count of every answer is the number of steps taken
+abbrev pub Counts : Type 0
+Counts = (L : Limits) → Usable L → (script : List ℕ) (a : Analysis) → analyze L script ≡ answered a → Counted L (a .program) (a .state)
 
 -- a script is answered, and then exactly, or refused by one of the questions; 2 asks about lent memory
 abbrev pub Told : Answer Analysis → Type 0

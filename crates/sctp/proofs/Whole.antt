@@ -8,9 +8,10 @@ use Rattle.rules.specs.Actions.{Answer, answered, refused, ifAnswered}
 use Rattle.rules.specs.Program.{Limits}
 use Rattle.rules.specs.Bound.{bound}
 use Rattle.rules.specs.Machine.{State, stateOf, start, run}
-use Rattle.rules.specs.Steps.{Exact}
+use Rattle.rules.specs.Steps.{Exact, Counted}
 use Rattle.rules.proofs.Exactness.Loop.{at-start}
 use Rattle.rules.proofs.Exactness.Theorem.{exact}
+use Rattle.rules.proofs.Exactness.Counted.{counted}
 use Rattle.program.specs.View as P
 use Rattle.program.specs.declared.Counts.{Counts}
 use Rattle.program.proofs.Tables.{tab-ext}
@@ -128,7 +129,7 @@ module _ {s p : List ℕ} {c : Counts} {u m : List ℕ} (g : Given s p c u m) wh
         });
       }
 
--- ---- demand 3: what is answered is at rest and exact, and its count is within the bound
+-- ---- demand 3: what is answered is at rest and exact, and its count is the number of steps taken and within the bound
 
 after : {A B : Type 0} (a : Answer A) (k : A → Answer B) {y : B} → answered y ≡ ifAnswered a k → (x : A) × (a ≡ answered x) × (k x ≡ answered y)
 after (answered x) k e = (x, refl, sym e)
@@ -139,3 +140,9 @@ pub exactly : {s p : List ℕ} {c : Counts} {u u' m' : List ℕ} {q : Regs} → 
 exactly {s} {p} {c} {u} {u'} {m'} {q} d L S v f =
     let a = after (start L (P.view s p c)) (run L (P.view s p c) (bound (P.view s p c))) (d .outcome .is L S v f) in
     exact L (S .room .classes) (P.view s p c) (S .finished) (a .0) (view (sizesOf c) v m' q) (a .1) (a .2)
+
+pub stepwise : {s p : List ℕ} {c : Counts} {u u' m' : List ℕ} {q : Regs} → Analyses s p c u u' m' (On q) → (L : Limits) (S : Suited s p c L) (v : Attrs) → Fits s p c (P.view s p c) v
+    → Counted L (P.view s p c) (view (sizesOf c) v m' q)
+stepwise {s} {p} {c} {u} {u'} {m'} {q} d L S v f =
+    let a = after (start L (P.view s p c)) (run L (P.view s p c) (bound (P.view s p c))) (d .outcome .is L S v f) in
+    counted L (S .room .classes) (P.view s p c) (S .finished) (a .0) (view (sizesOf c) v m' q) (a .1) (a .2)

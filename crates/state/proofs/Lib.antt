@@ -5,4 +5,5 @@ pub mod Wakes
 pub mod Lists
 pub mod Callers
 pub mod Blank
+pub mod Published
 pub mod Sized
