@@ -36,13 +36,16 @@ unsafe impl GlobalAlloc for Counting {
 #[global_allocator]
 static HEAP: Counting = Counting;
 
-fn heap_of(script: &[u8]) -> usize {
+/// The most bytes of heap in a call, and its time.
+fn heap_of(call: impl FnOnce()) -> (usize, Duration) {
     HELD.store(0, Ordering::Relaxed);
     MOST.store(0, Ordering::Relaxed);
     ASKED.store(true, Ordering::Relaxed);
-    let _ = hashed::image::timed(script);
+    let t = Instant::now();
+    call();
+    let taken = t.elapsed();
     ASKED.store(false, Ordering::Relaxed);
-    MOST.load(Ordering::Relaxed)
+    (MOST.load(Ordering::Relaxed), taken)
 }
 
 // ---- scripts ----
@@ -150,9 +153,9 @@ fn scripts() -> Vec<(String, Vec<u8>)> {
 
 // ---- time ----
 
-/// The middle of several turns, in nanoseconds a call; what takes above a second is called once.
-fn time(mut call: impl FnMut()) -> f64 {
-    let first = { let t = Instant::now(); call(); t.elapsed() };
+/// The middle of several turns, in nanoseconds a call. A first call was made, for what else it gives; where it took above a second
+/// there is no other.
+fn time(first: Duration, mut call: impl FnMut()) -> f64 {
     if Duration::from_secs(1) < first {
         return first.as_nanos() as f64;
     }
@@ -205,19 +208,24 @@ fn run(plots: Option<String>) {
         setup();
     }
     let (mut answer, mut program, mut state) = (vec![0u64; ANSWER_WORDS], vec![0u64; PROGRAM_WORDS], vec![0u64; STATE_WORDS]);
-    let mut call = |script: &[u8]| dinqosa::analyze(script, &mut answer, &mut program, &mut state);
-    let clearing = time(|| { let _ = call(b"$"); });
+    let mut call = |script: &[u8]| {
+        let t = Instant::now();
+        let given = dinqosa::analyze(script, &mut answer, &mut program, &mut state);
+        (given.map_or(0, |()| dinqosa::Answer(&answer).count()), t.elapsed())
+    };
+    let clearing = time(Duration::ZERO, || { let _ = call(b"$"); });
     println!("a call that reads one byte and clears: {:.1} us", clearing / 1_000.0);
     println!("lent memory: {} bytes", 8 * (ANSWER_WORDS + PROGRAM_WORDS + STATE_WORDS));
     println!("{:<24} {:>6} {:>9} {:>11} {:>11} {:>7} {:>9} {:>10}", "script", "bytes", "count", "library us", "Rust us", "ratio", "ns/entry", "Rust heap");
     let mut rows = vec![];
     for (name, script) in scripts() {
-        let count = limited::image::timed(&script).unwrap_or(0);
-        let ours = time(|| { let _ = call(&script); });
-        let rust = time(|| { let _ = hashed::image::timed(&script); });
+        let (count, first) = call(&script);
+        let ours = time(first, || { let _ = call(&script); });
+        let (heap, first) = heap_of(|| { let _ = hashed::image::timed(&script); });
+        let rust = time(first, || { let _ = hashed::image::timed(&script); });
         println!(
             "{name:<24} {:>6} {count:>9} {:>11.1} {:>11.1} {:>7.2} {:>9.1} {:>10}",
-            script.len(), ours / 1_000.0, rust / 1_000.0, rust / ours, (ours - clearing).max(0.0) / count.max(1) as f64, heap_of(&script)
+            script.len(), ours / 1_000.0, rust / 1_000.0, rust / ours, (ours - clearing).max(0.0) / count.max(1) as f64, heap
         );
         rows.push(Row { name, bytes: script.len(), count, ours, rust });
     }

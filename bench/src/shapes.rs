@@ -163,10 +163,14 @@ pub fn mixed(n: &[usize]) -> String {
             stages(classes, |i| format!("o={}.new()g({})", class(i), list(params, |j| if j % (1 + step) == 0 { "o".into() } else { format!("{}.new()", class(0)) }))))
 }
 
-/// The worst that bench/search has found, by time or by count, in each family that beats the rings; the first two came from elsewhere.
+/// The worst that were found by time or by count: the first two by hand, the others by bench/search or from its families.
 pub fn worst() -> Vec<(&'static str, String)> {
     vec![
         ("60 classes, 272 sends", sends(60, 1, 272, 1, 0, 66, 0)),
         ("the same, long names", sends(60, 1, 272, 1, 0, 66, 20)),
+        ("attribute reads", reads(60, 1_190, 5, 0, 9, 0)),
+        ("many returns", returns(65, 1, 41, 269, 115)),
+        ("many callers", callers(65, 3, 1_600, 0, 0)),
+        ("largest count found", chain(20, 73, 3, 65, 0, 20)),
     ]
 }
