@@ -1,7 +1,9 @@
 //! Times the library beside the Rust, in one run on the same scripts. See ../README.md.
 #[path = "../../bindings/dinqosa.rs"]
 mod dinqosa;
+mod shapes;
 use dinqosa::{ANSWER_WORDS, PROGRAM_WORDS, STATE_WORDS};
+use shapes::{each, joins, name, pair, ring};
 use std::alloc::{GlobalAlloc, Layout, System};
 use std::sync::atomic::{AtomicBool, AtomicUsize, Ordering};
 use std::time::{Duration, Instant};
@@ -34,25 +36,19 @@ unsafe impl GlobalAlloc for Counting {
 #[global_allocator]
 static HEAP: Counting = Counting;
 
-fn heap_of(script: &[u8]) -> usize {
+/// The most bytes of heap in a call, and its time.
+fn heap_of(call: impl FnOnce()) -> (usize, Duration) {
     HELD.store(0, Ordering::Relaxed);
     MOST.store(0, Ordering::Relaxed);
     ASKED.store(true, Ordering::Relaxed);
-    let _ = hashed::image::timed(script);
+    let t = Instant::now();
+    call();
+    let taken = t.elapsed();
     ASKED.store(false, Ordering::Relaxed);
-    MOST.load(Ordering::Relaxed)
+    (MOST.load(Ordering::Relaxed), taken)
 }
 
 // ---- scripts ----
-
-/// Names of small letters that are no kept words: a, b, .., ab, ..
-fn name(first: char, i: usize) -> String {
-    format!("{first}{}{}", (b'a' + (i / 26 % 26) as u8) as char, (b'a' + (i % 26) as u8) as char)
-}
-
-fn each(n: usize, text: impl Fn(usize) -> String) -> String {
-    (0..n).map(text).collect()
-}
 
 /// Pads a script with line ends to a length; they mean nothing.
 fn padded(text: String, length: usize) -> Vec<u8> {
@@ -101,27 +97,6 @@ fn variables(n: usize, depth: usize) -> String {
             each(n, |i| format!("x{} ", var(i))))
 }
 
-/// Two letters.
-fn pair(i: usize) -> String {
-    let letter = |i: usize| if i < 26 { (b'a' + i as u8) as char } else { (b'A' + (i - 26) as u8) as char };
-    [letter(i / 52 % 52), letter(i % 52)].iter().collect()
-}
-
-/// Names that are set under nested choices and nowhere else, over many bindings: each is looked up in vain at each join.
-fn joins(names: usize, bindings: usize, depth: usize) -> String {
-    let set: Vec<String> = (0..).map(pair).filter(|n| n != "if").take(names).map(|n| format!("{n}=a")).collect();
-    format!("def feed(c)a=nil {} {}{}{} end def main() feed(1)feed(2)end", "b=1".repeat(bindings), "if c ".repeat(depth), set.join(" "), " end".repeat(depth))
-}
-
-/// A ring of parameters, handed on from `step` on, whose kinds widen one class at a time: many entries for few bytes. At the
-/// start the first hold an object each, the rest the `other` value.
-fn ring(param: fn(usize) -> String, params: usize, classes: usize, calls: usize, sums: usize, step: usize, other: &str) -> String {
-    let list = |from: usize| (0..params).map(|i| param((from + i) % params)).collect::<Vec<_>>().join(",");
-    let objects: Vec<String> = (0..params).map(|i| if i < classes { format!("{}.new()", name('C', i)) } else { other.into() }).collect();
-    format!("{}def k({}) {}{} end def main() k({}) end", each(classes, |i| format!("class {} end ", name('C', i))), list(0),
-            each(calls, |_| format!("k({}) ", list(step))), each(sums, |i| format!("{}+1 ", param(i % params))), objects.join(","))
-}
-
 fn fitting(make: impl Fn(usize) -> String, most: usize) -> Vec<u8> {
     let (mut low, mut high) = (1, 4_096);
     // the largest that is answered within the bytes
@@ -167,19 +142,23 @@ fn scripts() -> Vec<(String, Vec<u8>)> {
     if best.0 > 0 {
         all.push(("full waiting lists".into(), best.1));
     }
-    // what searches for the largest count and for the longest time came to; the last is both
     all.push(("16 KB joins".into(), joins(1_520, 2_545, 120).into_bytes()));
     all.push(("ring with sums".into(), ring(pair, 48, 19, 28, 1_184, 13, "nil").into_bytes()));
     all.push(("ring of 96".into(), ring(pair, 96, 11, 48, 2, 7, "nil").into_bytes()));
-    all.push(("longest time found".into(), ring(pair, 83, 11, 62, 0, 27, "1").into_bytes()));
+    all.push(("ring of 83".into(), ring(pair, 83, 11, 62, 0, 27, "1").into_bytes()));
+    // what bench/search came to, family by family
+    all.extend(shapes::worst().into_iter().map(|(name, script)| (name.into(), script.into_bytes())));
     all
 }
 
 // ---- time ----
 
-/// The middle of several turns, in nanoseconds a call.
-fn time(mut call: impl FnMut()) -> f64 {
-    call();
+/// The middle of several turns, in nanoseconds a call. A first call was made, for what else it gives; where it took above a second
+/// there is no other.
+fn time(first: Duration, mut call: impl FnMut()) -> f64 {
+    if Duration::from_secs(1) < first {
+        return first.as_nanos() as f64;
+    }
     let once = { let t = Instant::now(); call(); t.elapsed().max(Duration::from_nanos(50)) };
     let calls = (Duration::from_millis(40).as_nanos() / once.as_nanos()).clamp(1, 100_000) as u32;
     let mut turns: Vec<f64> = (0..5).map(|_| { let t = Instant::now(); (0..calls).for_each(|_| call()); t.elapsed().as_nanos() as f64 / calls as f64 }).collect();
@@ -229,19 +208,24 @@ fn run(plots: Option<String>) {
         setup();
     }
     let (mut answer, mut program, mut state) = (vec![0u64; ANSWER_WORDS], vec![0u64; PROGRAM_WORDS], vec![0u64; STATE_WORDS]);
-    let mut call = |script: &[u8]| dinqosa::analyze(script, &mut answer, &mut program, &mut state);
-    let clearing = time(|| { let _ = call(b"$"); });
+    let mut call = |script: &[u8]| {
+        let t = Instant::now();
+        let given = dinqosa::analyze(script, &mut answer, &mut program, &mut state);
+        (given.map_or(0, |()| dinqosa::Answer(&answer).count()), t.elapsed())
+    };
+    let clearing = time(Duration::ZERO, || { let _ = call(b"$"); });
     println!("a call that reads one byte and clears: {:.1} us", clearing / 1_000.0);
     println!("lent memory: {} bytes", 8 * (ANSWER_WORDS + PROGRAM_WORDS + STATE_WORDS));
     println!("{:<24} {:>6} {:>9} {:>11} {:>11} {:>7} {:>9} {:>10}", "script", "bytes", "count", "library us", "Rust us", "ratio", "ns/entry", "Rust heap");
     let mut rows = vec![];
     for (name, script) in scripts() {
-        let count = limited::image::timed(&script).unwrap_or(0);
-        let ours = time(|| { let _ = call(&script); });
-        let rust = time(|| { let _ = hashed::image::timed(&script); });
+        let (count, first) = call(&script);
+        let ours = time(first, || { let _ = call(&script); });
+        let (heap, first) = heap_of(|| { let _ = hashed::image::timed(&script); });
+        let rust = time(first, || { let _ = hashed::image::timed(&script); });
         println!(
             "{name:<24} {:>6} {count:>9} {:>11.1} {:>11.1} {:>7.2} {:>9.1} {:>10}",
-            script.len(), ours / 1_000.0, rust / 1_000.0, rust / ours, (ours - clearing).max(0.0) / count.max(1) as f64, heap_of(&script)
+            script.len(), ours / 1_000.0, rust / 1_000.0, rust / ours, (ours - clearing).max(0.0) / count.max(1) as f64, heap
         );
         rows.push(Row { name, bytes: script.len(), count, ours, rust });
     }
