@@ -14,3 +14,4 @@ pub mod Steps
 pub mod Finished
 pub mod Opened
 pub mod Scripts
+pub mod Traps
