@@ -15,3 +15,4 @@ pub mod Finished
 pub mod Opened
 pub mod Scripts
 pub mod Bounds
+pub mod Traps

@@ -96,8 +96,7 @@ module _ (p : Program) where
       let SR = mul-mono (S * R) (S′ * R′) (1 + h) (1 + h′) (mul-mono S S′ R R′ s r) (omega arith) in
       let GD = mul-mono (G * D) (G′ * D′) h h′ (mul-mono G G′ D D′ g d) k in
       let SF = mul-mono S S′ F F′ s f in
-      let t : 3 * (N + h * E + S * R * (1 + h) + G * D * h) ≤ 3 * (N′ + h′ * E′ + S′ * R′ * (1 + h′) + G′ * D′ * h′) = three _ _ (add4 _ _ _ _ _ _ _ _ n hE SR GD) in
-      add2 _ _ _ _ (mul-mono _ _ (1 + P) (1 + P′) t (omega arith)) SF
+      add2 _ _ _ _ (mul-mono _ _ (1 + P) (1 + P′) (times _ _ _ (add4 _ _ _ _ _ _ _ _ n hE SR GD)) (omega arith)) SF
     where
       add2 : (a b c d : ℕ) → a ≤ b → c ≤ d → a + c ≤ b + d
       add2 a b c d h k = omega arith
@@ -105,8 +104,8 @@ module _ (p : Program) where
       add4 : (a b c d w x y z : ℕ) → a ≤ w → b ≤ x → c ≤ y → d ≤ z → a + b + c + d ≤ w + x + y + z
       add4 a b c d w x y z h i j k = omega arith
 
-      three : (a b : ℕ) → a ≤ b → 3 * a ≤ 3 * b
-      three a b h = omega arith
+      times : (k a b : ℕ) → a ≤ b → k * a ≤ k * b
+      times k a b h = mul-mono k k a b (omega arith) h
 
   -- under limits that are none above the built-in ones it fits 63 bits
   pub bound-small : (L : Limits) → Finished L p → L .functions ≤ 128 → L .classes ≤ 64 → L .instructions ≤ 2048 → L .ivars ≤ 64 → bound p < 2 ^ 63
