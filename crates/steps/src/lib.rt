@@ -132,14 +132,14 @@ fn advance(
             let next = step(s, p, c, x, u, m, z, q, insn);
             match next {
                 Went::On(r) => ahead(m, z, r),
-                Went::No(n) => Turn {
+                Went::No(_) => Turn {
                     going: false,
                     insn: 0,
                     went: next,
                 },
             }
         }
-        Went::No(n) => at,
+        Went::No(_) => at,
     }
 }
 
