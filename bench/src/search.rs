@@ -24,7 +24,7 @@ const FAMILIES: &[Family] = &[
     Family {
         name: "wide-ring",
         numbers: &[("params", 1, 1_900), ("values", 1, 65), ("calls", 1, 40), ("step", 0, 1_900), ("gap", 1, 60)],
-        start: &[900, 60, 2, 1, 10],
+        start: &[543, 59, 8, 1_786, 17],
         make: |n| shapes::wide_ring(n[0], n[1], n[2], n[3], n[4]),
     },
     Family {
@@ -36,25 +36,25 @@ const FAMILIES: &[Family] = &[
     Family {
         name: "callers",
         numbers: &[("values", 1, 65), ("params", 1, 60), ("calls", 1, 1_900), ("back", 0, 100), ("idle", 0, 125)],
-        start: &[65, 3, 1_400, 0, 0],
+        start: &[65, 3, 1_600, 0, 0],
         make: |n| shapes::callers(n[0], n[1], n[2], n[3], n[4]),
     },
     Family {
         name: "sends",
         numbers: &[("classes", 1, 60), ("groups", 1, 60), ("sends", 1, 1_900), ("args", 1, 8), ("back", 0, 20), ("idle", 0, 125), ("length", 0, 60)],
-        start: &[60, 1, 272, 1, 0, 60, 0],
+        start: &[60, 1, 272, 1, 0, 66, 0],
         make: |n| shapes::sends(n[0], n[1], n[2], n[3], n[4], n[5], n[6]),
     },
     Family {
         name: "reads",
         numbers: &[("classes", 1, 60), ("reads", 1, 1_900), ("before", 0, 25), ("length", 0, 60), ("links", 1, 60), ("idle", 0, 60)],
-        start: &[60, 1_150, 1, 2, 1, 0],
+        start: &[60, 1_190, 5, 0, 9, 0],
         make: |n| shapes::reads(n[0], n[1], n[2], n[3], n[4], n[5]),
     },
     Family {
         name: "returns",
         numbers: &[("values", 1, 65), ("groups", 1, 60), ("back", 0, 120), ("calls", 1, 1_900), ("users", 0, 1_900)],
-        start: &[65, 1, 40, 300, 0],
+        start: &[65, 1, 41, 269, 115],
         make: |n| shapes::returns(n[0], n[1], n[2], n[3], n[4]),
     },
     Family {
