@@ -1,8 +1,10 @@
 //! Looks for the scripts that take the library the longest, or that have the largest count. See ../README.md.
 #[path = "../../bindings/dinqosa.rs"]
 mod dinqosa;
+mod clock;
 mod shapes;
 use dinqosa::{Answer, ANSWER_WORDS, PROGRAM_WORDS, SCRIPT_MOST, STATE_WORDS};
+use std::time::Duration;
 
 // ---- families: a name, the bounds of each number, where a climb starts, the script ----
 
@@ -76,17 +78,6 @@ const FAMILIES: &[Family] = &[
 
 // ---- the library, timed ----
 
-/// The processor time of this thread, in nanoseconds.
-fn spent() -> u64 {
-    extern "C" {
-        fn clock_gettime(clock: i32, time: *mut [i64; 2]) -> i32;
-    }
-    let mut time = [0i64; 2];
-    // 3 is CLOCK_THREAD_CPUTIME_ID; the struct is two words of 64 bits
-    assert_eq!(unsafe { clock_gettime(3, &mut time) }, 0, "no processor time");
-    time[0] as u64 * 1_000_000_000 + time[1] as u64
-}
-
 struct Library {
     answer: Vec<u64>,
     program: Vec<u64>,
@@ -103,9 +94,8 @@ struct Called {
 
 impl Library {
     fn call(&mut self, script: &[u8]) -> Called {
-        let before = spent();
-        let given = dinqosa::analyze(script, &mut self.answer, &mut self.program, &mut self.state);
-        let nanos = spent() - before;
+        let (given, taken) = clock::timed(|| dinqosa::analyze(script, &mut self.answer, &mut self.program, &mut self.state));
+        let nanos = taken.as_nanos() as u64;
         match given {
             Ok(()) => Called { count: Answer(&self.answer).count(), refusal: 0, nanos },
             Err(e) => Called { count: 0, refusal: e.number(), nanos },
@@ -197,13 +187,13 @@ fn tried(lib: &mut Library, family: &Family, numbers: &[usize]) -> Option<(Vec<u
     Some((script, called))
 }
 
-/// Climbs for some nanoseconds of processor time, or a number of scripts: a step is kept that scores no less. After `patience` steps in vain the climb goes on
+/// Climbs for some processor time, or a number of scripts: a step is kept that scores no less. After `patience` steps in vain the climb goes on
 /// from numbers moved further; the best is kept.
-fn climb(lib: &mut Library, family: &Family, aim: Aim, rng: &mut Numbers, most: u64, scripts: usize, best: &mut Best) -> usize {
-    let start = spent();
+fn climb(lib: &mut Library, family: &Family, aim: Aim, rng: &mut Numbers, most: Duration, scripts: usize, best: &mut Best) -> usize {
+    let start = clock::spent();
     let patience = 40;
     let (mut at, mut here, mut vain, mut tries) = (best.numbers.clone(), score(aim, best.called), 0, 0);
-    while spent() - start < most && tries < scripts {
+    while clock::spent() - start < most && tries < scripts {
         let next = rng.moved(family, &at);
         tries += 1;
         vain += 1;
@@ -290,7 +280,7 @@ fn run(asked: Asked) {
         let script = (family.make)(&start).into_bytes();
         let called = lib.call(&script);
         let mut best = Best { numbers: start, script, called };
-        let share = 1_000_000_000 * asked.seconds / families.len() as u64;
+        let share = Duration::from_millis(1_000 * asked.seconds / families.len() as u64);
         let tries = climb(&mut lib, family, asked.aim, &mut rng, share, asked.scripts, &mut best);
         best.called = lib.least(&best.script, 3);
         keep(&folder, family, &best);
