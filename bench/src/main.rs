@@ -1,12 +1,13 @@
 //! Times the library beside the Rust, in one run on the same scripts. See ../README.md.
 #[path = "../../bindings/dinqosa.rs"]
 mod dinqosa;
+mod clock;
 mod shapes;
 use dinqosa::{ANSWER_WORDS, PROGRAM_WORDS, STATE_WORDS};
 use shapes::{each, joins, name, pair, ring};
 use std::alloc::{GlobalAlloc, Layout, System};
 use std::sync::atomic::{AtomicBool, AtomicUsize, Ordering};
-use std::time::{Duration, Instant};
+use std::time::Duration;
 
 // ---- the Rust's memory: the most bytes of heap at once, while asked for ----
 
@@ -41,9 +42,7 @@ fn heap_of(call: impl FnOnce()) -> (usize, Duration) {
     HELD.store(0, Ordering::Relaxed);
     MOST.store(0, Ordering::Relaxed);
     ASKED.store(true, Ordering::Relaxed);
-    let t = Instant::now();
-    call();
-    let taken = t.elapsed();
+    let ((), taken) = clock::timed(call);
     ASKED.store(false, Ordering::Relaxed);
     (MOST.load(Ordering::Relaxed), taken)
 }
@@ -153,15 +152,15 @@ fn scripts() -> Vec<(String, Vec<u8>)> {
 
 // ---- time ----
 
-/// The middle of several turns, in nanoseconds a call. A first call was made, for what else it gives; where it took above a second
+/// The middle of several turns, in nanoseconds of processor time a call. A first call was made, for what else it gives; where it took above a second
 /// there is no other.
 fn time(first: Duration, mut call: impl FnMut()) -> f64 {
     if Duration::from_secs(1) < first {
         return first.as_nanos() as f64;
     }
-    let once = { let t = Instant::now(); call(); t.elapsed().max(Duration::from_nanos(50)) };
+    let once = clock::timed(&mut call).1.max(Duration::from_nanos(50));
     let calls = (Duration::from_millis(40).as_nanos() / once.as_nanos()).clamp(1, 100_000) as u32;
-    let mut turns: Vec<f64> = (0..5).map(|_| { let t = Instant::now(); (0..calls).for_each(|_| call()); t.elapsed().as_nanos() as f64 / calls as f64 }).collect();
+    let mut turns: Vec<f64> = (0..5).map(|_| clock::timed(|| (0..calls).for_each(|_| call())).1.as_nanos() as f64 / calls as f64).collect();
     turns.sort_by(f64::total_cmp);
     turns[2]
 }
@@ -209,9 +208,8 @@ fn run(plots: Option<String>) {
     }
     let (mut answer, mut program, mut state) = (vec![0u64; ANSWER_WORDS], vec![0u64; PROGRAM_WORDS], vec![0u64; STATE_WORDS]);
     let mut call = |script: &[u8]| {
-        let t = Instant::now();
-        let given = dinqosa::analyze(script, &mut answer, &mut program, &mut state);
-        (given.map_or(0, |()| dinqosa::Answer(&answer).count()), t.elapsed())
+        let (given, taken) = clock::timed(|| dinqosa::analyze(script, &mut answer, &mut program, &mut state));
+        (given.map_or(0, |()| dinqosa::Answer(&answer).count()), taken)
     };
     let clearing = time(Duration::ZERO, || { let _ = call(b"$"); });
     println!("a call that reads one byte and clears: {:.1} us", clearing / 1_000.0);

@@ -1,8 +1,10 @@
 //! Looks for the scripts that take the library the longest, or that have the largest count. See ../README.md.
 #[path = "../../bindings/dinqosa.rs"]
 mod dinqosa;
+mod clock;
 mod shapes;
 use dinqosa::{Answer, ANSWER_WORDS, PROGRAM_WORDS, SCRIPT_MOST, STATE_WORDS};
+use std::time::Duration;
 
 // ---- families: a name, the bounds of each number, where a climb starts, the script ----
 
@@ -24,7 +26,7 @@ const FAMILIES: &[Family] = &[
     Family {
         name: "wide-ring",
         numbers: &[("params", 1, 1_900), ("values", 1, 65), ("calls", 1, 40), ("step", 0, 1_900), ("gap", 1, 60)],
-        start: &[900, 60, 2, 1, 10],
+        start: &[543, 59, 8, 1_786, 17],
         make: |n| shapes::wide_ring(n[0], n[1], n[2], n[3], n[4]),
     },
     Family {
@@ -36,25 +38,25 @@ const FAMILIES: &[Family] = &[
     Family {
         name: "callers",
         numbers: &[("values", 1, 65), ("params", 1, 60), ("calls", 1, 1_900), ("back", 0, 100), ("idle", 0, 125)],
-        start: &[65, 3, 1_400, 0, 0],
+        start: &[65, 3, 1_600, 0, 0],
         make: |n| shapes::callers(n[0], n[1], n[2], n[3], n[4]),
     },
     Family {
         name: "sends",
         numbers: &[("classes", 1, 60), ("groups", 1, 60), ("sends", 1, 1_900), ("args", 1, 8), ("back", 0, 20), ("idle", 0, 125), ("length", 0, 60)],
-        start: &[60, 1, 272, 1, 0, 60, 0],
+        start: &[60, 1, 272, 1, 0, 66, 0],
         make: |n| shapes::sends(n[0], n[1], n[2], n[3], n[4], n[5], n[6]),
     },
     Family {
         name: "reads",
         numbers: &[("classes", 1, 60), ("reads", 1, 1_900), ("before", 0, 25), ("length", 0, 60), ("links", 1, 60), ("idle", 0, 60)],
-        start: &[60, 1_150, 1, 2, 1, 0],
+        start: &[60, 1_190, 5, 0, 9, 0],
         make: |n| shapes::reads(n[0], n[1], n[2], n[3], n[4], n[5]),
     },
     Family {
         name: "returns",
         numbers: &[("values", 1, 65), ("groups", 1, 60), ("back", 0, 120), ("calls", 1, 1_900), ("users", 0, 1_900)],
-        start: &[65, 1, 40, 300, 0],
+        start: &[65, 1, 41, 269, 115],
         make: |n| shapes::returns(n[0], n[1], n[2], n[3], n[4]),
     },
     Family {
@@ -76,17 +78,6 @@ const FAMILIES: &[Family] = &[
 
 // ---- the library, timed ----
 
-/// The processor time of this thread, in nanoseconds.
-fn spent() -> u64 {
-    extern "C" {
-        fn clock_gettime(clock: i32, time: *mut [i64; 2]) -> i32;
-    }
-    let mut time = [0i64; 2];
-    // 3 is CLOCK_THREAD_CPUTIME_ID; the struct is two words of 64 bits
-    assert_eq!(unsafe { clock_gettime(3, &mut time) }, 0, "no processor time");
-    time[0] as u64 * 1_000_000_000 + time[1] as u64
-}
-
 struct Library {
     answer: Vec<u64>,
     program: Vec<u64>,
@@ -103,9 +94,8 @@ struct Called {
 
 impl Library {
     fn call(&mut self, script: &[u8]) -> Called {
-        let before = spent();
-        let given = dinqosa::analyze(script, &mut self.answer, &mut self.program, &mut self.state);
-        let nanos = spent() - before;
+        let (given, taken) = clock::timed(|| dinqosa::analyze(script, &mut self.answer, &mut self.program, &mut self.state));
+        let nanos = taken.as_nanos() as u64;
         match given {
             Ok(()) => Called { count: Answer(&self.answer).count(), refusal: 0, nanos },
             Err(e) => Called { count: 0, refusal: e.number(), nanos },
@@ -197,13 +187,13 @@ fn tried(lib: &mut Library, family: &Family, numbers: &[usize]) -> Option<(Vec<u
     Some((script, called))
 }
 
-/// Climbs for some nanoseconds of processor time, or a number of scripts: a step is kept that scores no less. After `patience` steps in vain the climb goes on
+/// Climbs for some processor time, or a number of scripts: a step is kept that scores no less. After `patience` steps in vain the climb goes on
 /// from numbers moved further; the best is kept.
-fn climb(lib: &mut Library, family: &Family, aim: Aim, rng: &mut Numbers, most: u64, scripts: usize, best: &mut Best) -> usize {
-    let start = spent();
+fn climb(lib: &mut Library, family: &Family, aim: Aim, rng: &mut Numbers, most: Duration, scripts: usize, best: &mut Best) -> usize {
+    let start = clock::spent();
     let patience = 40;
     let (mut at, mut here, mut vain, mut tries) = (best.numbers.clone(), score(aim, best.called), 0, 0);
-    while spent() - start < most && tries < scripts {
+    while clock::spent() - start < most && tries < scripts {
         let next = rng.moved(family, &at);
         tries += 1;
         vain += 1;
@@ -290,7 +280,7 @@ fn run(asked: Asked) {
         let script = (family.make)(&start).into_bytes();
         let called = lib.call(&script);
         let mut best = Best { numbers: start, script, called };
-        let share = 1_000_000_000 * asked.seconds / families.len() as u64;
+        let share = Duration::from_millis(1_000 * asked.seconds / families.len() as u64);
         let tries = climb(&mut lib, family, asked.aim, &mut rng, share, asked.scripts, &mut best);
         best.called = lib.least(&best.script, 3);
         keep(&folder, family, &best);

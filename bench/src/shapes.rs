@@ -171,6 +171,7 @@ pub fn worst() -> Vec<(&'static str, String)> {
         ("attribute reads", reads(60, 1_190, 5, 0, 9, 0)),
         ("many returns", returns(65, 1, 41, 269, 115)),
         ("many callers", callers(65, 3, 1_600, 0, 0)),
+        ("ring of 543", wide_ring(543, 59, 8, 1_786, 17)),
         ("largest count found", chain(20, 73, 3, 65, 0, 20)),
     ]
 }
