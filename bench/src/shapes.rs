@@ -147,8 +147,8 @@ pub fn returns(values: usize, groups: usize, back: usize, calls: usize, users: u
             stages(values * groups, |i| format!("{}({})", name('h', i % groups), value(i / groups))))
 }
 
-/// The parts of all these in one script: classes with a setting method, and a function with sends, reads, calls of another
-/// function, calls of itself with its parameters moved on, sums and returns.
+/// The parts of all these in one script: classes with a setting method; a function with returns and sums; another with sends, reads,
+/// calls of the first, calls of itself with its parameters moved on, and sums.
 pub fn mixed(n: &[usize]) -> String {
     let [classes, params, attributes, back, sends, reads, calls, selves, step, sums, returns, idle] = n[..12] else { panic!("twelve numbers") };
     let handed = |from: usize| list(params, |i| short((from + i) % params));
@@ -157,9 +157,9 @@ pub fn mixed(n: &[usize]) -> String {
         format!("class {} {}def m(a)@{last}=a {}a end end ", class(i), each(attributes + 1, |j| format!("attr_accessor :{} ", short(j))), "if a return a end ".repeat(back))
     };
     let by = |n: usize, text: &dyn Fn(String) -> String| each(n, |i| text(short(i % params)));
-    format!("{}def f({}){}{}end {}def g({}){}{}{}{}{}{}end def main(){}end", each(classes, one), handed(0), "if a return a end ".repeat(returns), by(sums, &|p| format!("{p}+1 ")), uncalled(idle),
+    format!("{}def f({}){}{}end {}def g({}){}{}{}{}{}end def main(){}end", each(classes, one), handed(0), "if a return a end ".repeat(returns), by(sums, &|p| format!("{p}+1 ")), uncalled(idle),
             handed(0), by(sends, &|p| format!("{p}.m({p})")), by(reads, &|p| format!("{p}.{last} ")), format!("f({})", handed(0)).repeat(calls),
-            format!("g({})", handed(step)).repeat(selves), by(sums, &|p| format!("{p}+1 ")), "",
+            format!("g({})", handed(step)).repeat(selves), by(sums, &|p| format!("{p}+1 ")),
             stages(classes, |i| format!("o={}.new()g({})", class(i), list(params, |j| if j % (1 + step) == 0 { "o".into() } else { format!("{}.new()", class(0)) }))))
 }
 
