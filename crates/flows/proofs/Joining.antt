@@ -2,22 +2,22 @@
 use mathlib.Core.Bool.{Bool as 𝔹, true, false, cond, _||_}
 use mathlib.Core.Path.{_≡_, refl, sym, ap, ap₂, _∙_}
 use mathlib.Core.List.{List, [], _∷_, _++_, map}
-use Prim.Native.Nat.{ℕ, zero, suc, _+_, _-_, _*_, _^_, _≤_, _<_}
+use Prim.Native.Nat.{ℕ, zero, suc, _+_, _-_, _*_, _≤_, _<_}
 use native.Mathlib.Decide.{decLt}
 use native.Mathlib.Omega.{arith}
 use mir.Syntax.{w32, w64}
 use mir.Val.{Fits}
 use lib.Bits.{bitOr, or-self, or-zero-r}
-use lib.ListN.{length, getD, drop, List·getD-eq-default}
+use lib.ListN.{length, getD, List·getD-eq-default}
 use Rattle.sets.specs.Sets.{membersFrom}
 use Rattle.sets.proofs.Bits.{or-assoc}
 use Rattle.sets.proofs.Walk.{no-members}
 use Rattle.kinds.specs.declared.Kind.{Kind}
 use Rattle.kinds.specs.declared.Kind.the-variants.{Empty}
 use Rattle.kinds.specs.Kinds.{kindFrom, isSet}
-use Rattle.rules.specs.Lists.{has, placesFrom, consIf}
+use Rattle.rules.specs.Lists.{consIf}
 use Rattle.rules.specs.Program as P
-use Rattle.rules.specs.Program.{Limits, about, opOf}
+use Rattle.rules.specs.Program.{Limits}
 use Rattle.rules.specs.Machine.{marked, argument}
 use Rattle.program.specs.declared.Opnd.{Opnd}
 use Rattle.program.specs.declared.Counts.{Counts}

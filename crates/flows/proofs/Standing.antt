@@ -12,7 +12,7 @@ use Rattle.kinds.specs.declared.Kind.the-variants.{Empty}
 use Rattle.kinds.specs.Kinds.{kindFrom, isSet}
 use Rattle.program.specs.declared.Counts.{Counts}
 use Rattle.program.specs.declared.Opnd.{Opnd}
-use Rattle.program.specs.declared.Opnd.the-variants.{Const, Insn}
+use Rattle.program.specs.declared.Opnd.the-variants.{Const}
 use Rattle.program.specs.Rows.{opndOf, opndFrom, opndAt}
 use Rattle.program.proofs.Forms.{opnd-insn, opnd-const}
 use Rattle.state.specs.declared.Sizes.{Sizes}

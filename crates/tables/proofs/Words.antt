@@ -2,7 +2,7 @@
 use mathlib.Core.Bool.{Bool as 𝔹, true, false}
 use mathlib.Core.Path.{_≡_, refl, sym, ap, ap₂, _∙_}
 use mathlib.Core.List.{List, [], _∷_, _++_}
-use Prim.Native.Nat.{ℕ, zero, suc, _+_, _-_, _*_, _/_, _%_, _^_, _≤_, _<_, min}
+use Prim.Native.Nat.{ℕ, zero, suc, _+_, _-_, _*_, _/_, _%_, _^_, _≤_, _<_}
 use native.Mathlib.Nat.{mod-lt, add-zero, pow-suc, div-one}
 use native.Mathlib.Decide.{decLt}
 use native.Mathlib.Omega.{arith}

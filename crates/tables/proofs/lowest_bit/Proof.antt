@@ -1,5 +1,3 @@
-use native.Mathlib.Omega.{arith}
-use lib.Count.{trailing-le}
 use Rattle.tables.proofs.Bit.{zeros-fit}
 use Rattle.tables.proofs.Words.{lowest-is}
 use borrow.Author.Needs.{needs}
