@@ -8,10 +8,10 @@ use Rattle.first_main.proofs.main.Statement.{statement}
 use Rattle.first_main.proofs.main.Tie as tie
 
 abbrev Inv-loop : tie.InvT-loop
-Inv-loop script₀ out₀ m₀ x₀ w₀ u₀ k₀ t u script out m x w u k = (k ≤ 16777216) × (length script ≡ 65535) × (length out ≡ 1048576) × (length m ≡ 47872) × (length x ≡ 9216) × (length w ≡ 49152) × (length u ≡ 14337)
+Inv-loop script₀ out₀ m₀ x₀ w₀ u₀ k₀ t5 t6 script out m x w u k = (k ≤ 16777216) × (length script ≡ 65535) × (length out ≡ 1048576) × (length m ≡ 47872) × (length x ≡ 9216) × (length w ≡ 49152) × (length u ≡ 14337)
 
 abbrev μ-loop : tie.MeasureT-loop
-μ-loop script₀ out₀ m₀ x₀ w₀ u₀ k₀ t u script out m x w u k = 16777216 - k
+μ-loop script₀ out₀ m₀ x₀ w₀ u₀ k₀ t5 t6 script out m x w u k = 16777216 - k
 
 loop-holds : tie.Need-loop-holds Inv-loop μ-loop
 loop-holds c = (omega arith, length-replicate {A = ℕ} 65535 0, length-replicate {A = ℕ} 1048576 0, length-replicate {A = ℕ} 47872 0, length-replicate {A = ℕ} 9216 0, length-replicate {A = ℕ} 49152 0, length-replicate {A = ℕ} 14337 0)
