@@ -1,8 +1,10 @@
 // Texts put together in memory, and batches: on standard input and output each part stands behind its length in four bytes.
 ghost use Prim.Native.Nat.{_≤_};
 ghost use lib.ListN.{length};
-use libc::STDIN_FILENO;
+ghost use Rattle.batches.specs.Turns.{Within};
+use libc::STDERR_FILENO;
 use libc::STDOUT_FILENO;
+use streams::Input;
 
 // ---- texts: each of these puts something at `at` of `out`, as far as there is room, and answers the place behind it
 
@@ -97,22 +99,14 @@ pub fn put_attribute(
 
 // ---- batches
 
-fn write_length(n: usize) {
-    let bytes = [
-        (n / 16777216 % 256) as u8,
-        (n / 65536 % 256) as u8,
-        (n / 256 % 256) as u8,
-        (n % 256) as u8,
-    ];
-    io::write_all(STDOUT_FILENO, &bytes);
-}
-
-// The first n bytes as a part of the batch.
-pub fn write_part(out: &[u8], n: usize)
-    requires { ⌜ n ≤ length (now out) ⌝ }
-{
-    write_length(n);
-    io::write_all(STDOUT_FILENO, &out[..n]);
+// What became of a script of the batch: it was read, and is this long; there is none; or why a program stops.
+pub enum Turn {
+    Script(usize),
+    Ended,
+    Unread,
+    Cut,
+    Unwritten,
+    Enough,
 }
 
 fn byte(b: u8) -> usize
@@ -121,26 +115,96 @@ fn byte(b: u8) -> usize
     b as usize
 }
 
-// The next length of the batch; 65,536 where there is none or it is larger.
-pub fn read_length() -> usize {
-    let mut head = [0u8; 4];
-    let n = io::read_full(STDIN_FILENO, &mut head);
-    if n < 4 {
-        return 65536;
-    }
-    if 0 < head[0] {
-        return 65536;
-    }
-    if 0 < head[1] {
-        return 65536;
-    }
-    byte(head[2]) * 256 + byte(head[3])
+// The length in a part's first four bytes.
+fn length_in(head: &[u8; 4]) -> usize {
+    ((byte(head[0]) * 256 + byte(head[1])) * 256 + byte(head[2])) * 256 + byte(head[3])
 }
 
-// n bytes into a script's memory; how many there were.
-pub fn read_script(script: &mut [u8], n: usize) -> usize
-    requires { ⌜ n ≤ length (now script) ⌝ }
-    ensures { λ r. ⌜ n ≤ length (now (script .exit)) ⌝ }
+// n bytes into a script's memory.
+fn read_bytes(script: &mut [u8], n: usize) -> Turn
+    ensures { λ r. ⌜ Within (now (script .exit)) r ⌝ }
 {
-    io::read_full(STDIN_FILENO, &mut script[..n])
+    if script.len() < n {
+        return Turn::Cut;
+    }
+    match streams::read(&mut script[..n]) {
+        Input::Read(k) => {
+            if k < n {
+                return Turn::Cut;
+            }
+            Turn::Script(n)
+        }
+        Input::Failed => Turn::Unread,
+    }
+}
+
+// The next script of the batch.
+pub fn read_script(script: &mut [u8]) -> Turn
+    ensures { λ r. ⌜ Within (now (script .exit)) r ⌝ }
+{
+    let mut head = [0u8; 4];
+    match streams::read(&mut head) {
+        Input::Read(k) => {
+            if k == 0 {
+                return Turn::Ended;
+            }
+            if k < 4 {
+                return Turn::Cut;
+            }
+            read_bytes(script, length_in(&head))
+        }
+        Input::Failed => Turn::Unread,
+    }
+}
+
+// The first n bytes; whether all were written.
+fn write_front(fd: i32, out: &[u8], n: usize) -> bool
+    requires { ⌜ n ≤ length (now out) ⌝ }
+{
+    streams::write(fd, &out[..n]) == n
+}
+
+fn write_length(n: usize) -> bool {
+    let bytes = [
+        (n / 16777216 % 256) as u8,
+        (n / 65536 % 256) as u8,
+        (n / 256 % 256) as u8,
+        (n % 256) as u8,
+    ];
+    write_front(STDOUT_FILENO, &bytes, 4)
+}
+
+// The first n bytes as a part of the batch; whether all was written.
+pub fn write_part(out: &[u8], n: usize) -> bool
+    requires { ⌜ n ≤ length (now out) ⌝ }
+{
+    if !write_length(n) {
+        return false;
+    }
+    write_front(STDOUT_FILENO, out, n)
+}
+
+fn put_reason(out: &mut [u8], at: usize, t: Turn) -> usize
+    requires { ⌜ at ≤ length (now out) ⌝ }
+    ensures { λ r. ⌜ r ≤ length (now (out .entry)) ⌝ }
+{
+    match t {
+        Turn::Script(_) => at,
+        Turn::Ended => at,
+        Turn::Unread => put_bytes(out, at, b": standard input can't be read\n"),
+        Turn::Cut => put_bytes(out, at, b": no batch: a script is cut or too long\n"),
+        Turn::Unwritten => put_bytes(out, at, b": standard output can't be written\n"),
+        Turn::Enough => put_bytes(out, at, b": no more scripts are read\n"),
+    }
+}
+
+// Says on standard error why a program stops, if the batch isn't at its end.
+pub fn tell(program: &[u8], t: Turn) {
+    if let Turn::Ended = t {
+        return;
+    }
+    let mut line = [0u8; 128];
+    let named = put_bytes(&mut line, 0, program);
+    let n = put_reason(&mut line, named, t);
+    write_front(STDERR_FILENO, &line, n);
 }

@@ -8,6 +8,7 @@ ghost use Rattle.parser.specs.Cursor as Cursor;
 ghost use Rattle.index.specs.Chains as Chains;
 ghost use Rattle.constructors.specs.Walks.{Inside};
 ghost use Rattle.firsts.specs.Firsts.{Entries};
+use batches::Turn;
 use program::Counts;
 use reader::Outcome;
 use sets::ClassId;
@@ -231,26 +232,9 @@ fn put_outcome(
     }
 }
 
+// Whether all was written.
 fn write_outcome(
     s: &[u8],
-    out: &mut [u8],
-    m: &mut [usize],
-    x: &mut [usize],
-    w: &mut [usize],
-    u: &mut [usize],
-)
-    requires { ⌜ size ≤ length (now m) ⌝ }
-    requires { ⌜ Chains.size ≤ length (now x) ⌝ }
-    requires { ⌜ Cursor.size ≤ length (now w) ⌝ }
-    requires { ⌜ 14337 ≤ length (now u) ⌝ }
-{
-    let n = put_outcome(out, s, m, x, w, u);
-    batches::write_part(out, n);
-}
-
-// One script of the batch, and whether there was one.
-fn one(
-    script: &mut [u8],
     out: &mut [u8],
     m: &mut [usize],
     x: &mut [usize],
@@ -262,15 +246,32 @@ fn one(
     requires { ⌜ Cursor.size ≤ length (now w) ⌝ }
     requires { ⌜ 14337 ≤ length (now u) ⌝ }
 {
-    let n = batches::read_length();
-    if script.len() < n {
-        return false;
+    let n = put_outcome(out, s, m, x, w, u);
+    batches::write_part(out, n)
+}
+
+// One script of the batch.
+fn one(
+    script: &mut [u8],
+    out: &mut [u8],
+    m: &mut [usize],
+    x: &mut [usize],
+    w: &mut [usize],
+    u: &mut [usize],
+) -> Turn
+    requires { ⌜ size ≤ length (now m) ⌝ }
+    requires { ⌜ Chains.size ≤ length (now x) ⌝ }
+    requires { ⌜ Cursor.size ≤ length (now w) ⌝ }
+    requires { ⌜ 14337 ≤ length (now u) ⌝ }
+{
+    let t = batches::read_script(script);
+    let Turn::Script(n) = t else {
+        return t;
+    };
+    if write_outcome(&script[..n], out, m, x, w, u) {
+        return t;
     }
-    if batches::read_script(script, n) < n {
-        return false;
-    }
-    write_outcome(&script[..n], out, m, x, w, u);
-    true
+    Turn::Unwritten
 }
 
 fn main() {
@@ -282,10 +283,12 @@ fn main() {
     let mut u = [0usize; 14337];
     let mut k = 0;
     while k < MOST_SCRIPTS {
-        if one(&mut script, &mut out, &mut m, &mut x, &mut w, &mut u) {
-            k += 1;
-        } else {
+        let t = one(&mut script, &mut out, &mut m, &mut x, &mut w, &mut u);
+        let Turn::Script(_) = t else {
+            batches::tell(b"first_main", t);
             return;
-        }
+        };
+        k += 1;
     }
+    batches::tell(b"first_main", Turn::Enough);
 }

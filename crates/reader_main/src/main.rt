@@ -5,6 +5,7 @@ ghost use lib.ListN.{length};
 ghost use Rattle.program.specs.Rows.{size};
 ghost use Rattle.program.specs.View.{Ready};
 ghost use Rattle.parser.specs.Cursor as Cursor;
+use batches::Turn;
 use kinds::Arith;
 use kinds::Kind;
 use lookups::Constructor;
@@ -577,28 +578,28 @@ fn put_outcome(out: &mut [u8], s: &[u8], m: &mut [usize], w: &mut [usize]) -> us
     }
 }
 
-fn write_outcome(s: &[u8], out: &mut [u8], m: &mut [usize], w: &mut [usize])
+// Whether all was written.
+fn write_outcome(s: &[u8], out: &mut [u8], m: &mut [usize], w: &mut [usize]) -> bool
     requires { ⌜ size ≤ length (now m) ⌝ }
     requires { ⌜ Cursor.size ≤ length (now w) ⌝ }
 {
     let n = put_outcome(out, s, m, w);
-    batches::write_part(out, n);
+    batches::write_part(out, n)
 }
 
-// One script of the batch, and whether there was one.
-fn one(script: &mut [u8], out: &mut [u8], m: &mut [usize], w: &mut [usize]) -> bool
+// One script of the batch.
+fn one(script: &mut [u8], out: &mut [u8], m: &mut [usize], w: &mut [usize]) -> Turn
     requires { ⌜ size ≤ length (now m) ⌝ }
     requires { ⌜ Cursor.size ≤ length (now w) ⌝ }
 {
-    let n = batches::read_length();
-    if script.len() < n {
-        return false;
+    let t = batches::read_script(script);
+    let Turn::Script(n) = t else {
+        return t;
+    };
+    if write_outcome(&script[..n], out, m, w) {
+        return t;
     }
-    if batches::read_script(script, n) < n {
-        return false;
-    }
-    write_outcome(&script[..n], out, m, w);
-    true
+    Turn::Unwritten
 }
 
 fn main() {
@@ -608,10 +609,12 @@ fn main() {
     let mut w = [0usize; 49152];
     let mut k = 0;
     while k < MOST_SCRIPTS {
-        if one(&mut script, &mut out, &mut m, &mut w) {
-            k += 1;
-        } else {
+        let t = one(&mut script, &mut out, &mut m, &mut w);
+        let Turn::Script(_) = t else {
+            batches::tell(b"reader_main", t);
             return;
-        }
+        };
+        k += 1;
     }
+    batches::tell(b"reader_main", Turn::Enough);
 }

@@ -1,27 +1,41 @@
 // Reads a batch of scripts from standard input, each behind its length in four bytes, and writes the frames of each, one script's behind the other's.
+use batches::Turn;
+use printing::Told;
+
 // The most scripts that a batch may have.
 const MOST_SCRIPTS: usize = 65536;
 
-fn one(script: &mut [u8]) -> bool {
-    let n = batches::read_length();
-    if script.len() < n {
-        return false;
+// Whether all was written.
+fn write_answer(s: &[u8]) -> bool {
+    match printing::write_answer(s) {
+        Told::Answered(_) => true,
+        Told::Refused(_, _) => true,
+        Told::Stopped(_) => false,
     }
-    if batches::read_script(script, n) < n {
-        return false;
+}
+
+// One script of the batch.
+fn one(script: &mut [u8]) -> Turn {
+    let t = batches::read_script(script);
+    let Turn::Script(n) = t else {
+        return t;
+    };
+    if write_answer(&script[..n]) {
+        return t;
     }
-    printing::write_answer(&script[..n]);
-    true
+    Turn::Unwritten
 }
 
 fn main() {
     let mut script = [0u8; 65535];
     let mut k = 0;
     while k < MOST_SCRIPTS {
-        if one(&mut script) {
-            k += 1;
-        } else {
+        let t = one(&mut script);
+        let Turn::Script(_) = t else {
+            batches::tell(b"replay", t);
             return;
-        }
+        };
+        k += 1;
     }
+    batches::tell(b"replay", Turn::Enough);
 }

@@ -2,6 +2,7 @@
 // one line a word, behind its length in four bytes.
 ghost use Prim.Native.Nat.{_≤_};
 ghost use lib.ListN.{length};
+use batches::Turn;
 use words::Lexed;
 use words::Word;
 
@@ -103,26 +104,25 @@ fn put_words(out: &mut [u8], s: &[u8]) -> usize
     }
 }
 
-fn write_words(s: &[u8], out: &mut [u8]) {
+// Whether all was written.
+fn write_words(s: &[u8], out: &mut [u8]) -> bool {
+    if MOST_BYTES < s.len() {
+        return batches::write_part(b"refused 1\n", 10);
+    }
     let n = put_words(out, s);
-    batches::write_part(out, n);
+    batches::write_part(out, n)
 }
 
-// One script of the batch, and whether there was one.
-fn one(script: &mut [u8], out: &mut [u8]) -> bool {
-    let n = batches::read_length();
-    if script.len() < n {
-        return false;
+// One script of the batch.
+fn one(script: &mut [u8], out: &mut [u8]) -> Turn {
+    let t = batches::read_script(script);
+    let Turn::Script(n) = t else {
+        return t;
+    };
+    if write_words(&script[..n], out) {
+        return t;
     }
-    if batches::read_script(script, n) < n {
-        return false;
-    }
-    if MOST_BYTES < n {
-        batches::write_part(b"refused 1\n", 10);
-        return true;
-    }
-    write_words(&script[..n], out);
-    true
+    Turn::Unwritten
 }
 
 fn main() {
@@ -130,10 +130,12 @@ fn main() {
     let mut out = [0u8; 524288];
     let mut k = 0;
     while k < MOST_SCRIPTS {
-        if one(&mut script, &mut out) {
-            k += 1;
-        } else {
+        let t = one(&mut script, &mut out);
+        let Turn::Script(_) = t else {
+            batches::tell(b"words_main", t);
             return;
-        }
+        };
+        k += 1;
     }
+    batches::tell(b"words_main", Turn::Enough);
 }

@@ -1,17 +1,17 @@
 -- `first_main::main` meets its contract. Assumes nothing.
-use mathlib.Core.Path.{_≡_}
-use lib.ListN.{length, length-replicate}
-use Prim.Native.Nat.{ℕ, _-_, _≤_}
 use native.Mathlib.Omega.{arith}
+use lib.ListN.{length, length-replicate}
+use mathlib.Core.Path.{_≡_}
+use Prim.Native.Nat.{ℕ, _-_, _≤_}
 use borrow.Author.Needs.{needs}
 use Rattle.first_main.proofs.main.Statement.{statement}
 use Rattle.first_main.proofs.main.Tie as tie
 
 abbrev Inv-loop : tie.InvT-loop
-Inv-loop script₀ out₀ m₀ x₀ w₀ u₀ k₀ script out m x w u k = (k ≤ 16777216) × (length script ≡ 65535) × (length out ≡ 1048576) × (length m ≡ 47872) × (length x ≡ 9216) × (length w ≡ 49152) × (length u ≡ 14337)
+Inv-loop script₀ out₀ m₀ x₀ w₀ u₀ k₀ t5 t6 script out m x w u k = (k ≤ 16777216) × (length script ≡ 65535) × (length out ≡ 1048576) × (length m ≡ 47872) × (length x ≡ 9216) × (length w ≡ 49152) × (length u ≡ 14337)
 
 abbrev μ-loop : tie.MeasureT-loop
-μ-loop script₀ out₀ m₀ x₀ w₀ u₀ k₀ script out m x w u k = 16777216 - k
+μ-loop script₀ out₀ m₀ x₀ w₀ u₀ k₀ t5 t6 script out m x w u k = 16777216 - k
 
 loop-holds : tie.Need-loop-holds Inv-loop μ-loop
 loop-holds c = (omega arith, length-replicate {A = ℕ} 65535 0, length-replicate {A = ℕ} 1048576 0, length-replicate {A = ℕ} 47872 0, length-replicate {A = ℕ} 9216 0, length-replicate {A = ℕ} 49152 0, length-replicate {A = ℕ} 14337 0)
@@ -37,6 +37,18 @@ slice-aggregate-one-6 c = search needs
 one-requires : tie.Need-one-requires Inv-loop μ-loop
 one-requires c κs = search needs
 
+enum-told : tie.Need-enum-told Inv-loop μ-loop
+enum-told c = search needs
+
+slice-aggregate-tell : tie.Need-slice-aggregate-tell Inv-loop μ-loop
+slice-aggregate-tell c = search needs
+
+tell-requires : tie.Need-tell-requires Inv-loop μ-loop
+tell-requires c κs = search needs
+
+returns : tie.Need-returns Inv-loop μ-loop
+returns c = search needs
+
 add-k : tie.Need-add-k Inv-loop μ-loop
 add-k c = search needs
 
@@ -46,8 +58,11 @@ loop-less c = search needs
 loop-again : tie.Need-loop-again Inv-loop μ-loop
 loop-again c = search needs
 
-returns : tie.Need-returns Inv-loop μ-loop
-returns c = search needs
+slice-aggregate-tell-2 : tie.Need-slice-aggregate-tell-2 Inv-loop μ-loop
+slice-aggregate-tell-2 c = search needs
+
+tell-requires-2 : tie.Need-tell-requires-2 Inv-loop μ-loop
+tell-requires-2 c κs = search needs
 
 returns-2 : tie.Need-returns-2 Inv-loop μ-loop
 returns-2 c = search needs
@@ -66,8 +81,13 @@ main-spec =
     slice-aggregate-one-5
     slice-aggregate-one-6
     one-requires
+    enum-told
+    slice-aggregate-tell
+    tell-requires
+    returns
     add-k
     loop-less
     loop-again
-    returns
+    slice-aggregate-tell-2
+    tell-requires-2
     returns-2)

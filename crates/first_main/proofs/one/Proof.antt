@@ -1,29 +1,26 @@
 -- `first_main::one` meets its contract. Assumes nothing.
-use lib.Seq.{length-take-le}
 use borrow.Author.Needs.{needs}
+use Rattle.batches.proofs.Laws.{script-most, script-count}
 use Rattle.first_main.proofs.one.Statement.{statement}
 use Rattle.first_main.proofs.one.Tie as tie
-
-read-length-requires : tie.Need-read-length-requires
-read-length-requires c κs = search needs
-
-returns : tie.Need-returns
-returns c = search needs
 
 read-script-requires : tie.Need-read-script-requires
 read-script-requires c κs = search needs
 
+enum-known-t : tie.Need-enum-known-t
+enum-known-t c = search needs
+
 same-length : tie.Need-same-length
 same-length c = search needs
 
-returns-2 : tie.Need-returns-2
-returns-2 c = search needs
+returns : tie.Need-returns
+returns c = search needs
 
 slice-reshare-prefix-write-outcome : tie.Need-slice-reshare-prefix-write-outcome
-slice-reshare-prefix-write-outcome c = search needs
+slice-reshare-prefix-write-outcome c = search (needs, script-most)
 
 slice-aggregate-write-outcome : tie.Need-slice-aggregate-write-outcome
-slice-aggregate-write-outcome c = search (needs, length-take-le)
+slice-aggregate-write-outcome c = search (needs, script-count)
 
 write-outcome-requires : tie.Need-write-outcome-requires
 write-outcome-requires c κs = search needs
@@ -46,6 +43,27 @@ same-length-6 c = search needs
 same-length-7 : tie.Need-same-length-7
 same-length-7 c = search needs
 
+returns-2 : tie.Need-returns-2
+returns-2 c = search needs
+
+same-length-8 : tie.Need-same-length-8
+same-length-8 c = search needs
+
+same-length-9 : tie.Need-same-length-9
+same-length-9 c = search needs
+
+same-length-10 : tie.Need-same-length-10
+same-length-10 c = search needs
+
+same-length-11 : tie.Need-same-length-11
+same-length-11 c = search needs
+
+same-length-12 : tie.Need-same-length-12
+same-length-12 c = search needs
+
+same-length-13 : tie.Need-same-length-13
+same-length-13 c = search needs
+
 returns-3 : tie.Need-returns-3
 returns-3 c = search needs
 
@@ -53,11 +71,10 @@ pub one-spec : {M : Type 1} → statement M
 one-spec =
     tie.close
     (tie.spec
-    read-length-requires
-    returns
     read-script-requires
+    enum-known-t
     same-length
-    returns-2
+    returns
     slice-reshare-prefix-write-outcome
     slice-aggregate-write-outcome
     write-outcome-requires
@@ -67,4 +84,11 @@ one-spec =
     same-length-5
     same-length-6
     same-length-7
+    returns-2
+    same-length-8
+    same-length-9
+    same-length-10
+    same-length-11
+    same-length-12
+    same-length-13
     returns-3)

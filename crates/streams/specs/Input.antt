@@ -3,8 +3,8 @@ use mathlib.Core.Path.{_≡_}
 use mathlib.Core.List.{List}
 use Prim.Native.Nat.{ℕ, _≤_}
 use lib.ListN.{length, take}
-use Rattle.live.specs.declared.Input.{Input}
-use Rattle.live.specs.declared.Input.the-variants.{Read, Failed}
+use Rattle.streams.specs.declared.Input.{Input}
+use Rattle.streams.specs.declared.Input.the-variants.{Read, Failed}
 
 -- as many bytes as the buffer has room for, at most
 abbrev pub Fits : List ℕ → Input → Type 0
