@@ -17,7 +17,7 @@ extern "C" {
 #define DINQOSA_SCRIPT_MOST 16384
 #define DINQOSA_ANSWER_WORDS 22788
 #define DINQOSA_PROGRAM_WORDS 57088
-#define DINQOSA_STATE_WORDS 52224
+#define DINQOSA_STATE_WORDS 54272
 
 /* Where the answer part has its tables: totals (functions, blocks, instructions, count), then by block: live;
  * by instruction: kind and payload; users of instruction i stand at users[starts[i]] to users[starts[i + 1] - 1];
