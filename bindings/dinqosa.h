@@ -17,7 +17,7 @@ extern "C" {
 #define DINQOSA_SCRIPT_MOST 16384
 #define DINQOSA_ANSWER_WORDS 22788
 #define DINQOSA_PROGRAM_WORDS 57088
-#define DINQOSA_STATE_WORDS 52224
+#define DINQOSA_STATE_WORDS 54272
 
 /* Bytes of stack to give a call. Measured, not proved: the deepest script found takes 577,920 (docs/MEMORY.md). */
 #define DINQOSA_STACK_BYTES 786432

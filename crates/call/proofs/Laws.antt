@@ -6,7 +6,7 @@ use mathlib.Core.List.{List, _++_}
 use Prim.Native.Nat.{ℕ, _+_, _≤_, _<_}
 use native.Mathlib.Omega.{arith}
 use lib.ListN.{length, getD, take, drop}
-use lib.Seq.{take-at, length-take-le}
+use lib.Seq.{take-at, take-all, length-take-le}
 use lib.Dec.{leb}
 use borrow.Author.Tests.{le-leb, lt-leb}
 use native.Mathlib.Decide.{decLt}
@@ -44,6 +44,7 @@ use Rattle.publish.specs.Final.{withState}
 use Rattle.publish.proofs.Tables.{live-length}
 use Rattle.publish.proofs.Uses.{Outside}
 use Rattle.publish.proofs.Whole.{image-written}
+use Rattle.steps.specs.Stamps.{tablesOf as wordsOf}
 use Rattle.steps.specs.Runs.{Rested}
 use Rattle.sctp.specs.Sctp.{tablesOf, Given, Analyses}
 use Rattle.reader.specs.Outcomes.{ReadsScript}
@@ -56,6 +57,17 @@ use Rattle.call.specs.Call.{programLen, stateLen, numberOf, Lent, lent, 
 use Rattle.call.specs.Parts.{frontOf, imaged, analyzed, found, Parsed, Sized, Fresh, Analyzed, keptOf, Cleared, Ran}
 
 -- ---- publish_state
+
+-- the state's tables are there
+pub words-long : {z : Sizes} (m : List ℕ) → Held z (wordsOf m) → 52224 ≤ length m
+words-long m h = go (decLt (length m) 52224)
+  where
+    go : Dec (length m < 52224) → 52224 ≤ length m
+    go (yes l) = absurd (let e = ap length (take-all 52224 m (omega arith)) in let k = h .len in omega arith)
+    go (no g) = omega arith
+
+pub words-length : {z : Sizes} (m : List ℕ) → Held z (wordsOf m) → 52224 ≡ length (take 52224 m)
+words-length m h = sym (h .len)
 
 module _ (c : Counts) (m a : List ℕ) {z : Sizes} (e : z ≡ sizesOf c) where
   pub sizes-held : Held (sizesOf c) m → Held z m

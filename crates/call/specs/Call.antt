@@ -20,7 +20,7 @@ abbrev pub programLen : ℕ
 programLen = 57088
 
 abbrev pub stateLen : ℕ
-stateLen = 52224
+stateLen = 54272
 
 -- 01's number of what the call gives; "answered" has none
 abbrev pub numberOf : Outcome → Option ℕ

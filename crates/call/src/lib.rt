@@ -10,6 +10,7 @@ ghost use Rattle.parser.specs.Cursor.{size as scratchSize};
 ghost use Rattle.state.specs.View.{Held};
 ghost use Rattle.answer.specs.Layout.{answerLen, blocksMost};
 ghost use Rattle.analysed.specs.Analysed.{sizesOf};
+ghost use Rattle.steps.specs.Stamps.{tablesOf as wordsOf};
 ghost use Rattle.publish.specs.Final.{withState};
 ghost use Rattle.reader.specs.Outcomes.{ReadsScript};
 ghost use Rattle.call.specs.Call.{numberOf, lent, left, after};
@@ -26,13 +27,16 @@ pub const ANSWER_LEN: usize = answer::ANSWER_LEN;
 
 pub const PROGRAM_LEN: usize = 57088;
 
-pub const STATE_LEN: usize = 52224;
+pub const STATE_LEN: usize = 54272;
 
 // The longest script.
 pub const SCRIPT_MOST: usize = 16384;
 
 // The program's tables; its index stands behind them.
 const TABLES: usize = 47872;
+
+// The state's tables; the stamps of the instructions stand behind them.
+const STAMPS: usize = 52224;
 
 fn read_tables(script: &[u8], program: &mut [usize], scratch: &mut [usize]) -> reader::Outcome
     requires { ⌜ tablesSize ≤ length (now program) ⌝ }
@@ -43,13 +47,13 @@ fn read_tables(script: &[u8], program: &mut [usize], scratch: &mut [usize]) -> r
 }
 
 fn publish_state(state: &[usize], c: Counts, count: u64, answer: &mut [usize])
-    requires { ⌜ Held (sizesOf c) (now state) ⌝ }
+    requires { ⌜ Held (sizesOf c) (wordsOf (now state)) ⌝ }
     requires { ⌜ length (now answer) ≡ answerLen ⌝ }
     requires { ⌜ c .blocks ≤ blocksMost ⌝ }
-    ensures { λ _. ⌜ now (answer .exit) ≡ withState (sizesOf c) (now (state .entry)) count (now (answer .entry)) ⌝ }
+    ensures { λ _. ⌜ now (answer .exit) ≡ withState (sizesOf c) (wordsOf (now (state .entry))) count (now (answer .entry)) ⌝ }
 {
     let z = analysed::sizes(c);
-    publish::write_state(state, z, count, answer);
+    publish::write_state(&state[..STAMPS], z, count, answer);
 }
 
 // The analysis of a program that was read.

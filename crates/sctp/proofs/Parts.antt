@@ -23,7 +23,7 @@ use Rattle.sctp.specs.Sctp.{tablesOf, chainsOf, Chained, Aside, StartsAs
 
 -- ---- the index: w is what was built in the first words of the state's memory
 
-module _ (m w : List ℕ) (lm : length m ≡ 52224) (lw : length w ≡ length (take 9216 m)) where
+module _ (m w : List ℕ) (lm : length m ≡ 54272) (lw : length w ≡ length (take 9216 m)) where
   built-length : length w ≡ 9216
   built-length = let l = length-take-le 9216 m (omega arith) in omega arith
 

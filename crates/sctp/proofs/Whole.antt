@@ -1,9 +1,10 @@
 -- The analysis from its parts, and demand 3 of what it answers. Assumes nothing.
 use mathlib.Core.Path.{_≡_, refl, sym, ap, ap₂, _∙_, subst}
-use mathlib.Core.List.{List}
+use mathlib.Core.List.{List, _++_}
 use Prim.Native.Nat.{ℕ, _+_, _-_, _≤_, _<_}
 use native.Mathlib.Omega.{arith}
-use lib.ListN.{length, getD}
+use lib.ListN.{length, getD, take, drop, List·getD-append}
+use lib.Seq.{getD-take, ext-getD}
 use Rattle.rules.specs.Actions.{Answer, answered, refused, ifAnswered}
 use Rattle.rules.specs.Program.{Limits}
 use Rattle.rules.specs.Bound.{bound}
@@ -26,7 +27,10 @@ use Rattle.answer.specs.Layout.{startsAt, usersAt, usesMost, callersAt, answerL
 use Rattle.analysed.specs.Analysed.{sizesOf, Sized, Users, Suited, Indexed, Analysed, Fits, Reached}
 use Rattle.analysed.proofs.Storing.{start-few}
 use Rattle.starts.specs.Starts.{Started}
+use Rattle.index.specs.Chains.{Filled}
+use Rattle.steps.specs.Stamps.{tablesOf as wordsOf, Fresh}
 use Rattle.steps.specs.Runs.{Reaching, Ran}
+use Rattle.steps.proofs.Stamps.{tables-long, back-long}
 use Rattle.sctp.specs.Sctp.{tablesOf, chainsOf, Given, Chained, Aside, Begins, Outcome, Ends, Left, Analyses}
 
 -- ---- the start, then the run
@@ -67,6 +71,27 @@ start-ended {s} {p} {c} {z} {u} {u'} {m} {b} {n} d e =
       };
       aside = d .aside;
     }
+
+-- the state's tables were lent and came back as w, and n stamps behind them were cleared
+module _ {n : ℕ} (m w m' : List ℕ) (long : length m ≡ 54272) (same : length w ≡ length (take 52224 m)) (f : Filled 52224 n 0 (w ++ drop 52224 m) m') where
+  cleared-long : length m' ≡ 54272
+  cleared-long = f .only .len-same ∙ back-long m w long same
+
+  pub cleared-same : length m' ≡ length m
+  cleared-same = cleared-long ∙ sym long
+
+  cleared-tables : w ≡ wordsOf m'
+  cleared-tables =
+      ext-getD 0 w (wordsOf m') (same ∙ tables-long m long ∙ sym (tables-long m' cleared-long))
+      (λ k h. let l = same ∙ tables-long m long in sym (getD-take 52224 m' k 0 (omega arith) ∙ f .only .others k (λ a b. omega arith) ∙ List·getD-append w (drop 52224 m) 0 k h))
+
+  pub begun-tables : {s p : List ℕ} {c : Counts} {z : Sizes} {u u' : List ℕ} {b : Went} → Begins s p c z u u' w b → Begins s p c z u u' (wordsOf m') b
+  begun-tables {s} {p} {c} {z} {u} {u'} {b} d = subst (λ (l : List ℕ). Begins s p c z u u' l b) cleared-tables d
+
+-- no instruction is stamped
+pub begun-fresh : {s p : List ℕ} {c : Counts} {z : Sizes} {u u' : List ℕ} {b : Went} {q : Regs} (m w m' : List ℕ) → length m ≡ 54272 → length w ≡ length (take 52224 m) → Filled 52224 (z .insns) 0 (w ++ drop 52224 m) m'
+    → Begins s p c z u u' w b → b ≡ On q → Fresh z m' q
+begun-fresh m w m' long same f d e = record { long = cleared-long m w m' long same f; ready = begun-ready (begun-tables m w m' long same f d) e; none = λ i h. f .here i h }
 
 -- ---- the users
 

@@ -35,7 +35,7 @@ pub record Given (s p : List ℕ) (c : Counts) (u m : List ℕ) : Type 0 where
   pub ready : P.Ready (tablesOf p) c
   pub program : length p ≡ 57088
   pub answer : length u ≡ answerLen
-  pub state : length m ≡ 52224
+  pub state : length m ≡ 54272
 
 -- the chains stand behind the tables
 pub record Chained (c : Counts) (p p' : List ℕ) : Type 0 where

@@ -6,9 +6,10 @@ use state::Went;
 ghost use mathlib.Core.Path.{_≡_};
 ghost use lib.ListN.{length};
 ghost use Rattle.program.specs.View.{Ready};
-ghost use Rattle.state.specs.View.{Held, Ready as StateReady, Cleared};
+ghost use Rattle.state.specs.View.{Held, Cleared};
 ghost use Rattle.answer.specs.Layout.{answerLen};
 ghost use Rattle.analysed.specs.Analysed.{Indexed, Analysed};
+ghost use Rattle.steps.specs.Stamps.{tablesOf as wordsOf, Fresh};
 ghost use Rattle.steps.specs.Runs.{Reaching, Ran};
 ghost use Rattle.sctp.specs.Sctp.{tablesOf, chainsOf, Given, Chained, Aside, StartsAside, Begins, Ends, Analyses};
 
@@ -17,11 +18,14 @@ const TABLES: usize = 47872;
 
 const CHAINS: usize = 9216;
 
+// The words of the state's tables; behind them stands a stamp for each instruction.
+const STAMPS: usize = 52224;
+
 // The chains of the index are made in the state's memory, and what is in use of them goes behind the program's tables.
 fn lay_index(p: &mut [usize], c: Counts, m: &mut [usize])
     requires { ⌜ Ready (tablesOf (now p)) c ⌝ }
     requires { ⌜ length (now p) ≡ 57088 ⌝ }
-    requires { ⌜ length (now m) ≡ 52224 ⌝ }
+    requires { ⌜ length (now m) ≡ 54272 ⌝ }
     ensures { λ _. ⌜ Chained c (now (p .entry)) (now (p .exit)) ⌝ }
 {
     index::build_index(&p[..TABLES], c, &mut m[..CHAINS]);
@@ -96,15 +100,15 @@ fn run_lent(
     z: Sizes,
     q: Regs,
 ) -> Went
-    requires { ⌜ Analysed (now s) (now p) c (now x) (now u) z × StateReady z (now m) q × Reaching (now s) (now p) c z (now m) q ⌝ }
-    ensures { λ r. ⌜ Ran (now (s .entry)) (now (p .entry)) c z (now (m .exit)) r ⌝ }
+    requires { ⌜ Analysed (now s) (now p) c (now x) (now u) z × Fresh z (now m) q × Reaching (now s) (now p) c z (wordsOf (now m)) q ⌝ }
+    ensures { λ r. ⌜ Ran (now (s .entry)) (now (p .entry)) c z (wordsOf (now (m .exit))) r ⌝ }
 {
     let mut t = records::empty();
     records::commit(&mut t, p, c);
     steps::run(&t, s, p, c, x, u, m, z, q)
 }
 
-// The start, then the run.
+// The start, then the run, with no stamps behind the state's tables.
 fn analyse(
     s: &[u8],
     p: &[usize],
@@ -116,10 +120,11 @@ fn analyse(
 ) -> Went
     requires { ⌜ Analysed (now s) (now p) c (now x) (now u) z ⌝ }
     requires { ⌜ length (now u) ≡ answerLen ⌝ }
-    requires { ⌜ length (now m) ≡ 52224 ⌝ }
-    ensures { λ r. ⌜ Ends (now (s .entry)) (now (p .entry)) c z (now (u .entry)) (now (u .exit)) (now (m .exit)) r ⌝ }
+    requires { ⌜ length (now m) ≡ 54272 ⌝ }
+    ensures { λ r. ⌜ Ends (now (s .entry)) (now (p .entry)) c z (now (u .entry)) (now (u .exit)) (wordsOf (now (m .exit))) r ⌝ }
 {
-    let b = begin(s, p, c, x, u, m, z);
+    let b = begin(s, p, c, x, u, &mut m[..STAMPS], z);
+    index::fill(m, STAMPS, z.insns, 0);
     match b {
         Went::On(q) => run_lent(s, p, c, x, u, m, z, q),
         Went::No(n) => Went::No(n),
@@ -138,8 +143,8 @@ fn analyse_parts(
     requires { ⌜ Analysed (now s) (tablesOf (now p)) c (chainsOf (now p)) (now u) z ⌝ }
     requires { ⌜ length (now p) ≡ 57088 ⌝ }
     requires { ⌜ length (now u) ≡ answerLen ⌝ }
-    requires { ⌜ length (now m) ≡ 52224 ⌝ }
-    ensures { λ r. ⌜ Ends (now (s .entry)) (tablesOf (now (p .entry))) c z (now (u .entry)) (now (u .exit)) (now (m .exit)) r ⌝ }
+    requires { ⌜ length (now m) ≡ 54272 ⌝ }
+    ensures { λ r. ⌜ Ends (now (s .entry)) (tablesOf (now (p .entry))) c z (now (u .entry)) (now (u .exit)) (wordsOf (now (m .exit))) r ⌝ }
 {
     analyse(s, &p[..TABLES], c, &p[TABLES..], u, m, z)
 }
@@ -147,7 +152,7 @@ fn analyse_parts(
 // The analysis of the program that the tables in front of p stand for; the state may hold anything.
 pub fn sctp(s: &[u8], p: &mut [usize], c: Counts, u: &mut [usize], m: &mut [usize]) -> Went
     requires { ⌜ Given (now s) (now p) c (now u) (now m) ⌝ }
-    ensures { λ r. ⌜ Analyses (now (s .entry)) (tablesOf (now (p .entry))) c (now (u .entry)) (now (u .exit)) (now (m .exit)) r ⌝ }
+    ensures { λ r. ⌜ Analyses (now (s .entry)) (tablesOf (now (p .entry))) c (now (u .entry)) (now (u .exit)) (wordsOf (now (m .exit))) r ⌝ }
 {
     let z = analysed::sizes(c);
     lay_index(p, c, m);

@@ -30,6 +30,8 @@ use Rattle.analysed.specs.Analysed.{Suited, Analysed, Fits, Reached, Steady}
 use Rattle.analysed.proofs.States.{attrs, attrs-fit, at-of, steady-at, bound-fits}
 use Rattle.steps.specs.Runs.{blockNext, RecordOf, Front, Reaching, Ran, Ahead, Going, Outcome, Under, left, Turned}
 use Rattle.steps.specs.declared.Turn.{Turn}
+use Rattle.steps.specs.declared.Timed.{Timed}
+use Rattle.steps.specs.Stamps.{tablesOf, Stamped, StampedIf, Timely}
 use Rattle.steps.proofs.Stepping.{positive}
 
 same : {x y : State} → answered x ≡ answered y → x ≡ y
@@ -117,17 +119,20 @@ flip false e = ap not e
 never : {A : Type 0} → false ≡ true → A
 never e = absurd (let z : _≡_ {A = ℕ} 0 1 = cc in omega arith)
 
-waits : {z : Sizes} {m : List ℕ} {q : Regs} {a : Turn} → Ahead z m q a → Waits q (not (a .going))
-waits {z} {m} {q} h y v w = flip (atRest (view y v w q)) (h .goes y v w)
+waits : {z : Sizes} {m : List ℕ} {q : Regs} {e : ℕ} {a : Turn} → Ahead z m q e a → Waits q (not (a .going))
+waits {z} {m} {q} {e} h y v w = flip (atRest (view y v w q)) (h .goes y v w)
 
-pub ahead-at : {z : Sizes} {m : List ℕ} {q : Regs} {i : ℕ} {t : 𝔹} → Front z m q i → Waits q t → Ahead z m q (record { going = not t; insn = i; went = On q })
-ahead-at f w = record { went = refl; goes = λ y v n. ap not (w y v n); front = f }
+pub ahead-at : {z : Sizes} {m : List ℕ} {q : Regs} {i e : ℕ} {t : 𝔹} → Front z m q i → Waits q t → Ahead z m q e (record { going = not t; insn = i; went = On q; epoch = e })
+ahead-at f w = record { went = refl; epoch = refl; goes = λ y v n. ap not (w y v n); front = f }
 
-pub under-at : {s p : List ℕ} {c : Counts} {z : Sizes} {m : List ℕ} {q : Regs} {a : Turn} → Going s p c z m q → Ahead z m q a → Under s p c z m a
-under-at {s} {p} {c} {z} {m} {q} {a} g h = record { below = h .front .below; outcome = subst (Outcome s p c z m a) (sym (h .went)) (g, h) }
+pub under-at : {s p : List ℕ} {c : Counts} {z : Sizes} {m : List ℕ} {q : Regs} {e : ℕ} {a : Turn} → Going s p c z (tablesOf m) q → Ahead z (tablesOf m) q e a → Stamped s p c z m q e → Under s p c z m a
+under-at {s} {p} {c} {z} {m} {q} {e} {a} g h k = record {
+  below = h .front .below;
+  outcome = subst (Outcome s p c z m a) (sym (h .went)) (g, subst (λ (n : ℕ). Ahead z (tablesOf m) q n a) (sym (h .epoch)) h, subst (Stamped s p c z m q) (sym (h .epoch)) k);
+}
 
 module _ {s p : List ℕ} {c : Counts} {z : Sizes} {m : List ℕ} {a : Turn} where
-  pub under-on : {q : Regs} → Under s p c z m a → a .went ≡ On q → Going s p c z m q × Ahead z m q a
+  pub under-on : {q : Regs} → Under s p c z m a → a .went ≡ On q → Going s p c z (tablesOf m) q × Ahead z (tablesOf m) q (a .epoch) a × Stamped s p c z m q (a .epoch)
   under-on U e = subst (Outcome s p c z m a) e (U .outcome)
 
   -- a run that goes on was not refused
@@ -135,10 +140,10 @@ module _ {s p : List ℕ} {c : Counts} {z : Sizes} {m : List ℕ} {a : Turn} whe
   under-no U g e = never (sym (subst (Outcome s p c z m a) e (U .outcome) .0) ∙ g)
 
   -- one that does not go on has its outcome
-  pub under-over : {x u : List ℕ} → Analysed s p c x u z → Under s p c z m a → a .going ≡ false → Ran s p c z m (a .went)
+  pub under-over : {x u : List ℕ} → Analysed s p c x u z → Under s p c z m a → a .going ≡ false → Ran s p c z (tablesOf m) (a .went)
   under-over A U f = go (a .went) (U .outcome)
     where
-      go : (w : Went) → Outcome s p c z m a w → Ran s p c z m w
+      go : (w : Went) → Outcome s p c z m a w → Ran s p c z (tablesOf m) w
       go (On q) o = going-done (o .0) A (waits (o .1)) (ap not f)
       go (No n) o = o .1
 
@@ -148,32 +153,38 @@ module _ {s p : List ℕ} {c : Counts} {z : Sizes} {m : List ℕ} {a : Turn} whe
     waiting : Waits q false
     waiting = subst (Waits q) (ap not g) (waits (under-on U e .1))
 
-    pub turn-ready : Ready z m q
+    pub turn-ready : Ready z (tablesOf m) q
     turn-ready = let G = under-on U e .0 in G .ready
 
-    pub turn-steady : Steady s p c z m
+    pub turn-steady : Steady s p c z (tablesOf m)
     turn-steady = going-steady (under-on U e .0) A
 
     pub turn-small : (0 < q .insns .len + q .blocks .len) × (q .count < 2 ^ 63)
     turn-small = going-small (under-on U e .0) A waiting refl
 
-    pub turn-record : {r : Insn} → (a .insn < c .insns → r ≡ recordAt p (a .insn)) → blockNext q ≡ false → RecordOf p m q r
+    pub turn-record : {r : Insn} → (a .insn < c .insns → r ≡ recordAt p (a .insn)) → blockNext q ≡ false → RecordOf p (tablesOf m) q r
     turn-record h b i l k = let F = under-on U e .1 .front in h (omega (arith, F .inside b, A .indexed .sized .insns)) ∙ ap (recordAt p) (sym (F .is b i l k))
 
-    module _ {w : List ℕ} {r : Went} (d : Stepped z (Fits s p c) step m q w r) where
-      pub turn-on : {n : Regs} → r ≡ On n → Going s p c z w n
-      turn-on f = going-on (under-on U e .0) waiting refl d f
+    pub turn-front : Front z (tablesOf m) q (a .insn)
+    turn-front = under-on U e .1 .front
 
-      pub turned-on : {n : Regs} {b : Turn} → r ≡ On n → Ahead z w n b → Turned s p c z a w b
+    pub turn-stamped : Stamped s p c z m q (a .epoch)
+    turn-stamped = under-on U e .2
+
+    module _ {w : List ℕ} {r : Timed} (d : Timely s p c z step m q w r) where
+      pub turn-on : {n : Regs} → r .went ≡ On n → Going s p c z (tablesOf w) n
+      turn-on f = going-on (under-on U e .0) waiting refl (d .step) f
+
+      pub turned-on : {n : Regs} {b : Turn} → r .went ≡ On n → Ahead z (tablesOf w) n (r .epoch) b → Turned s p c z a w b
       turned-on {n} {b} f h = record {
-        under = under-at (turn-on f) h;
+        under = under-at (turn-on f) h (subst (StampedIf s p c z w (r .epoch)) f (d .stamps));
         less = subst (λ (y : Went). left (bound (P.view s p c)) (b .went) < left (bound (P.view s p c)) y) (sym e)
-            (subst (λ (y : Went). left (bound (P.view s p c)) y < bound (P.view s p c) - q .count) (sym (h .went)) (going-falls (under-on U e .0) waiting refl d A f));
+            (subst (λ (y : Went). left (bound (P.view s p c)) y < bound (P.view s p c) - q .count) (sym (h .went)) (going-falls (under-on U e .0) waiting refl (d .step) A f));
       }
 
-      pub turned-no : {n : ℕ} → r ≡ No n → Turned s p c z a w (record { going = false; insn = 0; went = No n })
+      pub turned-no : {n : ℕ} → r .went ≡ No n → Turned s p c z a w (record { going = false; insn = 0; went = No n; epoch = 0 })
       turned-no {n} f = record {
-        under = record { below = omega arith; outcome = (refl, going-refused (under-on U e .0) waiting refl d f) };
+        under = record { below = omega arith; outcome = (refl, going-refused (under-on U e .0) waiting refl (d .step) f) };
         less = subst (λ (y : Went). 0 < left (bound (P.view s p c)) y) (sym e) (let l = going-below (under-on U e .0) A waiting refl in omega (arith, l));
       }
 

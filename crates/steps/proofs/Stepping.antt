@@ -59,7 +59,7 @@ next-ready : (z : Sizes) (q a : Regs) (w : List ℕ) (r : Went) → a .count ≡
 next-ready z q a w (On b) e h = record { ready = h .ready; count = h .count ∙ e }
 next-ready z q a w (No n) e h = tt
 
-take-front : (L : Limits) (p : Program) (i : ℕ) (l q : List ℕ) (s : State) → l ≡ i ∷ q → stateOf L p (visit L p i (taken false q (s .blockWorklist) s)) ≡ takeInsn L p l s
+pub take-front : (L : Limits) (p : Program) (i : ℕ) (l q : List ℕ) (s : State) → l ≡ i ∷ q → stateOf L p (visit L p i (taken false q (s .blockWorklist) s)) ≡ takeInsn L p l s
 take-front L p i l q s e = rw e
 
 pub insn-stepped : (z : Sizes) (m : List ℕ) (q : Regs) {fits : Program → Attrs → Type 0} {i : ℕ} {a : Regs} {w : List ℕ} {r : Went} → TookInsn z m q i a
@@ -128,11 +128,11 @@ insn-by true false i h = (cc, λ e. cc)
 insn-by false b i h = (h, λ e. cc)
 
 module _ (z : Sizes) (m : List ℕ) (q : Regs) where
-  insns-length : length (insnsOf m q) ≡ q .insns .len
+  pub insns-length : length (insnsOf m q) ≡ q .insns .len
   unfolding insnsOf
   insns-length = waiting-length m 19456 (q .insns .head) (q .insns .len)
 
-  blocks-length : length (blocksOf m q) ≡ q .blocks .len
+  pub blocks-length : length (blocksOf m q) ≡ q .blocks .len
   unfolding blocksOf
   blocks-length = waiting-length m 35840 (q .blocks .head) (q .blocks .len)
 

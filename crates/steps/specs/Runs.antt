@@ -19,6 +19,7 @@ use Rattle.state.specs.declared.Went.the-variants.{On, No}
 use Rattle.state.specs.View.{Attrs, insnsOf, view, Ready}
 use Rattle.state.specs.Changes.{went}
 use Rattle.analysed.specs.Analysed.{Suited, Fits, Reached}
+use Rattle.steps.specs.Stamps.{tablesOf, Stamped}
 use Rattle.steps.specs.declared.Turn.{Turn}
 
 abbrev pub insnsIn : State → List ℕ
@@ -60,9 +61,10 @@ pub record Ran (s p : List ℕ) (c : Counts) (z : Sizes) (w : List ℕ) (r : Wen
 
 -- ---- where a run stands
 
--- with the registers q: it goes on while anything waits
-pub record Ahead (z : Sizes) (m : List ℕ) (q : Regs) (a : Turn) : Type 0 where
+-- with the registers q, in an epoch: it goes on while anything waits
+pub record Ahead (z : Sizes) (m : List ℕ) (q : Regs) (at : ℕ) (a : Turn) : Type 0 where
   pub went : a .went ≡ On q
+  pub epoch : a .epoch ≡ at
   pub goes : (y : Sizes) (v : Attrs) (w : List ℕ) → a .going ≡ not (atRest (view y v w q))
   pub front : Front z m q (a .insn)
 
@@ -73,8 +75,8 @@ pub record Going (s p : List ℕ) (c : Counts) (z : Sizes) (m : List ℕ) (q : R
 
 -- it has come to registers, or was refused as the run is
 abbrev pub Outcome : List ℕ → List ℕ → Counts → Sizes → List ℕ → Turn → Went → Type 0
-Outcome s p c z m a (On q) = Going s p c z m q × Ahead z m q a
-Outcome s p c z m a (No n) = (a .going ≡ false) × Ran s p c z m (No n)
+Outcome s p c z m a (On q) = Going s p c z (tablesOf m) q × Ahead z (tablesOf m) q (a .epoch) a × Stamped s p c z m q (a .epoch)
+Outcome s p c z m a (No n) = (a .going ≡ false) × Ran s p c z (tablesOf m) (No n)
 
 -- before and after each turn
 pub record Under (s p : List ℕ) (c : Counts) (z : Sizes) (m : List ℕ) (a : Turn) : Type 0 where

@@ -6,19 +6,30 @@ use state::Sizes;
 use state::Went;
 ghost use mathlib.Core.Bool.{true, false};
 ghost use mathlib.Core.Path.{_≡_};
-ghost use Prim.Native.Nat.{_+_, _<_, _^_};
+ghost use Prim.Native.Nat.{_+_, _≤_, _<_, _^_};
 ghost use Rattle.rules.specs.Machine.{takeInsn, step as stepped};
 ghost use Rattle.records.specs.Records.{recordAt, Holds};
 ghost use Rattle.state.specs.View.{Ready};
 ghost use Rattle.blocks.specs.Blocks.{Stepped};
 ghost use Rattle.analysed.specs.Analysed.{Analysed, Fits, Steady};
+ghost use Rattle.steps.specs.Stamps.{tablesOf, Fresh, Fronts, Stamped, Timely};
 ghost use Rattle.steps.specs.Runs.{insnsIn, blockNext, RecordOf, Front, Reaching, Ahead, Ran, Under, Turned};
 
-// Where a run stands: it goes on, and insn is the instruction of its next step, 0 where that takes a block; or it has ended.
+// The words of the state's tables; behind them stands a stamp for each instruction.
+const STAMPS: usize = 52224;
+
+// Where a run stands: it goes on, and insn is the instruction of its next step, 0 where that takes a block; or it has ended. The epoch rises whenever kinds, live blocks or callers may have changed.
 pub struct Turn {
     pub going: bool,
     pub insn: usize,
     pub went: Went,
+    pub epoch: usize,
+}
+
+// What a step came to, and the epoch after it.
+pub struct Timed {
+    pub went: Went,
+    pub epoch: usize,
 }
 
 // The instruction in front is taken off, and visited; insn is its record.
@@ -54,8 +65,8 @@ fn block_next(q: Regs) -> bool
     (q.draining & (q.blocks.len != 0)) | (q.insns.len == 0)
 }
 
-// One entry is taken off a worklist; where it is an instruction, insn is its record.
-pub fn step(
+// The instruction i in front is taken off and visited; insn is its record. Where the visit left kinds, live blocks and callers, and put nothing in, i is stamped with the epoch.
+fn visit_timed(
     s: &[u8],
     p: &[usize],
     c: Counts,
@@ -64,19 +75,77 @@ pub fn step(
     m: &mut [usize],
     z: Sizes,
     q: Regs,
+    i: usize,
     insn: Insn,
-) -> Went
+    epoch: usize,
+) -> Timed
     requires { ⌜ Analysed (now s) (now p) c (now x) (now u) z ⌝ }
-    requires { ⌜ Steady (now s) (now p) c z (now m) ⌝ }
-    requires { ⌜ Ready z (now m) q ⌝ }
+    requires { ⌜ Steady (now s) (now p) c z (tablesOf (now m)) ⌝ }
+    requires { ⌜ Ready z (tablesOf (now m)) q ⌝ }
+    requires { ⌜ (0 < q .insns .len) × (q .count < 2 ^ 63) ⌝ }
+    requires { ⌜ RecordOf (now p) (tablesOf (now m)) q insn ⌝ }
+    requires { ⌜ Fronts z (tablesOf (now m)) q i ⌝ }
+    requires { ⌜ Stamped (now s) (now p) c z (now m) q epoch ⌝ }
+    ensures { λ r. ⌜ Timely (now (s .entry)) (now (p .entry)) c z (λ L P t. takeInsn L P (insnsIn t) t) (now (m .entry)) q (now (m .exit)) r ⌝ }
+{
+    let tag = m[i];
+    let bits = m[state::BITS + i];
+    let w = step_insn(s, p, c, x, u, &mut m[..STAMPS], z, q, insn);
+    match w {
+        Went::On(r) => {
+            if (m[i] != tag) | (m[state::BITS + i] != bits) | (r.blocks.len != q.blocks.len) {
+                return Timed {
+                    went: w,
+                    epoch: epoch + 1,
+                };
+            }
+            if (insn.tag < 13) & (r.insns.len + 1 == q.insns.len) {
+                m[STAMPS + i] = epoch;
+                return Timed { went: w, epoch };
+            }
+            Timed { went: w, epoch }
+        }
+        Went::No(n) => Timed { went: w, epoch },
+    }
+}
+
+// One entry is taken off a worklist; where it is an instruction, that is i, and insn its record. A visit of an instruction with this epoch's stamp does nothing and is left out.
+fn step(
+    s: &[u8],
+    p: &[usize],
+    c: Counts,
+    x: &[usize],
+    u: &[usize],
+    m: &mut [usize],
+    z: Sizes,
+    q: Regs,
+    i: usize,
+    insn: Insn,
+    epoch: usize,
+) -> Timed
+    requires { ⌜ Analysed (now s) (now p) c (now x) (now u) z ⌝ }
+    requires { ⌜ Steady (now s) (now p) c z (tablesOf (now m)) ⌝ }
+    requires { ⌜ Ready z (tablesOf (now m)) q ⌝ }
     requires { ⌜ (0 < q .insns .len + q .blocks .len) × (q .count < 2 ^ 63) ⌝ }
-    requires { ⌜ (blockNext q ≡ false → RecordOf (now p) (now m) q insn) ⌝ }
-    ensures { λ r. ⌜ Stepped z (Fits (now (s .entry)) (now (p .entry)) c) stepped (now (m .entry)) q (now (m .exit)) r ⌝ }
+    requires { ⌜ (blockNext q ≡ false → RecordOf (now p) (tablesOf (now m)) q insn) ⌝ }
+    requires { ⌜ Front z (tablesOf (now m)) q i ⌝ }
+    requires { ⌜ Stamped (now s) (now p) c z (now m) q epoch ⌝ }
+    ensures { λ r. ⌜ Timely (now (s .entry)) (now (p .entry)) c z stepped (now (m .entry)) q (now (m .exit)) r ⌝ }
 {
     if block_next(q) {
-        return blocks::step_block(m, z, q, x);
+        let w = blocks::step_block(&mut m[..STAMPS], z, q, x);
+        return Timed {
+            went: w,
+            epoch: epoch + 1,
+        };
     }
-    step_insn(s, p, c, x, u, m, z, q, insn)
+    if m[STAMPS + i] == epoch {
+        let t = state::take_insn(&m[..STAMPS], z, q);
+        let next = t.q;
+        let went = Went::On(next);
+        return Timed { went, epoch };
+    }
+    visit_timed(s, p, c, x, u, m, z, q, i, insn, epoch)
 }
 
 // The instruction that the next step takes; 0 where it takes a block.
@@ -92,11 +161,11 @@ fn front(m: &[usize], z: Sizes, q: Regs) -> usize
     first.insn.0 as usize
 }
 
-// Where a run stands that has come to q.
-fn ahead(m: &[usize], z: Sizes, q: Regs) -> Turn
+// Where a run stands that has come to q in an epoch.
+fn ahead(m: &[usize], z: Sizes, q: Regs, epoch: usize) -> Turn
     requires { ⌜ Ready z (now m) q ⌝ }
     requires { ⌜ q .count < 2 ^ 63 ⌝ }
-    ensures { λ r. ⌜ Ahead z (now (m .entry)) q r ⌝ }
+    ensures { λ r. ⌜ Ahead z (now (m .entry)) q epoch r ⌝ }
 {
     let insn = front(m, z, q);
     let rest = state::at_rest(q);
@@ -105,7 +174,17 @@ fn ahead(m: &[usize], z: Sizes, q: Regs) -> Turn
         going: !rest,
         insn,
         went,
+        epoch,
     }
+}
+
+// Where a run begins, with no stamp that is of its epoch.
+fn enter(m: &[usize], z: Sizes, q: Regs) -> Turn
+    requires { ⌜ Fresh z (now m) q ⌝ }
+    requires { ⌜ q .count < 2 ^ 63 ⌝ }
+    ensures { λ r. ⌜ Ahead z (tablesOf (now (m .entry))) q 1 r ⌝ }
+{
+    ahead(&m[..STAMPS], z, q, 1)
 }
 
 // One step of a run that goes on; insn is the record of its instruction.
@@ -129,21 +208,23 @@ fn advance(
     let w = at.went;
     match w {
         Went::On(q) => {
-            let next = step(s, p, c, x, u, m, z, q, insn);
-            match next {
-                Went::On(r) => ahead(m, z, r),
-                Went::No(_) => Turn {
+            let next = step(s, p, c, x, u, m, z, q, at.insn, insn, at.epoch);
+            let went = next.went;
+            match went {
+                Went::On(r) => ahead(&m[..STAMPS], z, r, next.epoch),
+                Went::No(n) => Turn {
                     going: false,
                     insn: 0,
-                    went: next,
+                    went,
+                    epoch: 0,
                 },
             }
         }
-        Went::No(_) => at,
+        Went::No(n) => at,
     }
 }
 
-// Steps until nothing waits; t is the table of the program's instructions.
+// Steps until nothing waits; t is the table of the program's instructions, and behind the state's tables stand no stamps yet.
 pub fn run(
     t: &[Insn],
     s: &[u8],
@@ -157,11 +238,11 @@ pub fn run(
 ) -> Went
     requires { ⌜ Analysed (now s) (now p) c (now x) (now u) z ⌝ }
     requires { ⌜ Holds (now t) (now p) c ⌝ }
-    requires { ⌜ Ready z (now m) q ⌝ }
-    requires { ⌜ Reaching (now s) (now p) c z (now m) q ⌝ }
-    ensures { λ r. ⌜ Ran (now (s .entry)) (now (p .entry)) c z (now (m .exit)) r ⌝ }
+    requires { ⌜ Fresh z (now m) q ⌝ }
+    requires { ⌜ Reaching (now s) (now p) c z (tablesOf (now m)) q ⌝ }
+    ensures { λ r. ⌜ Ran (now (s .entry)) (now (p .entry)) c z (tablesOf (now (m .exit))) r ⌝ }
 {
-    let mut at = ahead(m, z, q);
+    let mut at = enter(m, z, q);
     while at.going {
         let insn = records::read(t, at.insn);
         at = advance(s, p, c, x, u, m, z, at, insn);

@@ -1,18 +1,30 @@
 -- `sctp::analyse` meets its contract. Assumes nothing.
-use Rattle.sctp.proofs.Whole.{started-reaching, begun-ready, run-ended, start-ended, users-kept}
+use Rattle.sctp.proofs.Whole.{started-reaching, begun-tables, begun-fresh, cleared-same, run-ended, start-ended, users-kept}
+use Rattle.steps.proofs.Stamps.{back-long}
+use lib.Seq.{length-take-le}
+use mathlib.Core.Path.{sym}
 use native.Mathlib.Omega.{arith}
 use borrow.Author.Needs.{needs}
 use Rattle.sctp.proofs.analyse.Statement.{statement}
 use Rattle.sctp.proofs.analyse.Tie as tie
 
+slice-relend-prefix-begin : tie.Need-slice-relend-prefix-begin
+slice-relend-prefix-begin c = search needs
+
+slice-aggregate-begin : tie.Need-slice-aggregate-begin
+slice-aggregate-begin c = sym (length-take-le 52224 (c .before .before .before .before .before .before .before .args .m .now) (omega (arith, c .before .before .before .before .before .before .before .pre .1 .1)))
+
 begin-requires : tie.Need-begin-requires
-begin-requires c κs = (c .before .before .before .before .before .before .before .pre .0 .indexed, (c .before .before .before .before .before .before .before .pre .1 .0, c .before .before .before .before .before .before .before .pre .1 .1))
+begin-requires c κs = (c .before .before .before .before .before .before .before .pre .0 .indexed, (c .before .before .before .before .before .before .before .pre .1 .0, length-take-le 52224 (c .before .before .before .before .before .before .before .args .m .now) (omega (arith, c .before .before .before .before .before .before .before .pre .1 .1))))
+
+fill-requires : tie.Need-fill-requires
+fill-requires c κs = omega (arith, back-long (c .before .before .before .before .before .before .before .before .before .before .before .before .before .args .m .now) (c .before .before .before .before .before .begin .last .1 .1 .1 .1 .1 .0) (c .before .before .before .before .before .before .before .before .before .before .before .before .before .pre .1 .1) (c .before .before .before .before .before .begin .kept .1 .1 .1 .1 .1 .0), c .before .before .before .before .before .before .before .before .before .before .before .before .before .pre .0 .indexed .ready .insns, c .before .before .before .before .before .before .before .before .before .before .before .before .before .pre .0 .indexed .sized .insns)
 
 enum-known-b : tie.Need-enum-known-b
 enum-known-b c = search needs
 
 run-lent-requires : tie.Need-run-lent-requires
-run-lent-requires c κs = (record { indexed = c .before .before .before .before .before .before .before .before .before .before .before .before .before .before .before .before .before .pre .0 .indexed; users = users-kept (c .before .before .before .before .before .before .before .before .before .before .before .before .before .before .before .before .before .pre .0 .indexed .ready .insns) (search needs) (c .before .before .before .before .before .before .before .before .before .begin .ensures .aside) (c .before .before .before .before .before .before .before .before .before .before .before .before .before .before .before .before .before .pre .0 .users) }, begun-ready (c .before .before .before .before .before .before .before .before .before .begin .ensures) (c .before .before .before .b .given .1), started-reaching (c .before .before .before .before .before .before .before .before .before .begin .ensures .started) (c .before .before .before .b .given .1))
+run-lent-requires c κs = (record { indexed = c .before .before .before .before .before .before .before .before .before .before .before .before .before .before .before .before .before .before .before .before .before .pre .0 .indexed; users = users-kept (c .before .before .before .before .before .before .before .before .before .before .before .before .before .before .before .before .before .before .before .before .before .pre .0 .indexed .ready .insns) (c .before .before .before .before .before .before .before .before .before .before .before .before .before .begin .kept .1 .1 .1 .1 .0) (c .before .before .before .before .before .before .before .before .before .before .before .before .before .begin .ensures .aside) (c .before .before .before .before .before .before .before .before .before .before .before .before .before .before .before .before .before .before .before .before .before .pre .0 .users) }, begun-fresh (c .before .before .before .before .before .before .before .before .before .before .before .before .before .before .before .before .before .before .before .before .before .args .m .now) (c .before .before .before .before .before .before .before .before .before .before .before .before .before .begin .last .1 .1 .1 .1 .1 .0) (c .before .before .before .before .before .before .before .fill .last .0) (c .before .before .before .before .before .before .before .before .before .before .before .before .before .before .before .before .before .before .before .before .before .pre .1 .1) (c .before .before .before .before .before .before .before .before .before .before .before .before .before .begin .kept .1 .1 .1 .1 .1 .0) (c .before .before .before .before .before .before .before .fill .ensures) (c .before .before .before .before .before .before .before .before .before .before .before .before .before .begin .ensures) (c .before .before .before .b .given .1), started-reaching (begun-tables (c .before .before .before .before .before .before .before .before .before .before .before .before .before .before .before .before .before .before .before .before .before .args .m .now) (c .before .before .before .before .before .before .before .before .before .before .before .before .before .begin .last .1 .1 .1 .1 .1 .0) (c .before .before .before .before .before .before .before .fill .last .0) (c .before .before .before .before .before .before .before .before .before .before .before .before .before .before .before .before .before .before .before .before .before .pre .1 .1) (c .before .before .before .before .before .before .before .before .before .before .before .before .before .begin .kept .1 .1 .1 .1 .1 .0) (c .before .before .before .before .before .before .before .fill .ensures) (c .before .before .before .before .before .before .before .before .before .before .before .before .before .begin .ensures) .started) (c .before .before .before .b .given .1))
 
 enum-known-b-2 : tie.Need-enum-known-b-2
 enum-known-b-2 c = search needs
@@ -24,22 +36,25 @@ same-length-2 : tie.Need-same-length-2
 same-length-2 c = search needs
 
 returns : tie.Need-returns
-returns c = run-ended (c .before .before .before .before .before .before .before .before .before .before .before .before .begin .ensures) (c .before .before .before .before .before .before .b .given .1) (c .before .before .run-lent .ensures)
+returns c = run-ended (begun-tables (c .before .before .before .before .before .before .before .before .before .before .before .before .before .before .before .before .before .before .before .before .before .before .before .before .args .m .now) (c .before .before .before .before .before .before .before .before .before .before .before .before .before .before .before .before .begin .last .1 .1 .1 .1 .1 .0) (c .before .before .before .before .before .before .before .before .before .before .fill .last .0) (c .before .before .before .before .before .before .before .before .before .before .before .before .before .before .before .before .before .before .before .before .before .before .before .before .pre .1 .1) (c .before .before .before .before .before .before .before .before .before .before .before .before .before .before .before .before .begin .kept .1 .1 .1 .1 .1 .0) (c .before .before .before .before .before .before .before .before .before .before .fill .ensures) (c .before .before .before .before .before .before .before .before .before .before .before .before .before .before .before .before .begin .ensures)) (c .before .before .before .before .before .before .b .given .1) (c .before .before .run-lent .ensures)
 
 same-length-3 : tie.Need-same-length-3
 same-length-3 c = search needs
 
 same-length-4 : tie.Need-same-length-4
-same-length-4 c = search needs
+same-length-4 c = cleared-same (c .before .before .before .before .before .before .before .before .before .before .before .before .before .before .before .before .before .before .before .args .m .now) (c .before .before .before .before .before .before .before .before .before .before .before .begin .last .1 .1 .1 .1 .1 .0) (c .before .before .before .before .before .fill .last .0) (c .before .before .before .before .before .before .before .before .before .before .before .before .before .before .before .before .before .before .before .pre .1 .1) (c .before .before .before .before .before .before .before .before .before .before .before .begin .kept .1 .1 .1 .1 .1 .0) (c .before .before .before .before .before .fill .ensures)
 
 returns-2 : tie.Need-returns-2
-returns-2 c = start-ended (c .before .before .before .before .before .before .before .begin .ensures) (c .before .b2 .given .1)
+returns-2 c = start-ended (begun-tables (c .before .before .before .before .before .before .before .before .before .before .before .before .before .before .before .before .before .before .before .args .m .now) (c .before .before .before .before .before .before .before .before .before .before .before .begin .last .1 .1 .1 .1 .1 .0) (c .before .before .before .before .before .fill .last .0) (c .before .before .before .before .before .before .before .before .before .before .before .before .before .before .before .before .before .before .before .pre .1 .1) (c .before .before .before .before .before .before .before .before .before .before .before .begin .kept .1 .1 .1 .1 .1 .0) (c .before .before .before .before .before .fill .ensures) (c .before .before .before .before .before .before .before .before .before .before .before .begin .ensures)) (c .before .b2 .given .1)
 
 pub analyse-spec : {M : Type 1} → statement M
 analyse-spec =
     tie.close
     (tie.spec
+    slice-relend-prefix-begin
+    slice-aggregate-begin
     begin-requires
+    fill-requires
     enum-known-b
     run-lent-requires
     enum-known-b-2

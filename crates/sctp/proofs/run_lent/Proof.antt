@@ -70,8 +70,8 @@ use Rattle.state.proofs.Regs as Q
 use Rattle.state.proofs.Regs.Laws as Q′
 use Rattle.state.proofs.Went as G
 use Rattle.state.proofs.Went.Laws as G′
-use Rattle.state.specs.View.{Ready}
 use Rattle.analysed.specs.Analysed.{Analysed}
+use Rattle.steps.specs.Stamps.{tablesOf as wordsOf, Fresh}
 use Rattle.steps.specs.Runs.{Reaching, Ran}
 use Rattle.records.proofs.Local.{laid, freed, big-lit}
 use Rattle.steps.proofs.Facts.{says4}
@@ -110,7 +110,7 @@ module _ {M : Type 1} (𝓤 : URA M) (H : Heap 𝓤) (A : Atoms 𝓤) (mem : Mem
   Run = tripleOf 𝓤 H A run-fn.signature (run-fn.spec 𝓤 H A mem run)
 
 module _ {M : Type 1} (𝓤 : URA M) (H : Heap 𝓤) (A : Atoms 𝓤) (W : Given 𝓤 H A) (mem : Memory → SProp 𝓤) (run : Routine → Fun 𝓤) (κs κp κx κu κm : Lft) (qs qp qx qu qm : Share) (s p : RefT (List ℕ)) (c : Counts) (x u m : RefT (List ℕ)) (z : Sizes) (q : Regs)
-    (pre : Analysed (s .now) (p .now) c (x .now) (u .now) z × Ready z (m .now) q × Reaching (s .now) (p .now) c z (m .now) q) (made : Is C.the-row c (LL.vals C.the-type C′.the-laws c)) where
+    (pre : Analysed (s .now) (p .now) c (x .now) (u .now) z × Fresh z (m .now) q × Reaching (s .now) (p .now) c z (wordsOf (m .now)) q) (made : Is C.the-row c (LL.vals C.the-type C′.the-laws c)) where
   -- the machine value of a slice
   abbrev val : RefT (List ℕ) → Val
   val r = sliceVal (r .ptr) (length (r .now))
@@ -178,7 +178,7 @@ module _ {M : Type 1} (𝓤 : URA M) (H : Heap 𝓤) (A : Atoms 𝓤) (W : Given
         → ent 𝓤 (⋆ 𝓤 H A ((‵ (flft (ν ∷ []) fullShare) ⊛ Toks) ∷ ‵ (OwnS ν γ ts 2048) ∷ ‵ Owns ∷ [])) (Run 𝓤 H A mem run .pre (to-run ν γ ts))
     goes-run ν γ ts holds = qed W ((‵ (flft (ν ∷ []) fullShare) ⊛ Toks) ∷ ‵ (OwnS ν γ ts 2048) ∷ ‵ Owns ∷ []) ∵ says4 ! (pre .0) holds (pre .1) (pre .2) $ frame ! $ fjoin ! $ done !
 
-  exits : (ms : List ℕ) (r : Went) (v : Val) → length ms ≡ length (m .now) → Ran (s .now) (p .now) c z ms r → ent 𝓤 (⋆ 𝓤 H A (Toks ∷ ‵ (finally usize (m .name) ms) ∷ ‵ (G.the-row .own r (v ∷ [])) ∷ [])) (Post v)
+  exits : (ms : List ℕ) (r : Went) (v : Val) → length ms ≡ length (m .now) → Ran (s .now) (p .now) c z (wordsOf ms) r → ent 𝓤 (⋆ 𝓤 H A (Toks ∷ ‵ (finally usize (m .name) ms) ∷ ‵ (G.the-row .own r (v ∷ [])) ∷ [])) (Post v)
   exits ms r v e ran =
       qed W (Toks ∷ ‵ (finally usize (m .name) ms) ∷ ‵ (G.the-row .own r (v ∷ [])) ∷ []) ∵
       suffices ! _ (ends-at 𝓤 H A lent.ended stayed (lent.clauses 𝓤 H A mem run) W (((κs, (κp, (κx, (κu, (κm, tt))))), (qs, (qp, (qx, (qu, (qm, tt))))), tt, a, vals), tt) v r (tt, (tt, (tt, (tt, (tt, (ms, (tt, (tt, tt)))))))) (tt, (tt, (tt, (tt, (tt, (e, (tt, (tt, tt))))))))) $ says ! ran $ frame ! $
@@ -238,8 +238,8 @@ module _ {M : Type 1} (𝓤 : URA M) (H : Heap 𝓤) (A : Atoms 𝓤) (W : Given
         (and-then ! (load ! (from ! (stop !)) (look ! 8 refl)) (and-then ! (load ! (from ! (stop !)) (look ! 35 refl)) (and-then ! (load ! (from ! (stop !)) (look ! 33 refl)) (and-then ! (load ! (from ! (stop !)) (look ! 31 refl)) (and-then ! (load ! (from ! (stop !)) (look ! 29 refl))
         (and-then ! (load ! (from ! (stop !)) (look ! 27 refl)) (and-then ! (load ! (from ! (stop !)) (look ! 4 refl)) (and-then ! (load ! (from ! (stop !)) (look ! 23 refl)) (and-then ! (load ! (from ! (stop !)) (look ! 21 refl)) (no-more !)))))))))) (λ v₂.
         use1 W (later (some (λ (r : Went). ((‵ (flft (ν′ ∷ []) fullShare) ⊛ Toks) ⊛ ‵ (G.the-row .own r (v₂ ∷ []))) ⊛ raw (ensured 𝓤 H A run-fn.ended (run-fn.clauses 𝓤 H A mem run) (to-run l₉ ν′ γ′ (ws .0) .0 .0) (tab l₉ γ′ (ws .0), a) tt r)))) (id⊢ 𝓤 _) $ await ! tt $ pick ! (λ r.
-        split ! $ move ! (1 ∷ []) $ use1 W (some (λ (ys : Unit {0} × (Unit {0} × (Unit {0} × (Unit {0} × (Unit {0} × (Unit {0} × (List ℕ × (Unit {0} × (Unit {0} × Unit {0}))))))))). ‵ (lasts run-fn.ended (to-run l₉ ν′ γ′ (ws .0) .0 .0) (tab l₉ γ′ (ws .0), a) ys) ⊛ raw (fact 𝓤 (Ran (s .now) (p .now) c z (ys .1 .1 .1 .1 .1 .1 .0) r)))) (id⊢ 𝓤 _) $ pick ! (λ ys.
-        split ! $ move ! (1 ∷ []) $ heard ! (Ran (s .now) (p .now) c z (ys .1 .1 .1 .1 .1 .1 .0) r) (λ ran. fsplit ! $ drop ! $ fsplit ! $ drop ! $ fsplit ! $ drop ! $ fsplit ! $ drop ! $ fsplit ! $ drop ! $ fsplit ! $ drop ! $ fsplit ! $ fsplit ! $ move ! (1 ∷ []) $ feqL ! (λ same.
+        split ! $ move ! (1 ∷ []) $ use1 W (some (λ (ys : Unit {0} × (Unit {0} × (Unit {0} × (Unit {0} × (Unit {0} × (Unit {0} × (List ℕ × (Unit {0} × (Unit {0} × Unit {0}))))))))). ‵ (lasts run-fn.ended (to-run l₉ ν′ γ′ (ws .0) .0 .0) (tab l₉ γ′ (ws .0), a) ys) ⊛ raw (fact 𝓤 (Ran (s .now) (p .now) c z (wordsOf (ys .1 .1 .1 .1 .1 .1 .0)) r)))) (id⊢ 𝓤 _) $ pick ! (λ ys.
+        split ! $ move ! (1 ∷ []) $ heard ! (Ran (s .now) (p .now) c z (wordsOf (ys .1 .1 .1 .1 .1 .1 .0)) r) (λ ran. fsplit ! $ drop ! $ fsplit ! $ drop ! $ fsplit ! $ drop ! $ fsplit ! $ drop ! $ fsplit ! $ drop ! $ fsplit ! $ drop ! $ fsplit ! $ fsplit ! $ move ! (1 ∷ []) $ feqL ! (λ same.
         -- [what says m's last list; true; the tokens and the result; true; what is lent; true; the locals]
         move ! (2 ∷ []) $ split ! $ split ! $ lft-end ! tt $ move ! (0 ∷ 6 ∷ []) $ lent-back ! tt $
         use1 W (‵ (froom (tyArray (lone (R.the-row .mir)) (length (ws .0))) l₉ 0)) (freed 𝓤 H A W R.the-row (length (ws .0)) (ws .0) l₉) $ rewrite ! 0 (λ (n : ℕ). ‵ (froom (tyArray (lone (R.the-row .mir)) n) l₉ 0)) (holds .len-table) refl $
@@ -256,7 +256,7 @@ module _ {M : Type 1} (𝓤 : URA M) (H : Heap 𝓤) (A : Atoms 𝓤) (W : Given
   lent-walks = walked 𝓤 H A lent.ended stayed (lent.clauses 𝓤 H A mem run) (WpFn 𝓤 H (𝓣 .C) (𝓣 .Λ) code.function)
       (λ κs. (slice-vals, (slice-vals, (LL.vals C.the-type C′.the-laws, (slice-vals, (slice-vals, (slice-vals, (LL.vals Z.the-type Z′.the-laws, (LL.vals Q.the-type Q′.the-laws, tt)))))))))
       (λ κs. (shr-slice-tells (named 0) (κs .0) u8, (shr-slice-tells (named 1) (κs .1 .0) usize, (LL.tells C.the-type C′.the-laws, (shr-slice-tells (named 2) (κs .1 .1 .0) usize, (shr-slice-tells (named 3) (κs .1 .1 .1 .0) usize, (mut-slice-tells (named 4) (κs .1 .1 .1 .1 .0) usize, (LL.tells Z.the-type Z′.the-laws, (LL.tells Q.the-type Q′.the-laws, tt)))))))))
-      (λ κs qs bounds a g are. needs 𝓤 (Analysed (a .0 .now) (a .1 .0 .now) (a .1 .1 .0) (a .1 .1 .1 .0 .now) (a .1 .1 .1 .1 .0 .now) (a .1 .1 .1 .1 .1 .1 .0) × Ready (a .1 .1 .1 .1 .1 .1 .0) (a .1 .1 .1 .1 .1 .0 .now) (a .1 .1 .1 .1 .1 .1 .1 .0) × Reaching (a .0 .now) (a .1 .0 .now) (a .1 .1 .0) (a .1 .1 .1 .1 .1 .1 .0) (a .1 .1 .1 .1 .1 .0 .now) (a .1 .1 .1 .1 .1 .1 .1 .0)) _ (λ pre.
+      (λ κs qs bounds a g are. needs 𝓤 (Analysed (a .0 .now) (a .1 .0 .now) (a .1 .1 .0) (a .1 .1 .1 .0 .now) (a .1 .1 .1 .1 .0 .now) (a .1 .1 .1 .1 .1 .1 .0) × Fresh (a .1 .1 .1 .1 .1 .1 .0) (a .1 .1 .1 .1 .1 .0 .now) (a .1 .1 .1 .1 .1 .1 .1 .0) × Reaching (a .0 .now) (a .1 .0 .now) (a .1 .1 .0) (a .1 .1 .1 .1 .1 .1 .0) (wordsOf (a .1 .1 .1 .1 .1 .0 .now)) (a .1 .1 .1 .1 .1 .1 .1 .0)) _ (λ pre.
       walk 𝓤 H A W mem run (κs .0) (κs .1 .0) (κs .1 .1 .0) (κs .1 .1 .1 .0) (κs .1 .1 .1 .1 .0) (qs .0) (qs .1 .0) (qs .1 .1 .0) (qs .1 .1 .1 .0) (qs .1 .1 .1 .1 .0)
       (a .0) (a .1 .0) (a .1 .1 .0) (a .1 .1 .1 .0) (a .1 .1 .1 .1 .0) (a .1 .1 .1 .1 .1 .0) (a .1 .1 .1 .1 .1 .1 .0) (a .1 .1 .1 .1 .1 .1 .1 .0) pre (are .1 .1 .0) 𝓣 (fmOf 𝓤 H (W .laws) 𝓣) known-empty known-commit known-run
       (are .0 .0 .1) (are .1 .0 .0 .1) (are .1 .1 .1 .0 .0 .1) (are .1 .1 .1 .1 .0 .0 .1) (are .1 .1 .1 .1 .1 .0 .0 .1) (are .1 .1 .1 .1 .1 .1 .0) (are .1 .1 .1 .1 .1 .1 .1 .0)))

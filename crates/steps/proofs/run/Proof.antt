@@ -51,13 +51,14 @@ use Rattle.program.specs.View as P
 use Rattle.program.specs.declared.Counts.{Counts}
 use Rattle.records.specs.Records.{none, recordAt, Holds}
 use Rattle.records.specs.declared.Insn.{Insn}
-use Rattle.state.specs.View.{Ready}
 use Rattle.state.specs.declared.Sizes.{Sizes}
 use Rattle.state.specs.declared.Regs.{Regs}
 use Rattle.analysed.specs.Analysed.{Analysed}
+use Rattle.steps.specs.Stamps.{tablesOf as wordsOf, Fresh}
 use Rattle.steps.specs.Runs.{Reaching, Ran, Ahead, Under, left, Turned}
 use Rattle.steps.specs.declared.Turn.{Turn}
 use Rattle.records.proofs.Again.{LentAgain, lends-again, comes-back}
+use Rattle.steps.proofs.Stamps.{fresh-stamped}
 use Rattle.steps.proofs.Running.{going-count, under-at, under-over, turn-place, turn-read}
 use Rattle.steps.proofs.Shared.{LentShared, lends-shared, comes-back as is-back}
 use Rattle.steps.proofs.Facts.{says2, says4, needs4}
@@ -77,10 +78,10 @@ use Rattle.records.proofs.read as read
 use Rattle.records.proofs.read.Symbol as read-def
 use Rattle.records.proofs.read.Symbol.{name as #records·read}
 use Rattle.records.proofs.read.Met as read-thm
-use Rattle.steps.proofs.ahead as ahead
-use Rattle.steps.proofs.ahead.Symbol as ahead-def
-use Rattle.steps.proofs.ahead.Symbol.{name as #steps·ahead}
-use Rattle.steps.proofs.ahead.Met as ahead-thm
+use Rattle.steps.proofs.enter as enters
+use Rattle.steps.proofs.enter.Symbol as enters-def
+use Rattle.steps.proofs.enter.Symbol.{name as #steps·enter}
+use Rattle.steps.proofs.enter.Met as enters-thm
 use Rattle.steps.proofs.advance as advance
 use Rattle.steps.proofs.advance.Symbol as advance-def
 use Rattle.steps.proofs.advance.Symbol.{name as #steps·advance}
@@ -141,8 +142,8 @@ module _ {M : Type 1} (𝓤 : URA M) (H : Heap 𝓤) (A : Atoms 𝓤) (mem : Mem
   abbrev Read : Contract 𝓤
   Read = tripleOf 𝓤 H A read.signature (read.spec 𝓤 H A mem run)
 
-  abbrev AheadOf : Contract 𝓤
-  AheadOf = tripleOf 𝓤 H A ahead.signature (ahead.spec 𝓤 H A mem run)
+  abbrev Enters : Contract 𝓤
+  Enters = tripleOf 𝓤 H A enters.signature (enters.spec 𝓤 H A mem run)
 
   abbrev Advance : Contract 𝓤
   Advance = tripleOf 𝓤 H A advance.signature (advance.spec 𝓤 H A mem run)
@@ -161,7 +162,7 @@ module _ {M : Type 1} (𝓤 : URA M) (H : Heap 𝓤) (A : Atoms 𝓤) (W : Given
     (t : RefT (List Insn)) (s p : RefT (List ℕ)) (c : Counts) (x u : RefT (List ℕ)) (b o : ℕ) (γ : GName) (ws : List ℕ) (z : Sizes) (q : Regs)
     (t-room : Room I.the-row (length (t .now))) (s-room : Room u8 (length (s .now))) (p-room : Room usize (length (p .now))) (x-room : Room usize (length (x .now))) (u-room : Room usize (length (u .now))) (room : Room usize (length ws))
     (c-is : Is C.the-row c (of-counts c)) (z-is : Is Z.the-row z (of-sizes z)) (q-is : Is Q.the-row q (of-regs q))
-    (analysed : Analysed (s .now) (p .now) c (x .now) (u .now) z) (holds : Holds (t .now) (p .now) c) (ready : Ready z ws q) (reaching : Reaching (s .now) (p .now) c z ws q) where
+    (analysed : Analysed (s .now) (p .now) c (x .now) (u .now) z) (holds : Holds (t .now) (p .now) c) (fresh : Fresh z ws q) (reaching : Reaching (s .now) (p .now) c z (wordsOf ws) q) where
   -- m under the name δ at the list l
   abbrev words : GName → List ℕ → RefT (List ℕ)
   words δ l = record { ptr = (b, o); name = δ; now = l }
@@ -233,21 +234,21 @@ module _ {M : Type 1} (𝓤 : URA M) (H : Heap 𝓤) (A : Atoms 𝓤) (W : Given
       move ! (2 ∷ 0 ∷ []) $ fjoin ! $ move ! (3 ∷ 0 ∷ []) $ fjoin ! $ move ! (4 ∷ 0 ∷ []) $ fjoin ! $ frame ! $
       move ! (1 ∷ 0 ∷ []) $ fjoin ! $ move ! (1 ∷ 0 ∷ []) $ fjoin ! $ move ! (1 ∷ 0 ∷ []) $ fjoin ! $ done !
 
-  -- ---- the call of `ahead`: m lent for ν under the name δ
+  -- ---- the call of `enter`: m lent for ν under the name δ
   abbrev OwnShared : ℕ → GName → Fml
   OwnShared ν δ = ShrSlice (named 0) (ν ∷ []) usize .own (words δ ws) (vm ∷ [])
 
-  abbrev to-ahead : ℕ → GName → AheadOf 𝓤 H A mem run .Ghost
-  to-ahead ν δ = (((ν ∷ [], tt), (fullShare, tt), tt, (words δ ws, (z, (q, tt))), (vm ∷ [], (of-sizes z, (of-regs q, tt)))), tt)
+  abbrev to-enter : ℕ → GName → Enters 𝓤 H A mem run .Ghost
+  to-enter ν δ = (((ν ∷ [], tt), (fullShare, tt), tt, (words δ ws, (z, (q, tt))), (vm ∷ [], (of-sizes z, (of-regs q, tt)))), tt)
 
-  goes-ahead : (ν : ℕ) (δ : GName) → ent 𝓤 (⋆ 𝓤 H A (‵ (flft (ν ∷ []) fullShare) ∷ ‵ (OwnShared ν δ) ∷ [])) (AheadOf 𝓤 H A mem run .pre (to-ahead ν δ))
-  goes-ahead ν δ =
-      qed W (‵ (flft (ν ∷ []) fullShare) ∷ ‵ (OwnShared ν δ) ∷ []) ∵ says2 ! ready (going-count (record { ready = ready; reaching = reaching }) analysed) $
+  goes-enter : (ν : ℕ) (δ : GName) → ent 𝓤 (⋆ 𝓤 H A (‵ (flft (ν ∷ []) fullShare) ∷ ‵ (OwnShared ν δ) ∷ [])) (Enters 𝓤 H A mem run .pre (to-enter ν δ))
+  goes-enter ν δ =
+      qed W (‵ (flft (ν ∷ []) fullShare) ∷ ‵ (OwnShared ν δ) ∷ []) ∵ says2 ! fresh (going-count (record { ready = fresh .ready; reaching = reaching }) analysed) $
       nothing ! $ move ! (1 ∷ 0 ∷ []) $ join ! $ frame ! $ nothing ! $
       owned ! Q.the-row (Is Q.the-row) (LL.makes Q.the-type Q′.the-plain 𝓤 H A) q _ q-is $ fjoin ! $ owned ! Z.the-row (Is Z.the-row) (LL.makes Z.the-type Z′.the-plain 𝓤 H A) z _ z-is $ fjoin ! $ move ! (1 ∷ 0 ∷ []) $ fjoin ! $ done !
 
-  ahead-said : (ν : ℕ) (δ : GName) (r : Turn) → ent 𝓤 (ensured 𝓤 H A ahead.ended (ahead.clauses 𝓤 H A mem run) (ν ∷ [], tt) (words δ ws, (z, (q, tt))) tt r) (fact 𝓤 (Ahead z ws q r))
-  ahead-said ν δ r = exE 𝓤 _ (λ l. snd∗ 𝓤 (sem 𝓤 H A (lasts ahead.ended (ν ∷ [], tt) (words δ ws, (z, (q, tt))) l)) (fact 𝓤 (Ahead z ws q r)))
+  enter-said : (ν : ℕ) (δ : GName) (r : Turn) → ent 𝓤 (ensured 𝓤 H A enters.ended (enters.clauses 𝓤 H A mem run) (ν ∷ [], tt) (words δ ws, (z, (q, tt))) tt r) (fact 𝓤 (Ahead z (wordsOf ws) q 1 r))
+  enter-said ν δ r = exE 𝓤 _ (λ l. snd∗ 𝓤 (sem 𝓤 H A (lasts enters.ended (ν ∷ [], tt) (words δ ws, (z, (q, tt))) l)) (fact 𝓤 (Ahead z (wordsOf ws) q 1 r)))
 
   -- ---- the call of `read` at i
   abbrev to-read : ℕ → Read 𝓤 H A mem run .Ghost
@@ -289,7 +290,7 @@ module _ {M : Type 1} (𝓤 : URA M) (H : Heap 𝓤) (A : Atoms 𝓤) (W : Given
       move ! (1 ∷ 4 ∷ []) $ fjoin ! $ move ! (1 ∷ 0 ∷ []) $ fjoin ! $ owned ! C.the-row (Is C.the-row) (LL.makes C.the-type C′.the-plain 𝓤 H A) c _ c-is $ fjoin ! $ move ! (1 ∷ 0 ∷ []) $ fjoin ! $ move ! (1 ∷ 0 ∷ []) $ fjoin ! $ done !
 
   -- ---- the end
-  exits : (l : List ℕ) (n : Turn) → length l ≡ length ws → Is N.the-row n (of-turn n) → Ran (s .now) (p .now) c z l (n .went)
+  exits : (l : List ℕ) (n : Turn) → length l ≡ length ws → Is N.the-row n (of-turn n) → Ran (s .now) (p .now) c z (wordsOf l) (n .went)
       → ent 𝓤 (⋆ 𝓤 H A ((‵ (flft κt qt) ⊛ ‵ ftrue) ∷ ‵ OwnT ∷ ‵ Toks ∷ ‵ Owns ∷ ‵ (flft κm qm) ∷ ‵ (OwnM l (length ws)) ∷ [])) (Post (went-val n))
   exits l n long n-is ran =
       qed W ((‵ (flft κt qt) ⊛ ‵ ftrue) ∷ ‵ OwnT ∷ ‵ Toks ∷ ‵ Owns ∷ ‵ (flft κm qm) ∷ ‵ (OwnM l (length ws)) ∷ []) ∵
@@ -410,10 +411,10 @@ module _ {M : Type 1} (𝓤 : URA M) (H : Heap 𝓤) (A : Atoms 𝓤) (W : Given
 
     -- ---- up to the loop
 
-    abbrev begin : (v : Val) (n : Turn) → Is N.the-row n (v ∷ []) → Ahead z ws q n → At-stage
-    begin v n n-is h = record { list = ws; turn = n; long = refl; is = subst (Is N.the-row n) (LL.tells N.the-type N′.the-laws n _ n-is) n-is; under = under-at (record { ready = ready; reaching = reaching }) h }
+    abbrev begin : (v : Val) (n : Turn) → Is N.the-row n (v ∷ []) → Ahead z (wordsOf ws) q 1 n → At-stage
+    begin v n n-is h = record { list = ws; turn = n; long = refl; is = subst (Is N.the-row n) (LL.tells N.the-type N′.the-laws n _ n-is) n-is; under = under-at (record { ready = fresh .ready; reaching = reaching }) h (fresh-stamped fresh) }
 
-    -- the context once m is ready to be lent to `ahead`
+    -- the context once m is ready to be lent to `enter`
     abbrev Begun : List (Item 𝓤)
     Begun = (‵ (flft κt qt) ⊛ ‵ ftrue) ∷ ‵ (flft κm qm) ∷ ‵ Toks ∷ ‵ Owns ∷ ‵ (OwnM ws (length ws)) ∷ ‵ OwnT
         ∷ ‵ (froom tyA l₁₆ 0) ∷ ‵ (fdies tyA l₁₆) ∷ ‵ (froom (tyRef erased mut word) l₁₅ 0) ∷ ‵ (fdies (tyRef erased mut word) l₁₅) ∷ ‵ (froom tyBool l₁₄ 0) ∷ ‵ (fdies tyBool l₁₄) ∷ ‵ (fat fullShare tyB l₁₃ 0 vm) ∷ ‵ (fdies tyB l₁₃)
@@ -421,16 +422,16 @@ module _ {M : Type 1} (𝓤 : URA M) (H : Heap 𝓤) (A : Atoms 𝓤) (W : Given
         ∷ ‵ (fat fullShare Z′.mir l₈ 0 (Z′.lowered z)) ∷ ‵ (fdies Z′.mir l₈) ∷ ‵ (fat fullShare tyM l₇ 0 vm) ∷ ‵ (fdies tyM l₇) ∷ ‵ (fat fullShare tyU l₆ 0 vu) ∷ ‵ (fdies tyU l₆) ∷ ‵ (fat fullShare tyX l₅ 0 vx) ∷ ‵ (fdies tyX l₅)
         ∷ ‵ (fat fullShare C′.mir l₄ 0 (C′.lowered c)) ∷ ‵ (fdies C′.mir l₄) ∷ ‵ (fat fullShare tyP l₃ 0 vp) ∷ ‵ (fdies tyP l₃) ∷ ‵ (fat fullShare tyS l₂ 0 vs) ∷ ‵ (fdies tyS l₂) ∷ ‵ (fat fullShare tyT l₁ 0 vt) ∷ ‵ (fdies tyT l₁) ∷ ‵ (froom G′.mir l₀ 0) ∷ ‵ (fdies G′.mir l₀) ∷ []
 
-    begins : Triple 𝓤 (𝓣 .C #steps·ahead) (AheadOf 𝓤 H A mem run) → Sq W Begun (runs (𝓣 .C) (𝓣 .Λ) En mir.t-3 (atRet En Post))
-    begins known-ahead =
+    begins : Triple 𝓤 (𝓣 .C #steps·enter) (Enters 𝓤 H A mem run) → Sq W Begun (runs (𝓣 .C) (𝓣 .Λ) En mir.t-3 (atRet En Post))
+    begins known-enter =
         -- m is lent for a lifetime ν of the call
         lft-new ! tt (λ ν. move ! (5 ∷ 2 ∷ []) $
         use2 W (later (some (λ (δ : GName). ‵ (OwnShared ν δ) ⊛ ‵ (LentShared usize κm (ν ∷ []) qm γ b o ws)))) (lends-shared usize κm (ν ∷ []) qm γ b o 𝓤 H A W (named 5) (named 0) ws) $ await ! tt $ pick ! (λ δ. split ! $ move ! (2 ∷ 0 ∷ []) $
-        use2 W (raw (AheadOf 𝓤 H A mem run .pre (to-ahead ν δ))) (goes-ahead ν δ) $
-        -- [what `ahead` asks; what is lent; t's token; the tokens; what s, p, x, u own; what t owns; _16; …; _0; …]
-        calls-at ! fm (AheadOf 𝓤 H A mem run) known-ahead (to-ahead ν δ) (and-then ! (load ! (from ! (stop !)) (look ! 12 refl)) (and-then ! (load ! (from ! (stop !)) (look ! 22 refl)) (and-then ! (load ! (from ! (stop !)) (look ! 20 refl)) (no-more !)))) (λ v.
-        use1 W (later (some (λ (n : Turn). ((‵ (flft (ν ∷ []) fullShare) ⊛ ‵ ftrue) ⊛ ‵ (N.the-row .own n (v ∷ []))) ⊛ raw (ensured 𝓤 H A ahead.ended (ahead.clauses 𝓤 H A mem run) (ν ∷ [], tt) (words δ ws, (z, (q, tt))) tt n)))) (id⊢ 𝓤 _) $ await ! tt $ pick ! (λ n.
-        split ! $ move ! (1 ∷ []) $ use1 W (raw (fact 𝓤 (Ahead z ws q n))) (ahead-said ν δ n) $ heard ! (Ahead z ws q n) (λ h. split ! $ move ! (1 ∷ []) $ facts ! N.the-row (Is N.the-row) (shows 𝓤 H A N.the-row) n (v ∷ []) (λ n-is.
+        use2 W (raw (Enters 𝓤 H A mem run .pre (to-enter ν δ))) (goes-enter ν δ) $
+        -- [what `enter` asks; what is lent; t's token; the tokens; what s, p, x, u own; what t owns; _16; …; _0; …]
+        calls-at ! fm (Enters 𝓤 H A mem run) known-enter (to-enter ν δ) (and-then ! (load ! (from ! (stop !)) (look ! 12 refl)) (and-then ! (load ! (from ! (stop !)) (look ! 22 refl)) (and-then ! (load ! (from ! (stop !)) (look ! 20 refl)) (no-more !)))) (λ v.
+        use1 W (later (some (λ (n : Turn). ((‵ (flft (ν ∷ []) fullShare) ⊛ ‵ ftrue) ⊛ ‵ (N.the-row .own n (v ∷ []))) ⊛ raw (ensured 𝓤 H A enters.ended (enters.clauses 𝓤 H A mem run) (ν ∷ [], tt) (words δ ws, (z, (q, tt))) tt n)))) (id⊢ 𝓤 _) $ await ! tt $ pick ! (λ n.
+        split ! $ move ! (1 ∷ []) $ use1 W (raw (fact 𝓤 (Ahead z (wordsOf ws) q 1 n))) (enter-said ν δ n) $ heard ! (Ahead z (wordsOf ws) q 1 n) (λ h. split ! $ move ! (1 ∷ []) $ facts ! N.the-row (Is N.the-row) (shows 𝓤 H A N.the-row) n (v ∷ []) (λ n-is.
         split ! $ lft-end ! tt $ move ! (0 ∷ 2 ∷ []) $ use2 W (later (‵ (OwnM ws (length ws)) ⊛ ‵ (flft κm qm))) (is-back usize κm (ν ∷ []) qm γ b o 𝓤 H A W (named 5) (named 0) ws room) $ await ! tt $ split ! $
         -- [what m owns; its token; true; t's token; the tokens; what s, p, x, u own; what t owns; _16; …; _0; …]
         land ! (from ! (stop !)) (init ! 19 refl (LL.lawful N.the-type N′.the-laws 𝓤 H A W .typed n _ n-is .0)) $
@@ -438,7 +439,7 @@ module _ {M : Type 1} (𝓤 : URA M) (H : Heap 𝓤) (A : Atoms 𝓤) (W : Given
         forget ! 13 refl $ forget ! 15 refl $ keep ! (7 ∷ 8 ∷ 9 ∷ 10 ∷ 11 ∷ 12 ∷ 13 ∷ 14 ∷ 15 ∷ 16 ∷ 17 ∷ 18 ∷ 19 ∷ 20 ∷ 21 ∷ 22 ∷ 23 ∷ 24 ∷ 25 ∷ 26 ∷ 27 ∷ 28 ∷ 29 ∷ 30 ∷ 31 ∷ 32 ∷ 33 ∷ 34 ∷ 35 ∷ 36 ∷ 37 ∷ 38 ∷ 39 ∷ 40 ∷ 3 ∷ 6 ∷ 4 ∷ 5 ∷ 1 ∷ 0 ∷ []) $ first ! $ blocks ! $
         loops ! 𝓣 Nearer Nearer-wf At turns (begin v n n-is h)))))))
 
-  module _ (𝓣 : Tables 𝓤 H) (fm : FmC 𝓤 H (W .laws) (𝓣 .C)) (known-read : Triple 𝓤 (𝓣 .C #records·read) (Read 𝓤 H A mem run)) (known-ahead : Triple 𝓤 (𝓣 .C #steps·ahead) (AheadOf 𝓤 H A mem run)) (known-advance : Triple 𝓤 (𝓣 .C #steps·advance) (Advance 𝓤 H A mem run)) where
+  module _ (𝓣 : Tables 𝓤 H) (fm : FmC 𝓤 H (W .laws) (𝓣 .C)) (known-read : Triple 𝓤 (𝓣 .C #records·read) (Read 𝓤 H A mem run)) (known-enter : Triple 𝓤 (𝓣 .C #steps·enter) (Enters 𝓤 H A mem run)) (known-advance : Triple 𝓤 (𝓣 .C #steps·advance) (Advance 𝓤 H A mem run)) where
     walk : ent 𝓤 (onEntry 𝓤 H A runs-to.signature (κt, (κs, (κp, (κx, (κu, (κm, tt)))))) (qt, (qs, (qp, (qx, (qu, (qm, tt)))))) a vals) (WpFn 𝓤 H (𝓣 .C) (𝓣 .Λ) code.function (vt ∷ vs ∷ vp ∷ C′.lowered c ∷ vx ∷ vu ∷ vm ∷ Z′.lowered z ∷ Q′.lowered q ∷ []) Post)
     walk =
         qed W ((‵ (flft κt qt) ⊛ ‵ (flft κs qs) ⊛ ‵ (flft κp qp) ⊛ ‵ (flft κx qx) ⊛ ‵ (flft κu qu) ⊛ ‵ (flft κm qm) ⊛ ‵ ftrue) ∷ ‵ (owns (ShrSlice (named 0) κt I.the-row ∷ ShrSlice (named 1) κs u8 ∷ ShrSlice (named 2) κp usize ∷ C.the-row ∷ ShrSlice (named 3) κx usize ∷ ShrSlice (named 4) κu usize ∷ MutSlice (named 5) κm usize ∷ Z.the-row ∷ Q.the-row ∷ []) a vals) ∷ []) ∵ enter ! (𝓣 .C) (𝓣 .Λ) code.function (vt ∷ vs ∷ vp ∷ C′.lowered c ∷ vx ∷ vu ∷ vm ∷ Z′.lowered z ∷ Q′.lowered q ∷ []) _ $
@@ -452,19 +453,19 @@ module _ {M : Type 1} (𝓤 : URA M) (H : Heap 𝓤) (A : Atoms 𝓤) (W : Given
         move ! (2 ∷ 1 ∷ []) $ fjoin ! $ move ! (2 ∷ 0 ∷ []) $ fjoin ! $ move ! (2 ∷ 0 ∷ []) $ fjoin ! $ move ! (37 ∷ []) $
         split ! $ move ! (1 ∷ []) $ split ! $ move ! (1 ∷ []) $ split ! $ move ! (1 ∷ []) $ split ! $ move ! (1 ∷ []) $ split ! $ move ! (2 ∷ 0 ∷ []) $ fjoin ! $ move ! (2 ∷ 0 ∷ []) $ fjoin ! $ move ! (2 ∷ 0 ∷ []) $ fjoin ! $
         move ! (1 ∷ []) $ split ! $ move ! (3 ∷ 1 ∷ []) $ join ! $
-        begins 𝓣 fm known-read known-advance l₀ l₁ l₂ l₃ l₄ l₅ l₆ l₇ l₈ l₉ l₁₀ l₁₁ l₁₂ l₁₃ l₁₄ l₁₅ l₁₆ known-ahead)))))))))))))))))
+        begins 𝓣 fm known-read known-advance l₀ l₁ l₂ l₃ l₄ l₅ l₆ l₇ l₈ l₉ l₁₀ l₁₁ l₁₂ l₁₃ l₁₄ l₁₅ l₁₆ known-enter)))))))))))))))))
 
-module _ {M : Type 1} (𝓤 : URA M) (H : Heap 𝓤) (A : Atoms 𝓤) (W : Given 𝓤 H A) (mem : Memory → SProp 𝓤) (run : Routine → Fun 𝓤) (𝓣 : Tables 𝓤 H) (known-read : Triple 𝓤 (𝓣 .C #records·read) (Read 𝓤 H A mem run)) (known-ahead : Triple 𝓤 (𝓣 .C #steps·ahead) (AheadOf 𝓤 H A mem run)) (known-advance : Triple 𝓤 (𝓣 .C #steps·advance) (Advance 𝓤 H A mem run)) where
+module _ {M : Type 1} (𝓤 : URA M) (H : Heap 𝓤) (A : Atoms 𝓤) (W : Given 𝓤 H A) (mem : Memory → SProp 𝓤) (run : Routine → Fun 𝓤) (𝓣 : Tables 𝓤 H) (known-read : Triple 𝓤 (𝓣 .C #records·read) (Read 𝓤 H A mem run)) (known-enter : Triple 𝓤 (𝓣 .C #steps·enter) (Enters 𝓤 H A mem run)) (known-advance : Triple 𝓤 (𝓣 .C #steps·advance) (Advance 𝓤 H A mem run)) where
   run-walks : Walks 𝓤 H A runs-to.ended stayed (WpFn 𝓤 H (𝓣 .C) (𝓣 .Λ) code.function) (runs-to.clauses 𝓤 H A mem run)
   run-walks = walked 𝓤 H A runs-to.ended stayed (runs-to.clauses 𝓤 H A mem run) (WpFn 𝓤 H (𝓣 .C) (𝓣 .Λ) code.function)
       (λ κ. (slice-vals, (slice-vals, (slice-vals, (of-counts, (slice-vals, (slice-vals, (slice-vals, (of-sizes, (of-regs, tt))))))))))
       (λ κ. (shr-slice-tells (named 0) (κ .0) I.the-row, (shr-slice-tells (named 1) (κ .1 .0) u8, (shr-slice-tells (named 2) (κ .1 .1 .0) usize, (LL.tells C.the-type C′.the-laws, (shr-slice-tells (named 3) (κ .1 .1 .1 .0) usize, (shr-slice-tells (named 4) (κ .1 .1 .1 .1 .0) usize, (mut-slice-tells (named 5) (κ .1 .1 .1 .1 .1 .0) usize, (LL.tells Z.the-type Z′.the-laws, (LL.tells Q.the-type Q′.the-laws, tt))))))))))
       (λ κ q bounds a g are. needs4 𝓤 (Analysed (a .1 .0 .now) (a .1 .1 .0 .now) (a .1 .1 .1 .0) (a .1 .1 .1 .1 .0 .now) (a .1 .1 .1 .1 .1 .0 .now) (a .1 .1 .1 .1 .1 .1 .1 .0)) (Holds (a .0 .now) (a .1 .1 .0 .now) (a .1 .1 .1 .0))
-      (Ready (a .1 .1 .1 .1 .1 .1 .1 .0) (a .1 .1 .1 .1 .1 .1 .0 .now) (a .1 .1 .1 .1 .1 .1 .1 .1 .0)) (Reaching (a .1 .0 .now) (a .1 .1 .0 .now) (a .1 .1 .1 .0) (a .1 .1 .1 .1 .1 .1 .1 .0) (a .1 .1 .1 .1 .1 .1 .0 .now) (a .1 .1 .1 .1 .1 .1 .1 .1 .0)) _ (λ analysed holds ready reaching.
+      (Fresh (a .1 .1 .1 .1 .1 .1 .1 .0) (a .1 .1 .1 .1 .1 .1 .0 .now) (a .1 .1 .1 .1 .1 .1 .1 .1 .0)) (Reaching (a .1 .0 .now) (a .1 .1 .0 .now) (a .1 .1 .1 .0) (a .1 .1 .1 .1 .1 .1 .1 .0) (wordsOf (a .1 .1 .1 .1 .1 .1 .0 .now)) (a .1 .1 .1 .1 .1 .1 .1 .1 .0)) _ (λ analysed holds fresh reaching.
       walk 𝓤 H A W mem run (κ .0) (κ .1 .0) (κ .1 .1 .0) (κ .1 .1 .1 .0) (κ .1 .1 .1 .1 .0) (κ .1 .1 .1 .1 .1 .0) (q .0) (q .1 .0) (q .1 .1 .0) (q .1 .1 .1 .0) (q .1 .1 .1 .1 .0) (q .1 .1 .1 .1 .1 .0)
       (a .0) (a .1 .0) (a .1 .1 .0) (a .1 .1 .1 .0) (a .1 .1 .1 .1 .0) (a .1 .1 .1 .1 .1 .0) (a .1 .1 .1 .1 .1 .1 .0 .ptr .0) (a .1 .1 .1 .1 .1 .1 .0 .ptr .1) (a .1 .1 .1 .1 .1 .1 .0 .name) (a .1 .1 .1 .1 .1 .1 .0 .now) (a .1 .1 .1 .1 .1 .1 .1 .0) (a .1 .1 .1 .1 .1 .1 .1 .1 .0)
       (are .0 .0 .1) (are .1 .0 .0 .1) (are .1 .1 .0 .0 .1) (are .1 .1 .1 .1 .0 .0 .1) (are .1 .1 .1 .1 .1 .0 .0 .1) (are .1 .1 .1 .1 .1 .1 .0 .0 .1) (are .1 .1 .1 .0) (are .1 .1 .1 .1 .1 .1 .1 .0) (are .1 .1 .1 .1 .1 .1 .1 .1 .0)
-      analysed holds ready reaching 𝓣 (fmOf 𝓤 H (W .laws) 𝓣) known-read known-ahead known-advance))
+      analysed holds fresh reaching 𝓣 (fmOf 𝓤 H (W .laws) 𝓣) known-read known-enter known-advance))
 
   run-meets : Meets 𝓤 H A runs-to.signature (WpFn 𝓤 H (𝓣 .C) (𝓣 .Λ) code.function) (runs-to.spec 𝓤 H A mem run)
   run-meets = walk-meets 𝓤 H A runs-to.ended stayed W (
@@ -489,5 +490,5 @@ run-spec 𝓤 H 𝓜 𝓖 𝓡 =
     (tables 𝓤 H 𝓜 𝓡 code.env .C) (tables 𝓤 H 𝓜 𝓡 code.env .Λ) #steps·run code.function (code.unfolded 𝓤 H 𝓜 𝓡)
     (run-meets 𝓤 H (𝓖 .A) (givenOf 𝓤 H 𝓜 𝓖) (𝓜 .mem) (𝓡 .run) (tablesOf 𝓤 H 𝓜 (tables 𝓤 H 𝓜 𝓡 code.env))
     (cited 𝓤 H (Read 𝓤 H (𝓖 .A) (𝓜 .mem) (𝓡 .run)) 𝓜 𝓡 code.env #records·read read-def.routine code.calls-records·read (read-thm.met 𝓤 H 𝓜 𝓖 𝓡))
-    (cited 𝓤 H (AheadOf 𝓤 H (𝓖 .A) (𝓜 .mem) (𝓡 .run)) 𝓜 𝓡 code.env #steps·ahead ahead-def.routine code.calls-steps·ahead (ahead-thm.met 𝓤 H 𝓜 𝓖 𝓡))
+    (cited 𝓤 H (Enters 𝓤 H (𝓖 .A) (𝓜 .mem) (𝓡 .run)) 𝓜 𝓡 code.env #steps·enter enters-def.routine code.calls-steps·enter (enters-thm.met 𝓤 H 𝓜 𝓖 𝓡))
     (cited 𝓤 H (Advance 𝓤 H (𝓖 .A) (𝓜 .mem) (𝓡 .run)) 𝓜 𝓡 code.env #steps·advance advance-def.routine code.calls-steps·advance (advance-thm.met 𝓤 H 𝓜 𝓖 𝓡)))

@@ -1,0 +1,59 @@
+-- Stamps: which instructions a visit would leave all as it is, as long as kinds, live blocks and callers stay. Assumes nothing.
+use mathlib.Core.Bool.{false}
+use mathlib.Core.Path.{_≡_}
+use mathlib.Core.List.{List, _∷_}
+use Prim.Native.Nat.{ℕ, _+_, _≤_, _<_}
+use lib.ListN.{length, getD, take}
+use Rattle.rules.specs.Actions.{Answer, answered}
+use Rattle.rules.specs.Program.{Limits, Program}
+use Rattle.rules.specs.Machine.{State, visit}
+use Rattle.program.specs.declared.Counts.{Counts}
+use Rattle.state.specs.declared.Sizes.{Sizes}
+use Rattle.state.specs.declared.Regs.{Regs}
+use Rattle.state.specs.declared.Went.{Went}
+use Rattle.state.specs.declared.Went.the-variants.{On, No}
+use Rattle.state.specs.View.{Attrs, kindsOf, liveOf, calledOf, insnsOf, Ready}
+use Rattle.blocks.specs.Blocks.{Stepped}
+use Rattle.analysed.specs.Analysed.{Fits}
+use Rattle.steps.specs.declared.Timed.{Timed}
+
+-- the state's tables, and the place of the stamps behind them
+abbrev pub stampsAt : ℕ
+stampsAt = 52224
+
+abbrev pub tablesOf : List ℕ → List ℕ
+tablesOf m = take stampsAt m
+
+abbrev pub stampOf : List ℕ → ℕ → ℕ
+stampOf m i = getD m (stampsAt + i) 0
+
+-- a visit of i leaves every state as it is that has the kinds, the live blocks and the callers of these tables
+abbrev pub Idles : List ℕ → List ℕ → Counts → Sizes → List ℕ → ℕ → Type 0
+Idles s p c z m i = (L : Limits) → L .worklist ≡ 16384 → (P : Program) (v : Attrs) → Fits s p c P v → (t : State) → t .kinds ≡ kindsOf z m → t .live ≡ liveOf z m → t .calledBy ≡ calledOf z m → visit L P i t ≡ answered (tt, t)
+
+-- no instruction is stamped
+pub record Fresh (z : Sizes) (m : List ℕ) (q : Regs) : Type 0 where
+  pub long : length m ≡ stampsAt + 2048
+  pub ready : Ready z (tablesOf m) q
+  pub none : (i : ℕ) → i < z .insns → stampOf m i ≡ 0
+
+-- i is the instruction in front
+pub record Fronts (z : Sizes) (m : List ℕ) (q : Regs) (i : ℕ) : Type 0 where
+  pub inside : i < z .insns
+  pub is : (j : ℕ) (l : List ℕ) → insnsOf m q ≡ j ∷ l → j ≡ i
+
+-- no stamp is of a later epoch, and one of this epoch says that a visit would do nothing; the epoch rises no faster than the count
+pub record Stamped (s p : List ℕ) (c : Counts) (z : Sizes) (m : List ℕ) (q : Regs) (epoch : ℕ) : Type 0 where
+  pub long : length m ≡ stampsAt + 2048
+  pub past : (i : ℕ) → i < z .insns → stampOf m i ≤ epoch
+  pub idle : (i : ℕ) → i < z .insns → stampOf m i ≡ epoch → Idles s p c z (tablesOf m) i
+  pub slow : epoch ≤ q .count + 1
+
+abbrev pub StampedIf : List ℕ → List ℕ → Counts → Sizes → List ℕ → ℕ → Went → Type 0
+StampedIf s p c z m epoch (On q) = Stamped s p c z m q epoch
+StampedIf s p c z m epoch (No n) = Unit {0}
+
+-- a step of the tables, after which the stamps hold again
+pub record Timely (s p : List ℕ) (c : Counts) (z : Sizes) (f : Limits → Program → State → Answer State) (m : List ℕ) (q : Regs) (w : List ℕ) (r : Timed) : Type 0 where
+  pub step : Stepped z (Fits s p c) f (tablesOf m) q (tablesOf w) (r .went)
+  pub stamps : StampedIf s p c z w (r .epoch) (r .went)
