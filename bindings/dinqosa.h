@@ -67,7 +67,7 @@ uint8_t dinqosa_analyze(const uint8_t *script, size_t script_len,
                         uint64_t *state, size_t state_len);
 
 /* All that a call is lent, side by side. The script's place has one byte more than the longest script, so that a script can be
- * read into it and be found too long. 1,073,192 bytes: not for the stack. */
+ * read into it and be found too long. 1,089,576 bytes: not for the stack. */
 struct dinqosa_memory {
     uint64_t answer[DINQOSA_ANSWER_WORDS];
     uint64_t program[DINQOSA_PROGRAM_WORDS];

@@ -9,7 +9,7 @@ pub const SCRIPT_MOST: usize = 16_384;
 /// Published lengths, in words.
 pub const ANSWER_WORDS: usize = 22_788;
 pub const PROGRAM_WORDS: usize = 57_088;
-pub const STATE_WORDS: usize = 52_224;
+pub const STATE_WORDS: usize = 54_272;
 
 /// Bytes of stack to give a call. Measured, not proved: the deepest script found takes 577,920 (`docs/MEMORY.md`).
 pub const STACK_BYTES: usize = 786_432;

@@ -9,8 +9,9 @@ use Rattle.program.specs.Rows as Rows
 use Rattle.index.specs.Chains as Chains
 use Rattle.parser.specs.Cursor as Cursor
 use Rattle.answer.specs.Layout.{answerLen}
+use Rattle.steps.specs.Stamps.{stampsAt}
 use Rattle.call.specs.Call.{programLen, stateLen}
-use Rattle.call.specs.Published.{published, program, scratch}
+use Rattle.call.specs.Published.{published, program, state, scratch}
 
 pub lengths : published ≡ ("SCRIPT_MOST", limits .script) ∷ ("ANSWER_WORDS", answerLen) ∷ ("PROGRAM_WORDS", programLen) ∷ ("STATE_WORDS", stateLen) ∷ []
 lengths = refl
@@ -20,12 +21,18 @@ pub program-places : program
     ∷ ("TABLES", Rows.size) ∷ ("INDEX", Chains.size) ∷ []
 program-places = refl
 
+pub state-places : state ≡ ("STAMPS", stampsAt) ∷ []
+state-places = refl
+
 pub scratch-places : scratch ≡ ("STACK", Cursor.stackAt) ∷ ("SCRATCH", Cursor.size) ∷ []
 scratch-places = refl
 
--- the tables and the index fill the program part, and the scratch has room in the state part
+-- the tables and the index fill the program part, the tables and a stamp for each instruction the state part, and there the scratch has room
 pub program-filled : Rows.size + Chains.size ≡ programLen
 program-filled = refl
+
+pub state-filled : stampsAt + limits .instructions ≡ stateLen
+state-filled = refl
 
 pub scratch-fits : Cursor.size ≤ stateLen
 scratch-fits = lit≤ tt

@@ -10,7 +10,7 @@ published =
     ("SCRIPT_MOST", 16384)
     ∷ ("ANSWER_WORDS", 22788)
     ∷ ("PROGRAM_WORDS", 57088)
-    ∷ ("STATE_WORDS", 52224)
+    ∷ ("STATE_WORDS", 54272)
     ∷ []
 
 -- the program part: its tables by the names that the code has for them, the words that they take together, and the words of the index behind them
@@ -25,6 +25,10 @@ program =
     ∷ ("TABLES", 47872)
     ∷ ("INDEX", 9216)
     ∷ []
+
+-- the state part while the analysis runs: where its stamps start, behind the tables
+abbrev pub state : List (String × ℕ)
+state = ("STAMPS", 52224) ∷ []
 
 -- the state part while a script is read: the words of the reader's scratch, and where its stack starts
 abbrev pub scratch : List (String × ℕ)

@@ -35,9 +35,6 @@ pub const SCRIPT_MOST: usize = 16384;
 // The program's tables; its index stands behind them.
 const TABLES: usize = 47872;
 
-// The state's tables; the stamps of the instructions stand behind them.
-const STAMPS: usize = 52224;
-
 fn read_tables(script: &[u8], program: &mut [usize], scratch: &mut [usize]) -> reader::Outcome
     requires { ⌜ tablesSize ≤ length (now program) ⌝ }
     requires { ⌜ scratchSize ≤ length (now scratch) ⌝ }
@@ -53,7 +50,7 @@ fn publish_state(state: &[usize], c: Counts, count: u64, answer: &mut [usize])
     ensures { λ _. ⌜ now (answer .exit) ≡ withState (sizesOf c) (wordsOf (now (state .entry))) count (now (answer .entry)) ⌝ }
 {
     let z = analysed::sizes(c);
-    publish::write_state(&state[..STAMPS], z, count, answer);
+    publish::write_state(&state[..steps::STAMPS], z, count, answer);
 }
 
 // The analysis of a program that was read.

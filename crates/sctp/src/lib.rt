@@ -18,9 +18,6 @@ const TABLES: usize = 47872;
 
 const CHAINS: usize = 9216;
 
-// The words of the state's tables; behind them stands a stamp for each instruction.
-const STAMPS: usize = 52224;
-
 // The chains of the index are made in the state's memory, and what is in use of them goes behind the program's tables.
 fn lay_index(p: &mut [usize], c: Counts, m: &mut [usize])
     requires { ⌜ Ready (tablesOf (now p)) c ⌝ }
@@ -123,8 +120,8 @@ fn analyse(
     requires { ⌜ length (now m) ≡ 54272 ⌝ }
     ensures { λ r. ⌜ Ends (now (s .entry)) (now (p .entry)) c z (now (u .entry)) (now (u .exit)) (wordsOf (now (m .exit))) r ⌝ }
 {
-    let b = begin(s, p, c, x, u, &mut m[..STAMPS], z);
-    index::fill(m, STAMPS, z.insns, 0);
+    let b = begin(s, p, c, x, u, &mut m[..steps::STAMPS], z);
+    index::fill(m, steps::STAMPS, z.insns, 0);
     match b {
         Went::On(q) => run_lent(s, p, c, x, u, m, z, q),
         Went::No(n) => Went::No(n),

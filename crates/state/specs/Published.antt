@@ -12,7 +12,7 @@ use Rattle.state.specs.declared.Sizes.{Sizes}
 use Rattle.state.specs.declared.Regs.{Regs}
 use Rattle.state.specs.View.{Attrs}
 
--- the length of the state part, in words
+-- how many words the tables take
 abbrev pub words : ℕ
 words = 52224
 

@@ -16,7 +16,7 @@ ghost use Rattle.steps.specs.Stamps.{tablesOf, Fresh, Fronts, Stamped, T
 ghost use Rattle.steps.specs.Runs.{insnsIn, blockNext, RecordOf, Front, Reaching, Ahead, Ran, Under, Turned};
 
 // The words of the state's tables; behind them stands a stamp for each instruction.
-const STAMPS: usize = 52224;
+pub const STAMPS: usize = 52224;
 
 // Where a run stands: it goes on, and insn is the instruction of its next step, 0 where that takes a block; or it has ended. The epoch rises whenever kinds, live blocks or callers may have changed.
 pub struct Turn {
