@@ -6,7 +6,7 @@ use mathlib.Core.List.{List, _++_}
 use Prim.Native.Nat.{ℕ, _+_, _≤_, _<_}
 use native.Mathlib.Omega.{arith}
 use lib.ListN.{length, getD, take, drop}
-use lib.Seq.{take-at, take-all, length-take-le}
+use lib.Seq.{take-at, length-take-le}
 use lib.Dec.{leb}
 use borrow.Author.Tests.{le-leb, lt-leb}
 use native.Mathlib.Decide.{decLt}
@@ -58,14 +58,7 @@ use Rattle.call.specs.Parts.{frontOf, imaged, analyzed, found, Parsed, S
 
 -- ---- publish_state
 
--- the state's tables are there
-pub words-long : {z : Sizes} (m : List ℕ) → Held z (wordsOf m) → 52224 ≤ length m
-words-long m h = go (decLt (length m) 52224)
-  where
-    go : Dec (length m < 52224) → 52224 ≤ length m
-    go (yes l) = absurd (let e = ap length (take-all 52224 m (omega arith)) in let k = h .len in omega arith)
-    go (no g) = omega arith
-
+-- the state's tables
 pub words-length : {z : Sizes} (m : List ℕ) → Held z (wordsOf m) → 52224 ≡ length (take 52224 m)
 words-length m h = sym (h .len)
 

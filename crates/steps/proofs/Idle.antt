@@ -14,7 +14,6 @@ use Rattle.kinds.specs.declared.Joined.{Joined}
 use Rattle.kinds.specs.declared.Joined.the-variants.{Of, Refused}
 use Rattle.kinds.specs.Kinds.{sameOf, isEmpty, isName}
 use Rattle.kinds.specs.Union.{unionOf, unionAll}
-
 use Rattle.kinds.specs.Rules.{arithOf, admits}
 use Rattle.kinds.proofs.Laws.{union-idem, union-name}
 use Rattle.kinds.proofs.Same.{same-refl}

@@ -3,7 +3,7 @@ use mathlib.Core.Bool.{Bool as 𝔹, true, false, not, _&&_, _||_}
 use mathlib.Core.Logic.{_⊎_, inl, inr}
 use mathlib.Core.Path.{_≡_, refl, sym, ap, _∙_, subst}
 use mathlib.Core.List.{List, [], _∷_, _++_}
-use Prim.Native.Nat.{ℕ, zero, suc, _+_, _≤_, _<_, _^_}
+use Prim.Native.Nat.{ℕ, zero, suc, _+_, _≤_, _<_}
 use native.Mathlib.Omega.{arith}
 use borrow.Author.Tests.{eqb-true, eqb-false, ltb-true}
 use lib.Dec.{eqb, ltb}
@@ -26,7 +26,7 @@ use Rattle.state.specs.declared.Sizes.{Sizes}
 use Rattle.state.specs.declared.Regs.{Regs}
 use Rattle.state.specs.declared.Went.{Went}
 use Rattle.state.specs.declared.Went.the-variants.{On, No}
-use Rattle.state.specs.View.{Attrs, kindsOf, liveOf, calledOf, insnsOf, blocksOf, view, Ready}
+use Rattle.state.specs.View.{Attrs, kindsOf, insnsOf, blocksOf, view, Ready}
 use Rattle.state.specs.Changes.{went, TookInsn}
 use Rattle.state.proofs.Tables.{kind-at}
 use Rattle.blocks.specs.Blocks.{blocksIn, ReadyNext, Stepped}
@@ -34,8 +34,8 @@ use Rattle.analysed.specs.Analysed.{Analysed, Fits}
 use Rattle.analysed.proofs.States.{attrs, attrs-fit}
 use Rattle.steps.specs.declared.Timed.{Timed}
 use Rattle.steps.specs.Runs.{insnsIn, blockNext, RecordOf, Front}
-use Rattle.steps.specs.Stamps.{stampsAt, tablesOf, stampOf, Idles, Fresh, Fronts, Stamped, StampedIf, Timely}
-use Rattle.steps.proofs.Idle.{Alike, alike, waiting, aside, visit-idle, visit-still}
+use Rattle.steps.specs.Stamps.{tablesOf, stampOf, Idles, Fresh, Fronts, Stamped, StampedIf, Timely}
+use Rattle.steps.proofs.Idle.{Alike, aside, visit-idle, visit-still}
 use Rattle.steps.proofs.Stepping.{take-front, insns-length, blocks-length, block-step, insn-step}
 
 -- ---- the tables, with the stamps behind them

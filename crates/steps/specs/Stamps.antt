@@ -1,5 +1,4 @@
 -- Stamps: which instructions a visit would leave all as it is, as long as kinds, live blocks and callers stay. Assumes nothing.
-use mathlib.Core.Bool.{false}
 use mathlib.Core.Path.{_≡_}
 use mathlib.Core.List.{List, _∷_}
 use Prim.Native.Nat.{ℕ, _+_, _≤_, _<_}

@@ -6,7 +6,7 @@ use state::Sizes;
 use state::Went;
 ghost use mathlib.Core.Bool.{true, false};
 ghost use mathlib.Core.Path.{_≡_};
-ghost use Prim.Native.Nat.{_+_, _≤_, _<_, _^_};
+ghost use Prim.Native.Nat.{_+_, _<_, _^_};
 ghost use Rattle.rules.specs.Machine.{takeInsn, step as stepped};
 ghost use Rattle.records.specs.Records.{recordAt, Holds};
 ghost use Rattle.state.specs.View.{Ready};

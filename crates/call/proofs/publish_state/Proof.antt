@@ -1,13 +1,10 @@
-use Rattle.call.proofs.Laws.{words-long, words-length, sizes-held, sizes-blocks, sizes-written}
+use Rattle.call.proofs.Laws.{words-length, sizes-held, sizes-blocks, sizes-written}
 use borrow.Author.Needs.{needs}
 use Rattle.call.proofs.publish_state.Statement.{statement}
 use Rattle.call.proofs.publish_state.Tie as tie
 
 sizes-requires : tie.Need-sizes-requires
 sizes-requires c κs = search needs
-
-slice-reshare-prefix-write-state : tie.Need-slice-reshare-prefix-write-state
-slice-reshare-prefix-write-state c = search words-long
 
 slice-aggregate-write-state : tie.Need-slice-aggregate-write-state
 slice-aggregate-write-state c = search words-length
@@ -22,4 +19,4 @@ returns : tie.Need-returns
 returns c = search sizes-written
 
 pub publish-state-spec : {M : Type 1} → statement M
-publish-state-spec = tie.close (tie.spec sizes-requires slice-reshare-prefix-write-state slice-aggregate-write-state write-state-requires same-length returns)
+publish-state-spec = tie.close (tie.spec sizes-requires slice-aggregate-write-state write-state-requires same-length returns)

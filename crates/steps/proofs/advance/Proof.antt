@@ -12,15 +12,19 @@ enum-known-w c = search needs
 
 step-requires : tie.Need-step-requires
 step-requires c κs = (c .before .before .before .before .before .before .before .before .before .pre .0, (turn-steady (c .before .before .before .before .before .before .before .before .before .pre .1 .0) (c .before .before .w .given .1) (c .before .before .before .before .before .before .before .before .before .pre .1 .1 .0) (c .before .before .before .before .before .before .before .before .before .pre .0), (turn-ready (c .before .before .before .before .before .before .before .before .before .pre .1 .0) (c .before .before .w .given .1) (c .before .before .before .before .before .before .before .before .before .pre .1 .1 .0) (c .before .before .before .before .before .before .before .before .before .pre .0), (turn-small (c .before .before .before .before .before .before .before .before .before .pre .1 .0) (c .before .before .w .given .1) (c .before .before .before .before .before .before .before .before .before .pre .1 .1 .0) (c .before .before .before .before .before .before .before .before .before .pre .0), (turn-record (c .before .before .before .before .before .before .before .before .before .pre .1 .0) (c .before .before .w .given .1) (c .before .before .before .before .before .before .before .before .before .pre .1 .1 .0) (c .before .before .before .before .before .before .before .before .before .pre .0) (c .before .before .before .before .before .before .before .before .before .pre .1 .1 .1), (turn-front (c .before .before .before .before .before .before .before .before .before .pre .1 .0) (c .before .before .w .given .1) (c .before .before .before .before .before .before .before .before .before .pre .1 .1 .0) (c .before .before .before .before .before .before .before .before .before .pre .0), turn-stamped (c .before .before .before .before .before .before .before .before .before .pre .1 .0) (c .before .before .w .given .1) (c .before .before .before .before .before .before .before .before .before .pre .1 .1 .0) (c .before .before .before .before .before .before .before .before .before .pre .0)))))))
+
 enum-known-went : tie.Need-enum-known-went
 enum-known-went c = search needs
 
 slice-reshare-prefix-ahead : tie.Need-slice-reshare-prefix-ahead
 slice-reshare-prefix-ahead c = omega (arith, turn-stamped (c .before .before .before .before .before .before .before .before .before .before .before .before .before .before .before .pre .1 .0) (c .before .before .before .before .before .before .before .before .w .given .1) (c .before .before .before .before .before .before .before .before .before .before .before .before .before .before .before .pre .1 .1 .0) (c .before .before .before .before .before .before .before .before .before .before .before .before .before .before .before .pre .0) .long, c .before .before .before .before .before .step .kept .1 .1 .1 .1 .1 .0)
+
 slice-aggregate-ahead : tie.Need-slice-aggregate-ahead
 slice-aggregate-ahead c = sym (length-take-le 52224 (c .before .before .before .before .before .before .step .last .1 .1 .1 .1 .1 .0) (omega (arith, turn-stamped (c .before .before .before .before .before .before .before .before .before .before .before .before .before .before .before .before .pre .1 .0) (c .before .before .before .before .before .before .before .before .before .w .given .1) (c .before .before .before .before .before .before .before .before .before .before .before .before .before .before .before .before .pre .1 .1 .0) (c .before .before .before .before .before .before .before .before .before .before .before .before .before .before .before .before .pre .0) .long, c .before .before .before .before .before .before .step .kept .1 .1 .1 .1 .1 .0)))
+
 ahead-requires : tie.Need-ahead-requires
 ahead-requires c κs = (turn-on (c .before .before .before .before .before .before .before .before .before .before .before .before .before .before .before .before .pre .1 .0) (c .before .before .before .before .before .before .before .before .before .w .given .1) (c .before .before .before .before .before .before .before .before .before .before .before .before .before .before .before .before .pre .1 .1 .0) (c .before .before .before .before .before .before .before .before .before .before .before .before .before .before .before .before .pre .0) (c .before .before .before .before .before .before .step .ensures) (c .before .before .went .given .1) .ready, going-count (turn-on (c .before .before .before .before .before .before .before .before .before .before .before .before .before .before .before .before .pre .1 .0) (c .before .before .before .before .before .before .before .before .before .w .given .1) (c .before .before .before .before .before .before .before .before .before .before .before .before .before .before .before .before .pre .1 .1 .0) (c .before .before .before .before .before .before .before .before .before .before .before .before .before .before .before .before .pre .0) (c .before .before .before .before .before .before .step .ensures) (c .before .before .went .given .1)) (c .before .before .before .before .before .before .before .before .before .before .before .before .before .before .before .before .pre .0))
+
 enum-known-went-2 : tie.Need-enum-known-went-2
 enum-known-went-2 c = search needs
 
@@ -32,13 +36,16 @@ same-length c = search needs
 
 returns : tie.Need-returns
 returns c = turned-on (c .before .before .before .before .before .before .before .before .before .before .before .before .before .before .before .before .before .pre .1 .0) (c .before .before .before .before .before .before .before .before .before .before .w .given .1) (c .before .before .before .before .before .before .before .before .before .before .before .before .before .before .before .before .before .pre .1 .1 .0) (c .before .before .before .before .before .before .before .before .before .before .before .before .before .before .before .before .before .pre .0) (c .before .before .before .before .before .before .before .step .ensures) (c .before .before .before .went .given .1) (c .ahead .ensures)
+
 same-length-2 : tie.Need-same-length-2
 same-length-2 c = search needs
 
 returns-2 : tie.Need-returns-2
 returns-2 c = turned-no (c .before .before .before .before .before .before .before .before .before .before .before .before .before .before .before .pre .1 .0) (c .before .before .before .before .before .before .before .before .w .given .1) (c .before .before .before .before .before .before .before .before .before .before .before .before .before .before .before .pre .1 .1 .0) (c .before .before .before .before .before .before .before .before .before .before .before .before .before .before .before .pre .0) (c .before .before .before .before .before .step .ensures) (c .before .went2 .given .1)
+
 returns-3 : tie.Need-returns-3
 returns-3 c = under-no (c .before .before .before .before .before .before .before .before .pre .1 .0) (c .before .before .before .before .before .before .before .before .pre .1 .1 .0) (c .before .w2 .given .1)
+
 pub advance-spec : {M : Type 1} → statement M
 advance-spec =
     tie.close

@@ -19,13 +19,16 @@ slice-aggregate-step-block c = search needs
 
 step-block-requires : tie.Need-step-block-requires
 step-block-requires c κs = (c .before .before .before .before .before .before .before .before .pre .1 .1 .0, (code-held (c .before .before .before .before .before .before .before .before .pre .0) (c .before .before .before .before .before .before .before .before .pre .1 .1 .0), (some-block (c .before .before .before .before .before .before .before .before .args .z) (tablesOf (c .before .before .before .before .before .before .before .before .args .m .now)) (c .before .before .before .before .before .before .before .before .args .q) (c .before .before .block-next .ensures) (c .before .if1 .taken) (c .before .before .before .before .before .before .before .before .pre .1 .1 .1 .0 .0), c .before .before .before .before .before .before .before .before .pre .1 .1 .1 .0 .1)))
+
 add-t19 : tie.Need-add-t19
 add-t19 c = omega (arith, c .before .before .before .before .before .before .before .before .before .before .before .pre .1 .1 .1 .1 .1 .1 .slow, c .before .before .before .before .before .before .before .before .before .before .before .pre .1 .1 .1 .0 .1)
+
 same-length : tie.Need-same-length
 same-length c = search needs
 
 returns : tie.Need-returns
 returns c = timely-block (c .before .before .before .before .before .block-next .ensures) (c .before .before .before .before .if1 .taken) (code-fits (c .before .before .before .before .before .before .before .before .before .before .before .pre .0) (c .before .before .before .before .before .before .before .before .before .before .before .pre .1 .1 .0)) (c .before .before .before .before .before .before .before .before .before .before .before .pre .1 .1 .1 .1 .1 .1) (c .before .before .step-block .kept .0) (c .before .before .step-block .ensures)
+
 add-if2 : tie.Need-add-if2
 add-if2 c = search needs
 
@@ -43,18 +46,22 @@ slice-aggregate-take-insn c = search needs
 
 take-insn-requires : tie.Need-take-insn-requires
 take-insn-requires c κs = (c .before .before .before .before .before .before .before .before .before .before .pre .1 .1 .0, (some-insn (c .before .before .before .before .before .before .before .before .before .before .args .z) (tablesOf (c .before .before .before .before .before .before .before .before .before .before .args .m .now)) (c .before .before .before .before .before .before .before .before .before .before .args .q) (c .before .before .before .before .block-next .ensures) (c .before .before .before .if1 .left), c .before .before .before .before .before .before .before .before .before .before .pre .1 .1 .1 .0 .1))
+
 same-length-2 : tie.Need-same-length-2
 same-length-2 c = search needs
 
 returns-2 : tie.Need-returns-2
 returns-2 c = timely-insn (c .before .before .before .before .before .before .block-next .ensures) (c .before .before .before .before .before .if1 .left) (skipped (c .before .before .before .before .before .before .before .before .before .before .before .before .pre .1 .1 .1 .1 .1 .1) (c .before .before .before .if2 .taken) (front-of (c .before .before .before .before .before .before .before .before .before .before .before .before .pre .1 .1 .1 .1 .1 .0) (sym (c .before .before .before .before .before .before .block-next .ensures) ∙ c .before .before .before .before .before .if1 .left)) (c .before .take-insn .ensures))
+
 visit-timed-requires : tie.Need-visit-timed-requires
 visit-timed-requires c κs = (c .before .before .before .before .before .before .before .before .before .before .pre .0, (c .before .before .before .before .before .before .before .before .before .before .pre .1 .0, (c .before .before .before .before .before .before .before .before .before .before .pre .1 .1 .0, ((some-insn (c .before .before .before .before .before .before .before .before .before .before .args .z) (tablesOf (c .before .before .before .before .before .before .before .before .before .before .args .m .now)) (c .before .before .before .before .before .before .before .before .before .before .args .q) (c .before .before .before .before .block-next .ensures) (c .before .before .before .if1 .left), c .before .before .before .before .before .before .before .before .before .before .pre .1 .1 .1 .0 .1), (c .before .before .before .before .before .before .before .before .before .before .pre .1 .1 .1 .1 .0 (sym (c .before .before .before .before .block-next .ensures) ∙ c .before .before .before .if1 .left), (front-of (c .before .before .before .before .before .before .before .before .before .before .pre .1 .1 .1 .1 .1 .0) (sym (c .before .before .before .before .block-next .ensures) ∙ c .before .before .before .if1 .left), c .before .before .before .before .before .before .before .before .before .before .pre .1 .1 .1 .1 .1 .1))))))
+
 same-length-3 : tie.Need-same-length-3
 same-length-3 c = search needs
 
 returns-3 : tie.Need-returns-3
 returns-3 c = timely-insn (c .before .before .before .before .before .before .before .block-next .ensures) (c .before .before .before .before .before .before .if1 .left) (c .before .before .visit-timed .ensures)
+
 pub step-spec : {M : Type 1} → statement M
 step-spec =
     tie.close
