@@ -12,5 +12,6 @@ at-rest-requires c κs = search needs
 
 returns : tie.Need-returns
 returns c = ahead-at (c .before .front .ensures) (c .at-rest .ensures)
+
 pub ahead-spec : {M : Type 1} → statement M
 ahead-spec = tie.close (tie.spec front-requires at-rest-requires returns)
