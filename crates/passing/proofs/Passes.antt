@@ -5,22 +5,21 @@ use mathlib.Core.Option.{none, some}
 use mathlib.Core.List.{List}
 use Prim.Native.Nat.{ℕ, zero, suc, _+_, _-_, _*_, _≤_, _<_}
 use native.Mathlib.Omega.{arith}
-use borrow.Author.Tests.{eqb-true}
+use borrow.Author.Tests.{ne-eqb}
 use mir.Syntax.{w64}
 use mir.Val.{Fits}
-use lib.Bits.{bitOr}
-use lib.Dec.{eqb}
+use lib.Bits.{bitOr, or-zero-r}
 use lib.ListN.{length, getD}
 use Rattle.kinds.specs.declared.Kind.{Kind}
-use Rattle.kinds.specs.declared.Kind.the-variants.{Empty, Objects, Any}
+use Rattle.kinds.specs.declared.Kind.the-variants.{Empty, Nil, Num, Truth, Fun, Class, Int, Bool, Objects, Any}
 use Rattle.kinds.specs.declared.Joined.the-variants.{Of}
-use Rattle.kinds.specs.Kinds.{kindFrom, isName}
-use Rattle.kinds.specs.Union.{unionOf}
-use Rattle.kinds.proofs.Laws.{union-any-l, union-empty-r, union-idem, sets-cover}
+use Rattle.kinds.specs.Kinds.{kindFrom, sameOf, isName}
+use Rattle.kinds.specs.Union.{setOf, mixOf, lub, unionOf}
+use Rattle.kinds.proofs.Laws.{union-any-l, union-empty-r, union-idem, union-sets}
 use Rattle.kinds.proofs.Same.{same-refl}
 use Rattle.rules.specs.Program as P
 use Rattle.rules.specs.Program.{Limits, Program, about, parameters}
-use Rattle.rules.specs.Machine.{State, kindOf, wakeIfWider, placeOf, argument, passArguments}
+use Rattle.rules.specs.Machine.{State, kindOf, pushInsn, wakeIfWider, placeOf, argument, passArguments}
 use Rattle.program.specs.declared.Opnd.{Opnd}
 use Rattle.program.specs.declared.Counts.{Counts}
 use Rattle.program.specs.Rows.{opndOf, opIn, opFrom}
@@ -35,15 +34,16 @@ use Rattle.state.specs.declared.Went.the-variants.{On, No}
 use Rattle.state.specs.View.{Attrs, kindsOf, Held, Ready, noEntries}
 use Rattle.state.specs.View.{view as stateView}
 use Rattle.state.specs.Changes.{Did, Every}
-use Rattle.state.proofs.Wakes.{wake-same}
+use Rattle.state.proofs.Wakes.{wake-same, wake-wider}
 use Rattle.index.specs.Chains.{Chained, at, self, ChainIs, FitsId}
 use Rattle.index.proofs.Lists.{Starts, chained-below, chained-none, chained-some, chained-low, chained-high, chained-next}
 use Rattle.opnds.specs.Reads.{Inside, kindIn}
 use Rattle.opnds.proofs.Given.{kind-of}
-use Rattle.flows.specs.Flows.{Argues}
+use Rattle.flows.specs.declared.AsSet.the-variants.{Set}
+use Rattle.flows.specs.Flows.{Argues, asSet}
 use Rattle.flows.proofs.Callers.{fits-inside}
 use Rattle.blocks.proofs.Walk.{From, Walking, walk-ready, walk-falls, walk-word, walk-more, walk-stop, walk-done}
-use Rattle.passing.specs.Passing.{passTo, HasParams, Caller, Placed, Passes, Keeps, CallIn, PassIn, Idle}
+use Rattle.passing.specs.Passing.{passTo, HasParams, Caller, Placed, Passes, Widens, Keeps, CallIn, PassIn, Idle}
 
 -- ---- one Param
 
@@ -97,6 +97,9 @@ kind-passed {m} {c} {z} w i d a ek = record {
   is = λ L s h. ek ∙ ap (kindIn (kindsOf z w)) (a .is L s h ∙ ap (λ (t : ℕ). argument L (view s m c) t i) (sym (d .is L s)));
 }
 
+pub passes-is : {m : List ℕ} {c : Counts} {z : Sizes} {w : List ℕ} {i j : ℕ} {k k' : Kind} → Passes m c z w i j k → k' ≡ k → Passes m c z w i j k'
+passes-is a e = rw e a
+
 module _ {m : List ℕ} {c : Counts} {z : Sizes} {w : List ℕ} {q : Regs} {i j : ℕ} {k : Kind} (a : Passes m c z w i j k) where
   pub passed-to : {w' : List ℕ} {r : Went} → Did z Every (λ L p. wakeIfWider L p k j) w q w' r → Did z (CallIn m c i) (λ L p. passTo L p i j) w q w' r
   passed-to g = record {
@@ -111,9 +114,13 @@ module _ {m : List ℕ} {c : Counts} {z : Sizes} {w : List ℕ} {q : Regs} {i j 
 pub kept-on : {m : List ℕ} {c : Counts} {z : Sizes} {w : List ℕ} {q : Regs} {i j : ℕ} → Ready z w q → Keeps m c z w i j → Did z (CallIn m c i) (λ L p. passTo L p i j) w q w (On q)
 kept-on {z = z} {w = w} {q = q} {j = j} r h = passed-to (h .passes) (wake-same z w q j (h .kind) refl refl r (getD (kindsOf z w) j Empty) (h .same) refl (same-refl (getD (kindsOf z w) j Empty)))
 
-pub surely-kept : {m : List ℕ} {c : Counts} {z : Sizes} (w : List ℕ) (i : ℕ) {j n : ℕ} {o : Opnd} {k a : Kind} → Placed m c j n → Argues m c i n o
-    → k ≡ kindIn (kindsOf z w) (opndOf o) → a ≡ getD (kindsOf z w) j Empty → unionOf a k ≡ Of a → Keeps m c z w i j
-surely-kept w i {k = k} d g ek ea h = record { kind = k; passes = kind-passed w i d g ek; same = subst (λ (x : Kind). unionOf x k ≡ Of x) ea h }
+-- a is the Param's kind, k the argument's
+module _ {m : List ℕ} {c : Counts} {z : Sizes} {w : List ℕ} {i j : ℕ} {k a : Kind} (g : Passes m c z w i j k) (ea : a ≡ getD (kindsOf z w) j Empty) where
+  pub surely-kept : unionOf a k ≡ Of a → Keeps m c z w i j
+  surely-kept h = record { kind = k; passes = g; same = subst (λ (x : Kind). unionOf x k ≡ Of x) ea h }
+
+  pub pushed-to : {q : Regs} {w' : List ℕ} {r : Went} → Widens a k → Did z Every (λ L p. pushInsn L p j) w q w' r → Did z (CallIn m c i) (λ L p. passTo L p i j) w q w' r
+  pushed-to {q} h d = passed-to g (wake-wider z w q j k ea refl (h .union) (h .is) refl (h .other) d)
 
 -- ---- kinds in words
 
@@ -130,7 +137,7 @@ any-from (suc (suc (suc (suc (suc (suc (suc zero))))))) x h = absurd (omega arit
 any-from (suc (suc (suc (suc (suc (suc (suc (suc zero)))))))) x h = absurd (omega arith)
 any-from (suc (suc (suc (suc (suc (suc (suc (suc (suc n))))))))) x h = refl
 
-no-name-from : (s x : ℕ) → (s ≡ 4 → ⊥) → (s ≡ 5 → ⊥) → isName (kindFrom s x) ≡ false
+pub no-name-from : (s x : ℕ) → (s ≡ 4 → ⊥) → (s ≡ 5 → ⊥) → isName (kindFrom s x) ≡ false
 unfolding kindFrom
 no-name-from zero x h4 h5 = refl
 no-name-from (suc zero) x h4 h5 = refl
@@ -147,9 +154,27 @@ empty-from : {t : ℕ} (y : ℕ) → t ≡ 0 → kindFrom t y ≡ Empty
 unfolding kindFrom
 empty-from y e = rw e
 
-objects-from : {s : ℕ} (x : ℕ) → s ≡ 8 → kindFrom s x ≡ Objects x
+pub objects-from : {s : ℕ} (x : ℕ) → s ≡ 8 → kindFrom s x ≡ Objects x
 unfolding kindFrom
 objects-from x e = rw e
+
+-- a set joined with a kind that is no name and not Any has the classes of both
+set-joins : (s : ℕ) (k : Kind) (u : ℕ) → Set u ≡ asSet k → unionOf (Objects s) k ≡ Of (Objects (bitOr s u))
+unfolding unionOf lub mixOf sameOf
+set-joins s Empty u e = let z : u ≡ 0 = cc in rw (z, or-zero-r)
+set-joins s Nil u e = let z : u ≡ setOf Nil = cc in rw z
+set-joins s (Num n) u e = let z : u ≡ setOf (Num n) = cc in rw z
+set-joins s (Truth t) u e = let z : u ≡ setOf (Truth t) = cc in rw z
+set-joins s (Fun f) u e = cc
+set-joins s (Class c) u e = cc
+set-joins s Int u e = let z : u ≡ setOf Int = cc in rw z
+set-joins s Bool u e = let z : u ≡ setOf Bool = cc in rw z
+set-joins s (Objects t) u e = let z : u ≡ t = cc in rw z (union-sets s t)
+set-joins s Any u e = cc
+
+other-set : (x y : ℕ) → (x ≡ y → ⊥) → sameOf (Objects x) (Objects y) ≡ false
+unfolding sameOf
+other-set x y h = ne-eqb x y h
 
 module _ (s x t y : ℕ) where
   pub covers-empty : t ≡ 0 → unionOf (kindFrom s x) (kindFrom t y) ≡ Of (kindFrom s x)
@@ -158,12 +183,18 @@ module _ (s x t y : ℕ) where
   pub covers-any : 8 < s → unionOf (kindFrom s x) (kindFrom t y) ≡ Of (kindFrom s x)
   covers-any h = rw (any-from s x h) (union-any-l (kindFrom t y))
 
-  module _ (e : s ≡ t) where
-    pub covers-set : s ≡ 8 → eqb (bitOr x y) x ≡ true → unionOf (kindFrom s x) (kindFrom t y) ≡ Of (kindFrom s x)
-    covers-set f h = sets-cover (kindFrom s x) (kindFrom t y) x y (objects-from x f) (objects-from y (sym e ∙ f)) h
+  module _ (f : s ≡ 8) {u : ℕ} (g : Set u ≡ asSet (kindFrom t y)) where
+    set-union : unionOf (kindFrom s x) (kindFrom t y) ≡ Of (Objects (bitOr x u))
+    set-union = rw (objects-from x f) (set-joins x (kindFrom t y) u g)
 
-    pub covers-same : (s ≡ 4 → ⊥) → (s ≡ 5 → ⊥) → eqb x y ≡ true → unionOf (kindFrom s x) (kindFrom t y) ≡ Of (kindFrom s x)
-    covers-same h4 h5 h = rw (← e, ← eqb-true x y h) (union-idem (kindFrom s x) (no-name-from s x h4 h5))
+    pub covers-set : bitOr x u ≡ x → unionOf (kindFrom s x) (kindFrom t y) ≡ Of (kindFrom s x)
+    covers-set h = set-union ∙ ap Of (ap Objects h ∙ sym (objects-from x f))
+
+    pub widens-set : (bitOr x u ≡ x → ⊥) → Widens (kindFrom s x) (kindFrom t y)
+    widens-set h = record { union = Objects (bitOr x u); is = set-union; other = rw (objects-from x f) (other-set (bitOr x u) x h) }
+
+  pub covers-same : s ≡ t → (s ≡ 4 → ⊥) → (s ≡ 5 → ⊥) → x ≡ y → unionOf (kindFrom s x) (kindFrom t y) ≡ Of (kindFrom s x)
+  covers-same e h4 h5 h = rw (← e, ← h) (union-idem (kindFrom s x) (no-name-from s x h4 h5))
 
 -- the head's word fits
 pub params-word : {n : ℕ} {x : List ℕ} {e : ℕ} → HasParams n x e → FitsId x (3072 + e)
@@ -197,20 +228,16 @@ module _ {m : List ℕ} {c : Counts} {z : Sizes} {x : List ℕ} {h : ℕ} {m₀ 
   unfolding passArguments passTo
   params-done le f = walk-done g (λ p. parameters p f) (held f) le
 
--- one Param further: it was tried, or kept
+-- one Param further: it was passed its argument, or kept
 module _ {m : List ℕ} {c : Counts} {z : Sizes} {x : List ℕ} {h : ℕ} {m₀ : List ℕ} {q₀ : Regs} {w : List ℕ} {q : Regs} {i j : ℕ}
     (g : Walking z x 4096 (λ L p. passTo L p i) (CallIn m c i) h m₀ q₀ w q j) (lt : j < z .insns) where
-  pub param-woken : {k : Kind} {w' : List ℕ} {r : Went} {q' : Regs} {n : ℕ} {w₁ : List ℕ} {q₁ : Regs} → Passes m c z w i j k → length w' ≡ length w → Did z Every (λ L p. wakeIfWider L p k j) w q w' r → r ≡ On q'
+  pub param-passed : {w' : List ℕ} {r : Went} {q' : Regs} {n : ℕ} {w₁ : List ℕ} {q₁ : Regs} → length w' ≡ length w → Did z (CallIn m c i) (λ L p. passTo L p i j) w q w' r → r ≡ On q'
       → n ≡ getD x (4096 + j) 0 → w₁ ≡ w' → q₁ ≡ q' → Walking z x 4096 (λ L p. passTo L p i) (CallIn m c i) h m₀ q₀ w₁ q₁ n
-  param-woken a len d er en ew eq = rw (ew, eq) (walk-more g lt len (passed-to a d) er en)
+  param-passed len d er en ew eq = rw (ew, eq) (walk-more g lt len d er en)
 
-  pub param-kept : {b : 𝔹} {n : ℕ} {w₁ : List ℕ} {q₁ : Regs} → (b ≡ true → Keeps m c z w i j) → not b ≡ false
+  pub param-kept : {n : ℕ} {w₁ : List ℕ} {q₁ : Regs} → Keeps m c z w i j
       → n ≡ getD x (4096 + j) 0 → w₁ ≡ w → q₁ ≡ q → Walking z x 4096 (λ L p. passTo L p i) (CallIn m c i) h m₀ q₀ w₁ q₁ n
-  param-kept {b} f t en ew eq = rw (ew, eq) (walk-more g lt refl (kept-on (walk-ready g) (f (yes b t))) refl en)
-    where
-      yes : (b : 𝔹) → not b ≡ false → b ≡ true
-      yes true e = refl
-      yes false e = sym e
+  param-kept k en ew eq = param-passed refl (kept-on (walk-ready g) k) refl en ew eq
 
 -- ---- surely_keeps_all at its loop's head: the same walk from whatever registers, and none of them changes
 
@@ -230,7 +257,11 @@ module _ {m : List ℕ} {c : Counts} {z : Sizes} {x : List ℕ} {h : ℕ} {w : L
   })
 
   pub keeping-more : {b : 𝔹} {n : ℕ} → j < z .insns → (b ≡ true → Keeps m c z w i j) → not b ≡ false → n ≡ getD x (4096 + j) 0 → Keeping m c z x h w i n
-  keeping-more lt f t en q r = param-kept (g q r) lt f t en refl refl
+  keeping-more {b} lt f t en q r = param-kept (g q r) lt (f (sure b t)) en refl refl
+    where
+      sure : (b : 𝔹) → not b ≡ false → b ≡ true
+      sure true e = refl
+      sure false e = sym e
 
   pub keeping-done : (e : ℕ) → h ≡ getD x (3072 + e) 0 → z .insns ≤ j → (f : ℕ) → Idle z (PassIn m c z x i f e) (λ L p. passArguments L p i f) w
   keeping-done e eh le f = record { is = λ q r. params-done (g q r) e eh le f }

@@ -1,5 +1,5 @@
 -- What passing arguments relies on. Assumes nothing.
-use mathlib.Core.Bool.{true}
+use mathlib.Core.Bool.{true, false}
 use mathlib.Core.Path.{_≡_}
 use mathlib.Core.List.{List}
 use Prim.Native.Nat.{ℕ, _≤_, _<_}
@@ -7,6 +7,7 @@ use lib.ListN.{length, getD}
 use Rattle.kinds.specs.declared.Kind.{Kind}
 use Rattle.kinds.specs.declared.Kind.the-variants.{Empty}
 use Rattle.kinds.specs.declared.Joined.the-variants.{Of}
+use Rattle.kinds.specs.Kinds.{sameOf}
 use Rattle.kinds.specs.Union.{unionOf}
 use Rattle.rules.specs.Actions.{_>>=_, the}
 use Rattle.rules.specs.Lists.{has}
@@ -24,6 +25,8 @@ use Rattle.state.specs.Changes.{Did}
 use Rattle.opnds.specs.Reads.{kindIn}
 use Rattle.index.specs.Chains.{size, ChainIs}
 use Rattle.flows.specs.Tally.{FitsAt}
+use Rattle.passing.specs.declared.Covers.{Covers}
+use Rattle.passing.specs.declared.Covers.the-variants.{Yes, No, Unknown}
 
 -- what passArguments does for one Param
 unfoldable pub passTo : Limits → Program → ℕ → ℕ → Acts (Unit {0})
@@ -55,6 +58,18 @@ pub record Placed (m : List ℕ) (c : Counts) (j n : ℕ) : Type 0 where
 -- k is the kind of the argument that i has for Param j, if i is a call
 pub record Passes (m : List ℕ) (c : Counts) (z : Sizes) (w : List ℕ) (i j : ℕ) (k : Kind) : Type 0 where
   pub is : (L : Limits) (s : List ℕ) → has (about (opOf (view s m c) i) .callee) ≡ true → k ≡ kindIn (kindsOf z w) (argument L (view s m c) (placeOf L (view s m c) j) i)
+
+-- the union of a with k is a kind other than a
+pub record Widens (a k : Kind) : Type 0 where
+  pub union : Kind
+  pub is : unionOf a k ≡ Of union
+  pub other : sameOf union a ≡ false
+
+-- what an answer tells of the union of a with k
+abbrev pub Tells : Kind → Kind → Covers → Type 0
+Tells a k Yes = unionOf a k ≡ Of a
+Tells a k No = Widens a k
+Tells a k Unknown = Unit {0}
 
 -- the kind of the argument that i has for Param j leaves the kind of j as it is
 pub record Keeps (m : List ℕ) (c : Counts) (z : Sizes) (w : List ℕ) (i j : ℕ) : Type 0 where

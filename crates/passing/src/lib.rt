@@ -1,7 +1,7 @@
 // A call passes its arguments to its callee's Params.
+use flows::AsSet;
 use flows::Words;
 use kinds::Joined;
-use kinds::Kind;
 use program::Counts;
 use sets::BlockId;
 use sets::InsnId;
@@ -20,7 +20,14 @@ ghost use Rattle.state.specs.View.{Held, Ready};
 ghost use Rattle.state.specs.Changes.{Did};
 ghost use Rattle.index.specs.Chains.{ChainIs};
 ghost use Rattle.flows.specs.Flows.{wordsOf};
-ghost use Rattle.passing.specs.Passing.{Placed, HasParams, Caller, Passes, Keeps, PassIn, Idle};
+ghost use Rattle.passing.specs.Passing.{Placed, HasParams, Caller, Passes, Tells, Keeps, PassIn, Idle};
+
+// Whether a kind covers another: surely, surely not, or a quick test doesn't tell.
+enum Covers {
+    Yes,
+    No,
+    Unknown,
+}
 
 // A Param's place.
 fn place_of(p: &[usize], c: Counts, j: InsnId) -> usize
@@ -35,41 +42,65 @@ fn place_of(p: &[usize], c: Counts, j: InsnId) -> usize
     0
 }
 
-// The kind of the argument that call i has for Param j.
-fn passed_kind(p: &[usize], c: Counts, m: &[usize], z: Sizes, i: InsnId, j: InsnId) -> Kind
+// The kind of the argument that call i has for Param j, in words.
+fn passed_words(p: &[usize], c: Counts, m: &[usize], z: Sizes, i: InsnId, j: InsnId) -> Words
     requires { ⌜ Held z (now m) ⌝ }
     requires { ⌜ Caller (now p) c z (i .0) ⌝ }
     requires { ⌜ j .0 < z .insns ⌝ }
-    ensures { λ r. ⌜ Passes (now (p .entry)) c z (now (m .entry)) (i .0) (j .0) r ⌝ }
+    ensures { λ r. ⌜ Passes (now (p .entry)) c z (now (m .entry)) (i .0) (j .0) (wordsOf r) ⌝ }
 {
     let n = place_of(p, c, j);
-    let o = flows::argument(p, c, i, n);
-    opnds::kind_of(m, z, o)
+    let at = flows::argument_at(p, c, i, n);
+    flows::opnd_words(p, m, z, at)
 }
 
-// A quick test that the union of a with k is a: k is Empty, a is Any, both are sets and k's lies within a's, or they are one kind and no name.
-fn surely_covers(a: Words, k: Words) -> bool
+// A quick test that the union of a with k is a: k is Empty, a is Any, a is a set that has k's classes, or they are one kind and no name.
+pub fn surely_covers(a: Words, k: Words) -> bool
     ensures { λ r. ⌜ (r ≡ true → unionOf (wordsOf a) (wordsOf k) ≡ Joined.Of (wordsOf a)) ⌝ }
 {
+    match compare(a, k) {
+        Covers::Yes => true,
+        Covers::No => false,
+        Covers::Unknown => false,
+    }
+}
+
+// The same test, which also tells where the union is surely another kind: a is a set that lacks a class of k, and k is no name and not Any.
+fn compare(a: Words, k: Words) -> Covers
+    ensures { λ r. ⌜ Tells (wordsOf a) (wordsOf k) r ⌝ }
+{
     if k.tag == 0 {
-        return true;
+        return Covers::Yes;
     }
     if 8 < a.tag {
-        return true;
-    }
-    if a.tag != k.tag {
-        return false;
+        return Covers::Yes;
     }
     if a.tag == 8 {
-        return (a.bits | k.bits) == a.bits;
+        match flows::as_set(k) {
+            AsSet::Set(t) => {
+                if (a.bits | t as usize) == a.bits {
+                    return Covers::Yes;
+                }
+                return Covers::No;
+            }
+            AsSet::Other => {
+                return Covers::Unknown;
+            }
+        }
+    }
+    if a.tag != k.tag {
+        return Covers::Unknown;
     }
     if a.tag == 4 {
-        return false;
+        return Covers::Unknown;
     }
     if a.tag == 5 {
-        return false;
+        return Covers::Unknown;
     }
-    a.bits == k.bits
+    if a.bits == k.bits {
+        return Covers::Yes;
+    }
+    Covers::Unknown
 }
 
 // A quick test that the argument of call i for Param j leaves the Param's kind as it is.
@@ -79,14 +110,12 @@ fn surely_keeps(p: &[usize], c: Counts, m: &[usize], z: Sizes, i: InsnId, j: Ins
     requires { ⌜ j .0 < z .insns ⌝ }
     ensures { λ r. ⌜ (r ≡ true → Keeps (now (p .entry)) c z (now (m .entry)) (i .0) (j .0)) ⌝ }
 {
-    let n = place_of(p, c, j);
-    let at = flows::argument_at(p, c, i, n);
-    let k = flows::opnd_words(p, m, z, at);
+    let k = passed_words(p, c, m, z, i, j);
     let old = flows::insn_words(m, z, j);
     surely_covers(old, k)
 }
 
-// The Params of a function with this entry wait whose kinds the arguments of call i would change.
+// The Params of a function with this entry wait whose kinds the arguments of call i would change. A union is made only where the quick test doesn't tell.
 pub fn pass_arguments(
     p: &[usize],
     c: Counts,
@@ -106,14 +135,27 @@ pub fn pass_arguments(
     let mut at = q;
     let mut j = index::first_param(x, entry);
     while (j.0 as usize) < n {
-        if !surely_keeps(p, c, m, z, i, j) {
-            let k = passed_kind(p, c, m, z, i, j);
-            match state::wake_if_wider(m, z, at, k, j) {
+        let k = passed_words(p, c, m, z, i, j);
+        let old = flows::insn_words(m, z, j);
+        match compare(old, k) {
+            Covers::Yes => {}
+            Covers::No => match state::push_insn(m, z, at, j) {
                 Went::On(next) => {
                     at = next;
                 }
                 Went::No(e) => {
                     return Went::No(e);
+                }
+            },
+            Covers::Unknown => {
+                let kind = kinds::kind_from(k.tag, k.bits);
+                match state::wake_if_wider(m, z, at, kind, j) {
+                    Went::On(next) => {
+                        at = next;
+                    }
+                    Went::No(e) => {
+                        return Went::No(e);
+                    }
                 }
             }
         }

@@ -17,4 +17,5 @@ pub mod Room
 pub mod Theorem
 pub mod Loop
 pub mod Counted
+pub mod Kept
 pub mod Applied

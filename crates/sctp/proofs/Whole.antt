@@ -30,7 +30,8 @@ use Rattle.starts.specs.Starts.{Started}
 use Rattle.index.specs.Chains.{Filled}
 use Rattle.steps.specs.Stamps.{tablesOf as wordsOf, Fresh}
 use Rattle.steps.specs.Runs.{Reaching, Ran}
-use Rattle.steps.proofs.Stamps.{tables-long, back-long}
+use Rattle.settled.proofs.Stamps.{tables-long}
+use Rattle.steps.proofs.Stamps.{back-long}
 use Rattle.sctp.specs.Sctp.{tablesOf, chainsOf, Given, Chained, Aside, Begins, Outcome, Ends, Left, Analyses}
 
 -- ---- the start, then the run

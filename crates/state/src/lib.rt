@@ -64,9 +64,9 @@ pub const BITS: usize = 2048;
 
 pub const LIVE: usize = 4096;
 
-const IVARS: usize = 5120;
+pub const IVARS: usize = 5120;
 
-const IVAR_BITS: usize = 9216;
+pub const IVAR_BITS: usize = 9216;
 
 pub const CALLERS: usize = 13312;
 
@@ -160,6 +160,15 @@ pub fn add_caller(m: &mut [usize], z: Sizes, f: FunId, i: InsnId) -> bool
     }
     tables::set_bit(m, CALLERS + f.0 as usize * 32, i.0 as usize);
     true
+}
+
+// Read i has met class c.
+pub fn has_read(m: &[usize], z: Sizes, c: ClassId, i: InsnId) -> bool
+    requires { ⌜ Held z (now m) ⌝ }
+    requires { ⌜ (c .0 < z .classes) × (i .0 < z .insns) ⌝ }
+    ensures { λ r. ⌜ r ≡ marked (readsOf z (now (m .entry))) (c .0) (i .0) ⌝ }
+{
+    tables::test_bit(m, READS + c.0 as usize * 32, i.0 as usize)
 }
 
 pub fn add_read(m: &mut [usize], z: Sizes, c: ClassId, i: InsnId)

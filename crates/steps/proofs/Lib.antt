@@ -1,6 +1,6 @@
-pub mod Idle
 pub mod Stepping
 pub mod Stamps
+pub mod Kept
 pub mod Running
 pub mod Shared
 pub mod Facts

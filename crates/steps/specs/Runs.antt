@@ -2,7 +2,7 @@
 use mathlib.Core.Bool.{Bool as 𝔹, true, false, not, _&&_, _||_}
 use mathlib.Core.Path.{_≡_}
 use mathlib.Core.List.{List, _∷_}
-use Prim.Native.Nat.{ℕ, _+_, _-_, _≤_, _<_}
+use Prim.Native.Nat.{ℕ, _+_, _-_, _^_, _≤_, _<_}
 use lib.Dec.{eqb}
 use Rattle.rules.specs.Actions.{answered}
 use Rattle.rules.specs.Program.{Limits}
@@ -18,8 +18,8 @@ use Rattle.state.specs.declared.Went.{Went}
 use Rattle.state.specs.declared.Went.the-variants.{On, No}
 use Rattle.state.specs.View.{Attrs, insnsOf, view, Ready}
 use Rattle.state.specs.Changes.{went}
-use Rattle.analysed.specs.Analysed.{Suited, Fits, Reached}
-use Rattle.steps.specs.Stamps.{tablesOf, Stamped}
+use Rattle.analysed.specs.Analysed.{Suited, Analysed, Fits, Reached, Steady}
+use Rattle.steps.specs.Stamps.{tablesOf, Fronts, Stamped}
 use Rattle.steps.specs.declared.Turn.{Turn}
 
 abbrev pub insnsIn : State → List ℕ
@@ -32,6 +32,16 @@ blockNext q = (q .draining && not (eqb (q .blocks .len) 0)) || eqb (q .insns .le
 -- x is the record of the instruction in front
 abbrev pub RecordOf : List ℕ → List ℕ → Regs → Insn → Type 0
 RecordOf p m q x = (i : ℕ) (l : List ℕ) → insnsOf m q ≡ i ∷ l → x ≡ recordAt p i
+
+-- what a visit of the instruction i in front, with record x, relies on
+pub record Facing (s p : List ℕ) (c : Counts) (y u : List ℕ) (z : Sizes) (m : List ℕ) (q : Regs) (i : ℕ) (x : Insn) : Type 0 where
+  pub analysed : Analysed s p c y u z
+  pub steady : Steady s p c z m
+  pub ready : Ready z m q
+  pub some : 0 < q .insns .len
+  pub small : q .count < 2 ^ 63
+  pub record-of : RecordOf p m q x
+  pub front : Fronts z m q i
 
 -- where an instruction is next, r is the one in front
 pub record Front (z : Sizes) (m : List ℕ) (q : Regs) (r : ℕ) : Type 0 where

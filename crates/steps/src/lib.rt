@@ -1,6 +1,8 @@
 // One step of the analysis, and the run to its end over the table of instructions.
 use program::Counts;
+use program::Name;
 use records::Insn;
+use sets::InsnId;
 use state::Regs;
 use state::Sizes;
 use state::Went;
@@ -12,11 +14,11 @@ ghost use Rattle.records.specs.Records.{recordAt, Holds};
 ghost use Rattle.state.specs.View.{Ready};
 ghost use Rattle.blocks.specs.Blocks.{Stepped};
 ghost use Rattle.analysed.specs.Analysed.{Analysed, Fits, Steady};
-ghost use Rattle.steps.specs.Stamps.{tablesOf, Fresh, Fronts, Stamped, Timely};
-ghost use Rattle.steps.specs.Runs.{insnsIn, blockNext, RecordOf, Front, Reaching, Ahead, Ran, Under, Turned};
+ghost use Rattle.steps.specs.Stamps.{tablesOf, Fresh, Dated, Stamped, Visited, Timely, Passes};
+ghost use Rattle.steps.specs.Runs.{insnsIn, blockNext, RecordOf, Facing, Front, Reaching, Ahead, Ran, Under, Turned};
 
 // The words of the state's tables; behind them stands a stamp for each instruction.
-pub const STAMPS: usize = 52224;
+pub const STAMPS: usize = settled::STAMPS;
 
 // Where a run stands: it goes on, and insn is the instruction of its next step, 0 where that takes a block; or it has ended. The epoch rises whenever kinds, live blocks or callers may have changed.
 pub struct Turn {
@@ -65,7 +67,7 @@ fn block_next(q: Regs) -> bool
     (q.draining & (q.blocks.len != 0)) | (q.insns.len == 0)
 }
 
-// The instruction i in front is taken off and visited; insn is its record. Where the visit left kinds, live blocks and callers, and put nothing in, i is stamped with the epoch.
+// The instruction i in front is taken off and visited; insn is its record. Where it neither reads nor sets an attribute, and the visit left kinds, live blocks and callers, and put nothing in, i is stamped with the epoch.
 fn visit_timed(
     s: &[u8],
     p: &[usize],
@@ -79,14 +81,9 @@ fn visit_timed(
     insn: Insn,
     epoch: usize,
 ) -> Timed
-    requires { ⌜ Analysed (now s) (now p) c (now x) (now u) z ⌝ }
-    requires { ⌜ Steady (now s) (now p) c z (tablesOf (now m)) ⌝ }
-    requires { ⌜ Ready z (tablesOf (now m)) q ⌝ }
-    requires { ⌜ (0 < q .insns .len) × (q .count < 2 ^ 63) ⌝ }
-    requires { ⌜ RecordOf (now p) (tablesOf (now m)) q insn ⌝ }
-    requires { ⌜ Fronts z (tablesOf (now m)) q i ⌝ }
-    requires { ⌜ Stamped (now s) (now p) c z (now m) q epoch ⌝ }
-    ensures { λ r. ⌜ Timely (now (s .entry)) (now (p .entry)) c z (λ L P t. takeInsn L P (insnsIn t) t) (now (m .entry)) q (now (m .exit)) r ⌝ }
+    requires { ⌜ Facing (now s) (now p) c (now x) (now u) z (tablesOf (now m)) q i insn ⌝ }
+    requires { ⌜ Dated (now s) (now p) c z (now m) q epoch ⌝ }
+    ensures { λ r. ⌜ Visited (now (s .entry)) (now (p .entry)) c z (λ L P t. takeInsn L P (insnsIn t) t) (now (m .entry)) q (now (m .exit)) r ⌝ }
 {
     let tag = m[i];
     let bits = m[state::BITS + i];
@@ -109,7 +106,73 @@ fn visit_timed(
     }
 }
 
-// One entry is taken off a worklist; where it is an instruction, that is i, and insn its record. A visit of an instruction with this epoch's stamp does nothing and is left out.
+// The same; a read is then stamped with those of its receiver's classes for which it is settled, and after a setting that woke reads only those stay stamped whose kinds cover the kind that was set.
+fn visit_insn(
+    s: &[u8],
+    p: &[usize],
+    c: Counts,
+    x: &[usize],
+    u: &[usize],
+    m: &mut [usize],
+    z: Sizes,
+    q: Regs,
+    i: usize,
+    insn: Insn,
+    epoch: usize,
+) -> Timed
+    requires { ⌜ Facing (now s) (now p) c (now x) (now u) z (tablesOf (now m)) q i insn ⌝ }
+    requires { ⌜ Stamped (now s) (now p) c z (now m) q epoch ⌝ }
+    ensures { λ r. ⌜ Timely (now (s .entry)) (now (p .entry)) c z (λ L P t. takeInsn L P (insnsIn t) t) (now (m .entry)) q (now (m .exit)) r ⌝ }
+{
+    let k = settled::decisive_words(p, c, &m[..STAMPS], z, insn);
+    let t = visit_timed(s, p, c, x, u, m, z, q, i, insn, epoch);
+    let went = t.went;
+    match went {
+        Went::On(r) => {
+            if insn.tag == 13 {
+                let n = Name {
+                    start: insn.x,
+                    len: insn.y,
+                };
+                m[STAMPS + i] = settled::stamp(s, p, c, &m[..STAMPS], z, n, InsnId(i as u32), k);
+                return t;
+            }
+            if (13 < insn.tag) & (r.insns.len + 1 != q.insns.len) {
+                settled::unsettle(p, m, z, k);
+                return t;
+            }
+            t
+        }
+        Went::No(n) => t,
+    }
+}
+
+// Whether a visit of the instruction i in front surely does nothing: it is stamped with this epoch, or is a read that is settled for its receiver's classes.
+fn idle(
+    s: &[u8],
+    p: &[usize],
+    c: Counts,
+    x: &[usize],
+    u: &[usize],
+    m: &[usize],
+    z: Sizes,
+    q: Regs,
+    i: usize,
+    insn: Insn,
+    epoch: usize,
+) -> bool
+    requires { ⌜ Facing (now s) (now p) c (now x) (now u) z (tablesOf (now m)) q i insn ⌝ }
+    requires { ⌜ Stamped (now s) (now p) c z (now m) q epoch ⌝ }
+    ensures { λ r. ⌜ (r ≡ true → Passes (now (s .entry)) (now (p .entry)) c z (tablesOf (now (m .entry))) i) ⌝ }
+{
+    if insn.tag == 13 {
+        let o = settled::operand_words(p, c, &m[..STAMPS], z, insn, 0);
+        return (o.tag == 8) & (m[STAMPS + i] == o.bits);
+    }
+    (insn.tag < 13) & (m[STAMPS + i] == epoch)
+}
+
+// One entry is taken off a worklist; where it is an instruction, that is i, and insn its record. A visit that surely does nothing is left out.
 fn step(
     s: &[u8],
     p: &[usize],
@@ -139,13 +202,13 @@ fn step(
             epoch: epoch + 1,
         };
     }
-    if m[STAMPS + i] == epoch {
+    if idle(s, p, c, x, u, m, z, q, i, insn, epoch) {
         let t = state::take_insn(&m[..STAMPS], z, q);
         let next = t.q;
         let went = Went::On(next);
         return Timed { went, epoch };
     }
-    visit_timed(s, p, c, x, u, m, z, q, i, insn, epoch)
+    visit_insn(s, p, c, x, u, m, z, q, i, insn, epoch)
 }
 
 // The instruction that the next step takes; 0 where it takes a block.

@@ -1,5 +1,5 @@
 use borrow.Author.Needs.{needs}
-use Rattle.passing.proofs.Passes.{passed-to, params-word, params-fall, params-next, params-stop, params-done, param-woken, param-kept}
+use Rattle.passing.proofs.Passes.{passes-is, passed-to, pushed-to, surely-kept, params-word, params-fall, params-next, params-stop, params-done, param-passed, param-kept}
 use Rattle.passing.specs.Passing.{passTo, CallIn}
 use Rattle.blocks.proofs.Walk.{Walking, walk-start, walk-ready, walk-below}
 use mathlib.Core.Logic.{⊎-elim}
@@ -14,22 +14,45 @@ abbrev μ-loop : tie.MeasureT-loop
 μ-loop p c x m₀ z i n at₀ j₀ m at j = z .insns - j .0
 
 first-param-requires : tie.Need-first-param-requires Inv-loop μ-loop
-first-param-requires c κs = ((c .before .before .before .pre .1 .1 .long, c .before .before .before .pre .1 .1 .below), params-word (c .before .before .before .pre .1 .1))
+first-param-requires c κs =
+    let params = c .before .before .before .pre .1 .1 in
+    ((params .long, params .below), params-word params)
 
 loop-holds : tie.Need-loop-holds Inv-loop μ-loop
-loop-holds c = walk-start (c .before .before .before .before .args .z) (c .before .before .before .before .args .x .now) 4096 (λ L p. passTo L p (c .before .before .before .before .args .i .0)) (CallIn (c .before .before .before .before .args .p .now) (c .before .before .before .before .args .c) (c .before .before .before .before .args .i .0)) (c .before .before .before .before .args .m .now) (c .before .before .before .before .args .q) _ (c .before .before .before .before .pre .0)
+loop-holds c =
+    let start = c .before .before .before .before in
+    let a = start .args in
+    walk-start (a .z) (a .x .now) 4096 (λ L p. passTo L p (a .i .0)) (CallIn (a .p .now) (a .c) (a .i .0)) (a .m .now) (a .q) _ (start .pre .0)
 
 cast-if1 : tie.Need-cast-if1 Inv-loop μ-loop
 cast-if1 c = search needs
 
-surely-keeps-requires : tie.Need-surely-keeps-requires Inv-loop μ-loop
-surely-keeps-requires c κs = (walk-ready (c .before .before .before .loop .inv) .held, (c .before .before .before .before .before .before .before .before .pre .1 .0, c .before .if1 .taken))
+passed-words-requires : tie.Need-passed-words-requires Inv-loop μ-loop
+passed-words-requires c κs =
+    let turn = c .before in
+    let head = turn .before .before in
+    let start = head .before .before .before .before .before in
+    (walk-ready (head .loop .inv) .held, (start .pre .1 .0, turn .if1 .taken))
 
-passed-kind-requires : tie.Need-passed-kind-requires Inv-loop μ-loop
-passed-kind-requires c κs = (walk-ready (c .before .before .before .before .before .before .loop .inv) .held, (c .before .before .before .before .before .before .before .before .before .before .before .pre .1 .0, c .before .before .before .before .if1 .taken))
+insn-words-requires : tie.Need-insn-words-requires Inv-loop μ-loop
+insn-words-requires c κs =
+    let turn = c .before .before .before in
+    (walk-ready (turn .before .before .loop .inv) .held, turn .if1 .taken)
 
-wake-if-wider-requires : tie.Need-wake-if-wider-requires Inv-loop μ-loop
-wake-if-wider-requires c κs = (walk-ready (c .before .before .before .before .before .before .before .before .loop .inv), c .before .before .before .before .before .before .if1 .taken)
+compare-requires : tie.Need-compare-requires Inv-loop μ-loop
+compare-requires c κs = search needs
+
+enum-told : tie.Need-enum-told Inv-loop μ-loop
+enum-told c = search needs
+
+enum-told-2 : tie.Need-enum-told-2 Inv-loop μ-loop
+enum-told-2 c = search needs
+
+push-insn-requires : tie.Need-push-insn-requires Inv-loop μ-loop
+push-insn-requires c κs =
+    let compared = c .before .before .before in
+    let turn = compared .before .before .before .before .before in
+    (walk-ready (turn .before .before .loop .inv), turn .if1 .taken)
 
 enum-known-next : tie.Need-enum-known-next Inv-loop μ-loop
 enum-known-next c = search needs
@@ -41,26 +64,90 @@ same-length : tie.Need-same-length Inv-loop μ-loop
 same-length c = search needs
 
 returns : tie.Need-returns Inv-loop μ-loop
-returns c = params-stop (c .before .before .before .before .before .before .before .before .before .before .before .before .before .before .loop .inv) (c .before .before .before .before .before .before .before .before .before .before .before .before .before .before .before .before .before .before .before .args .entry .0) (c .before .before .before .before .before .before .before .before .before .before .before .before .before .before .before .first-param .ensures) (c .before .before .before .before .before .before .before .before .before .before .before .before .if1 .taken) (passed-to (c .before .before .before .before .before .before .before .passed-kind .ensures) (c .before .before .before .before .before .wake-if-wider .ensures)) (c .before .e .given .1)
+returns c =
+    let pushed = c .before .before .before .before .before in
+    let told = pushed .before .before in
+    let compared = told .before .before in
+    let turn = compared .before .before .before .before .before in
+    let head = turn .before .before in
+    let start = head .before .before .before .before .before in
+    params-stop (head .loop .inv) (start .args .entry .0) (head .before .first-param .ensures) (turn .if1 .taken)
+    (pushed-to (compared .before .before .before .passed-words .ensures) (compared .before .insn-words .ensures) (rw (told .enum-told2 .given .1) at (compared .compare .ensures))
+    (pushed .push-insn .ensures))
+    (c .before .e .given .1)
 
-next-param-requires : tie.Need-next-param-requires Inv-loop μ-loop
-next-param-requires c κs = ((c .before .before .before .before .before .before .before .before .before .before .pre .1 .1 .long, walk-below (c .before .before .before .before .before .loop .inv) (c .before .before .before .if1 .taken)), params-next (c .before .before .before .before .before .loop .inv) (c .before .before .before .before .before .before .before .before .before .before .args .entry .0) (c .before .before .before .before .before .before .first-param .ensures) (c .before .before .before .before .before .before .before .before .before .before .pre .1 .1) (c .before .before .before .if1 .taken))
+enum-told-3 : tie.Need-enum-told-3 Inv-loop μ-loop
+enum-told-3 c = search needs
 
-loop-less : tie.Need-loop-less Inv-loop μ-loop
-loop-less c = params-fall (c .before .before .before .before .before .before .loop .inv) (c .before .before .before .before .before .before .before .before .before .before .before .args .entry .0) (c .before .before .before .before .before .before .before .first-param .ensures) (c .before .before .before .before .before .before .before .before .before .before .before .pre .1 .1) (c .before .before .before .before .if1 .taken) (c .next-param .ensures)
+kind-from-requires : tie.Need-kind-from-requires Inv-loop μ-loop
+kind-from-requires c κs = search needs
 
-loop-again : tie.Need-loop-again Inv-loop μ-loop
-loop-again c =
-    ⊎-elim
-    (λ w. param-woken (c .before .before .before .before .before .before .loop .inv) (c .before .before .before .before .if1 .taken) (w .2 .ensures) (w .4 .kept .0) (w .4 .ensures) (w .8 .given .1) (c .next-param .ensures) (w .10) (w .11))
-    (λ w. param-kept (c .before .before .before .before .before .before .loop .inv) (c .before .before .before .before .if1 .taken) (c .before .before .surely-keeps .ensures) (w .0 .left) (c .next-param .ensures) (w .1) (w .2))
-    (c .before .if2 .came)
+wake-if-wider-requires : tie.Need-wake-if-wider-requires Inv-loop μ-loop
+wake-if-wider-requires c κs =
+    let compared = c .before .before .before .before in
+    let turn = compared .before .before .before .before .before in
+    (walk-ready (turn .before .before .loop .inv), turn .if1 .taken)
+
+enum-known-next-2 : tie.Need-enum-known-next-2 Inv-loop μ-loop
+enum-known-next-2 c = search needs
+
+enum-known-e-2 : tie.Need-enum-known-e-2 Inv-loop μ-loop
+enum-known-e-2 c = search needs
 
 same-length-2 : tie.Need-same-length-2 Inv-loop μ-loop
 same-length-2 c = search needs
 
 returns-2 : tie.Need-returns-2 Inv-loop μ-loop
-returns-2 c = params-done (c .before .before .loop .inv) (c .before .before .before .before .before .before .before .args .entry .0) (c .before .before .before .first-param .ensures) (c .if1 .left)
+returns-2 c =
+    let woken = c .before .before .before .before .before in
+    let made = woken .before .before in
+    let compared = made .before .before .before in
+    let turn = compared .before .before .before .before .before in
+    let head = turn .before .before in
+    let start = head .before .before .before .before .before in
+    params-stop (head .loop .inv) (start .args .entry .0) (head .before .first-param .ensures) (turn .if1 .taken)
+    (passed-to (passes-is (compared .before .before .before .passed-words .ensures) (made .kind-from .ensures)) (woken .wake-if-wider .ensures)) (c .before .e2 .given .1)
+
+next-param-requires : tie.Need-next-param-requires Inv-loop μ-loop
+next-param-requires c κs =
+    let turn = c .before .before .before .before .before .before in
+    let head = turn .before .before in
+    let start = head .before .before .before .before .before in
+    let params = start .pre .1 .1 in (
+      (params .long, walk-below (head .loop .inv) (turn .if1 .taken)),
+      params-next (head .loop .inv) (start .args .entry .0) (head .before .first-param .ensures) params (turn .if1 .taken),
+    )
+
+loop-less : tie.Need-loop-less Inv-loop μ-loop
+loop-less c =
+    let turn = c .before .before .before .before .before .before .before in
+    let head = turn .before .before in
+    let start = head .before .before .before .before .before in
+    params-fall (head .loop .inv) (start .args .entry .0) (head .before .first-param .ensures) (start .pre .1 .1) (turn .if1 .taken) (c .next-param .ensures)
+
+loop-again : tie.Need-loop-again Inv-loop μ-loop
+loop-again c =
+    let compared = c .before .before in
+    let passed = compared .before .before .before .passed-words .ensures in
+    let old = compared .before .insn-words .ensures in
+    let turn = compared .before .before .before .before .before in
+    let walk = turn .before .before .loop .inv in
+    let next = c .next-param .ensures in
+    ⊎-elim
+    (λ w. param-kept walk (turn .if1 .taken) (surely-kept passed old (rw (w .1 .given .1) at (compared .compare .ensures))) next (w .2) (w .3))
+    (⊎-elim
+    (λ w. param-passed walk (turn .if1 .taken) (w .3 .kept .0) (pushed-to passed old (rw (w .1 .given .1) at (compared .compare .ensures)) (w .3 .ensures)) (w .7 .given .1) next (w .9) (w .10))
+    (λ w. param-passed walk (turn .if1 .taken) (w .4 .kept .0) (passed-to (passes-is passed (w .2 .ensures)) (w .4 .ensures)) (w .8 .given .1) next (w .10) (w .11)))
+    (c .before .match .came)
+
+same-length-3 : tie.Need-same-length-3 Inv-loop μ-loop
+same-length-3 c = search needs
+
+returns-3 : tie.Need-returns-3 Inv-loop μ-loop
+returns-3 c =
+    let head = c .before .before in
+    let start = head .before .before .before .before .before in
+    params-done (head .loop .inv) (start .args .entry .0) (head .before .first-param .ensures) (c .if1 .left)
 
 pub pass-arguments-spec : {M : Type 1} → statement M
 pass-arguments-spec =
@@ -71,15 +158,25 @@ pass-arguments-spec =
     first-param-requires
     loop-holds
     cast-if1
-    surely-keeps-requires
-    passed-kind-requires
-    wake-if-wider-requires
+    passed-words-requires
+    insn-words-requires
+    compare-requires
+    enum-told
+    enum-told-2
+    push-insn-requires
     enum-known-next
     enum-known-e
     same-length
     returns
+    enum-told-3
+    kind-from-requires
+    wake-if-wider-requires
+    enum-known-next-2
+    enum-known-e-2
+    same-length-2
+    returns-2
     next-param-requires
     loop-less
     loop-again
-    same-length-2
-    returns-2)
+    same-length-3
+    returns-3)

@@ -17,10 +17,10 @@ enum-known-went : tie.Need-enum-known-went
 enum-known-went c = search needs
 
 slice-reshare-prefix-ahead : tie.Need-slice-reshare-prefix-ahead
-slice-reshare-prefix-ahead c = omega (arith, turn-stamped (c .before .before .before .before .before .before .before .before .before .before .before .before .before .before .before .pre .1 .0) (c .before .before .before .before .before .before .before .before .w .given .1) (c .before .before .before .before .before .before .before .before .before .before .before .before .before .before .before .pre .1 .1 .0) (c .before .before .before .before .before .before .before .before .before .before .before .before .before .before .before .pre .0) .long, c .before .before .before .before .before .step .kept .1 .1 .1 .1 .1 .0)
+slice-reshare-prefix-ahead c = omega (arith, turn-stamped (c .before .before .before .before .before .before .before .before .before .before .before .before .before .before .before .pre .1 .0) (c .before .before .before .before .before .before .before .before .w .given .1) (c .before .before .before .before .before .before .before .before .before .before .before .before .before .before .before .pre .1 .1 .0) (c .before .before .before .before .before .before .before .before .before .before .before .before .before .before .before .pre .0) .dated .long, c .before .before .before .before .before .step .kept .1 .1 .1 .1 .1 .0)
 
 slice-aggregate-ahead : tie.Need-slice-aggregate-ahead
-slice-aggregate-ahead c = sym (length-take-le 52224 (c .before .before .before .before .before .before .step .last .1 .1 .1 .1 .1 .0) (omega (arith, turn-stamped (c .before .before .before .before .before .before .before .before .before .before .before .before .before .before .before .before .pre .1 .0) (c .before .before .before .before .before .before .before .before .before .w .given .1) (c .before .before .before .before .before .before .before .before .before .before .before .before .before .before .before .before .pre .1 .1 .0) (c .before .before .before .before .before .before .before .before .before .before .before .before .before .before .before .before .pre .0) .long, c .before .before .before .before .before .before .step .kept .1 .1 .1 .1 .1 .0)))
+slice-aggregate-ahead c = sym (length-take-le 52224 (c .before .before .before .before .before .before .step .last .1 .1 .1 .1 .1 .0) (omega (arith, turn-stamped (c .before .before .before .before .before .before .before .before .before .before .before .before .before .before .before .before .pre .1 .0) (c .before .before .before .before .before .before .before .before .before .w .given .1) (c .before .before .before .before .before .before .before .before .before .before .before .before .before .before .before .before .pre .1 .1 .0) (c .before .before .before .before .before .before .before .before .before .before .before .before .before .before .before .before .pre .0) .dated .long, c .before .before .before .before .before .before .step .kept .1 .1 .1 .1 .1 .0)))
 
 ahead-requires : tie.Need-ahead-requires
 ahead-requires c κs = (turn-on (c .before .before .before .before .before .before .before .before .before .before .before .before .before .before .before .before .pre .1 .0) (c .before .before .before .before .before .before .before .before .before .w .given .1) (c .before .before .before .before .before .before .before .before .before .before .before .before .before .before .before .before .pre .1 .1 .0) (c .before .before .before .before .before .before .before .before .before .before .before .before .before .before .before .before .pre .0) (c .before .before .before .before .before .before .step .ensures) (c .before .before .went .given .1) .ready, going-count (turn-on (c .before .before .before .before .before .before .before .before .before .before .before .before .before .before .before .before .pre .1 .0) (c .before .before .before .before .before .before .before .before .before .w .given .1) (c .before .before .before .before .before .before .before .before .before .before .before .before .before .before .before .before .pre .1 .1 .0) (c .before .before .before .before .before .before .before .before .before .before .before .before .before .before .before .before .pre .0) (c .before .before .before .before .before .before .step .ensures) (c .before .before .went .given .1)) (c .before .before .before .before .before .before .before .before .before .before .before .before .before .before .before .before .pre .0))

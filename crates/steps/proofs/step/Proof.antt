@@ -1,9 +1,9 @@
 -- `steps::step` meets its contract. Assumes nothing.
+use Rattle.steps.proofs.Stamps.{skipped}
+use Rattle.steps.proofs.Stepping.{code-held, code-fits, some-block}
+use Rattle.steps.proofs.Kept.{facing, timely-insn, timely-block}
 use native.Mathlib.Omega.{arith}
-use mathlib.Core.Path.{sym, _∙_}
 use Rattle.steps.specs.Stamps.{tablesOf}
-use Rattle.steps.proofs.Stepping.{code-held, code-fits, some-block, some-insn}
-use Rattle.steps.proofs.Stamps.{front-of, skipped, timely-insn, timely-block}
 use borrow.Author.Needs.{needs}
 use Rattle.steps.proofs.step.Statement.{statement}
 use Rattle.steps.proofs.step.Tie as tie
@@ -18,25 +18,30 @@ slice-aggregate-step-block : tie.Need-slice-aggregate-step-block
 slice-aggregate-step-block c = search needs
 
 step-block-requires : tie.Need-step-block-requires
-step-block-requires c κs = (c .before .before .before .before .before .before .before .before .pre .1 .1 .0, (code-held (c .before .before .before .before .before .before .before .before .pre .0) (c .before .before .before .before .before .before .before .before .pre .1 .1 .0), (some-block (c .before .before .before .before .before .before .before .before .args .z) (tablesOf (c .before .before .before .before .before .before .before .before .args .m .now)) (c .before .before .before .before .before .before .before .before .args .q) (c .before .before .block-next .ensures) (c .before .if1 .taken) (c .before .before .before .before .before .before .before .before .pre .1 .1 .1 .0 .0), c .before .before .before .before .before .before .before .before .pre .1 .1 .1 .0 .1)))
+step-block-requires c κs =
+    let next = c .before .before in
+    let start = next .before .before .before .before .before .before in
+    (start .pre .1 .1 .0, (code-held (start .pre .0) (start .pre .1 .1 .0), (some-block (start .args .z) (tablesOf (start .args .m .now)) (start .args .q) (next .block-next .ensures) (c .before .if1 .taken) (start .pre .1 .1 .1 .0 .0), start .pre .1 .1 .1 .0 .1)))
 
 add-t19 : tie.Need-add-t19
-add-t19 c = omega (arith, c .before .before .before .before .before .before .before .before .before .before .before .pre .1 .1 .1 .1 .1 .1 .slow, c .before .before .before .before .before .before .before .before .before .before .before .pre .1 .1 .1 .0 .1)
+add-t19 c = let start = c .before .before .before .before .before .before .before .before .before .before .before in omega (arith, start .pre .1 .1 .1 .1 .1 .1 .dated .slow, start .pre .1 .1 .1 .0 .1)
 
 same-length : tie.Need-same-length
 same-length c = search needs
 
 returns : tie.Need-returns
-returns c = timely-block (c .before .before .before .before .before .block-next .ensures) (c .before .before .before .before .if1 .taken) (code-fits (c .before .before .before .before .before .before .before .before .before .before .before .pre .0) (c .before .before .before .before .before .before .before .before .before .before .before .pre .1 .1 .0)) (c .before .before .before .before .before .before .before .before .before .before .before .pre .1 .1 .1 .1 .1 .1) (c .before .before .step-block .kept .0) (c .before .before .step-block .ensures)
+returns c =
+    let next = c .before .before .before .before .before in
+    let start = next .before .before .before .before .before .before in
+    timely-block (next .block-next .ensures) (c .before .before .before .before .if1 .taken) (start .pre .0) (code-fits (start .pre .0) (start .pre .1 .1 .0)) (start .pre .1 .1 .1 .1 .1 .1) (c .before .before .step-block .kept .0) (c .before .before .step-block .ensures)
 
-add-if2 : tie.Need-add-if2
-add-if2 c = search needs
-
-mul-if2 : tie.Need-mul-if2
-mul-if2 c = search needs
-
-slice-read-if2 : tie.Need-slice-read-if2
-slice-read-if2 c = search needs
+idle-requires : tie.Need-idle-requires
+idle-requires c κs =
+    let next = c .before .before in
+    let start = next .before .before .before .before .before .before in
+    let front = start .pre .1 .1 .1 in
+    let faces = facing (start .pre .0) (start .pre .1 .0) (start .pre .1 .1 .0) (front .0 .1) (front .1 .0) (front .1 .1 .0) (next .block-next .ensures) (c .before .if1 .left) in
+    (faces, front .1 .1 .1)
 
 slice-reshare-prefix-take-insn : tie.Need-slice-reshare-prefix-take-insn
 slice-reshare-prefix-take-insn c = search needs
@@ -45,22 +50,37 @@ slice-aggregate-take-insn : tie.Need-slice-aggregate-take-insn
 slice-aggregate-take-insn c = search needs
 
 take-insn-requires : tie.Need-take-insn-requires
-take-insn-requires c κs = (c .before .before .before .before .before .before .before .before .before .before .pre .1 .1 .0, (some-insn (c .before .before .before .before .before .before .before .before .before .before .args .z) (tablesOf (c .before .before .before .before .before .before .before .before .before .before .args .m .now)) (c .before .before .before .before .before .before .before .before .before .before .args .q) (c .before .before .before .before .block-next .ensures) (c .before .before .before .if1 .left), c .before .before .before .before .before .before .before .before .before .before .pre .1 .1 .1 .0 .1))
+take-insn-requires c κs =
+    let next = c .before .before .before .before .before in
+    let start = next .before .before .before .before .before .before in
+    let front = start .pre .1 .1 .1 in
+    let faces = facing (start .pre .0) (start .pre .1 .0) (start .pre .1 .1 .0) (front .0 .1) (front .1 .0) (front .1 .1 .0) (next .block-next .ensures) (c .before .before .before .before .if1 .left) in
+    (faces .ready, (faces .some, faces .small))
 
 same-length-2 : tie.Need-same-length-2
 same-length-2 c = search needs
 
 returns-2 : tie.Need-returns-2
-returns-2 c = timely-insn (c .before .before .before .before .before .before .block-next .ensures) (c .before .before .before .before .before .if1 .left) (skipped (c .before .before .before .before .before .before .before .before .before .before .before .before .pre .1 .1 .1 .1 .1 .1) (c .before .before .before .if2 .taken) (front-of (c .before .before .before .before .before .before .before .before .before .before .before .before .pre .1 .1 .1 .1 .1 .0) (sym (c .before .before .before .before .before .before .block-next .ensures) ∙ c .before .before .before .before .before .if1 .left)) (c .before .take-insn .ensures))
+returns-2 c =
+    let next = c .before .before .before .before .before .before .before in
+    let start = next .before .before .before .before .before .before in
+    let front = start .pre .1 .1 .1 in
+    let faces = facing (start .pre .0) (start .pre .1 .0) (start .pre .1 .1 .0) (front .0 .1) (front .1 .0) (front .1 .1 .0) (next .block-next .ensures) (c .before .before .before .before .before .before .if1 .left) in
+    timely-insn (next .block-next .ensures) (c .before .before .before .before .before .before .if1 .left) (skipped (front .1 .1 .1) (c .before .before .before .before .idle .ensures (c .before .before .before .if2 .taken)) (faces .front) (c .before .take-insn .ensures))
 
-visit-timed-requires : tie.Need-visit-timed-requires
-visit-timed-requires c κs = (c .before .before .before .before .before .before .before .before .before .before .pre .0, (c .before .before .before .before .before .before .before .before .before .before .pre .1 .0, (c .before .before .before .before .before .before .before .before .before .before .pre .1 .1 .0, ((some-insn (c .before .before .before .before .before .before .before .before .before .before .args .z) (tablesOf (c .before .before .before .before .before .before .before .before .before .before .args .m .now)) (c .before .before .before .before .before .before .before .before .before .before .args .q) (c .before .before .before .before .block-next .ensures) (c .before .before .before .if1 .left), c .before .before .before .before .before .before .before .before .before .before .pre .1 .1 .1 .0 .1), (c .before .before .before .before .before .before .before .before .before .before .pre .1 .1 .1 .1 .0 (sym (c .before .before .before .before .block-next .ensures) ∙ c .before .before .before .if1 .left), (front-of (c .before .before .before .before .before .before .before .before .before .before .pre .1 .1 .1 .1 .1 .0) (sym (c .before .before .before .before .block-next .ensures) ∙ c .before .before .before .if1 .left), c .before .before .before .before .before .before .before .before .before .before .pre .1 .1 .1 .1 .1 .1))))))
+visit-insn-requires : tie.Need-visit-insn-requires
+visit-insn-requires c κs =
+    let next = c .before .before .before .before .before in
+    let start = next .before .before .before .before .before .before in
+    let front = start .pre .1 .1 .1 in
+    let faces = facing (start .pre .0) (start .pre .1 .0) (start .pre .1 .1 .0) (front .0 .1) (front .1 .0) (front .1 .1 .0) (next .block-next .ensures) (c .before .before .before .before .if1 .left) in
+    (faces, front .1 .1 .1)
 
 same-length-3 : tie.Need-same-length-3
 same-length-3 c = search needs
 
 returns-3 : tie.Need-returns-3
-returns-3 c = timely-insn (c .before .before .before .before .before .before .before .block-next .ensures) (c .before .before .before .before .before .before .if1 .left) (c .before .before .visit-timed .ensures)
+returns-3 c = timely-insn (c .before .before .before .before .before .before .before .before .block-next .ensures) (c .before .before .before .before .before .before .before .if1 .left) (c .before .before .visit-insn .ensures)
 
 pub step-spec : {M : Type 1} → statement M
 step-spec =
@@ -73,14 +93,12 @@ step-spec =
     add-t19
     same-length
     returns
-    add-if2
-    mul-if2
-    slice-read-if2
+    idle-requires
     slice-reshare-prefix-take-insn
     slice-aggregate-take-insn
     take-insn-requires
     same-length-2
     returns-2
-    visit-timed-requires
+    visit-insn-requires
     same-length-3
     returns-3)

@@ -1,0 +1,4 @@
+pub mod Settling
+pub mod Operands
+pub mod Stamps
+pub mod Sorts
