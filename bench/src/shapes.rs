@@ -172,6 +172,7 @@ pub fn worst() -> Vec<(&'static str, String)> {
         ("many returns", returns(65, 1, 41, 269, 115)),
         ("many callers", callers(65, 3, 1_600, 0, 0)),
         ("ring of 543", wide_ring(543, 59, 8, 1_786, 17)),
-        ("largest count found", chain(20, 73, 3, 65, 0, 20)),
+        ("reads and settings mixed", mixed(&[60, 4, 6, 0, 24, 480, 17, 99, 18, 11, 34, 0])),
+        ("largest count found", chain(20, 73, 3, 65, 0, 50)),
     ]
 }

@@ -15,7 +15,8 @@ use Rattle.memory.specs.Memory.{filled}
 use Rattle.memory.proofs.Laws.{filled-length, filled-at}
 use Rattle.answer.specs.Layout.{functionsMost, blocksMost, instructionsMost, usesMost, rowWords, liveAt, tagsAt, payloadsAt, startsAt, usersAt, callersAt, answerLen}
 use Rattle.answer.specs.Record.{Record, Legal}
-use Rattle.answer.specs.Image.{startsFrom, wordsOf, tablesOf, imageOf, listed, functionsIn, blocksIn, instructionsIn, countIn, liveIn, tagIn, payloadIn, startIn, userIn, wordIn, callsIn, usersIn, recordIn, WellFormed}
+use Rattle.answer.specs.Image.{startsFrom, wordsOf, tablesOf, imageOf, listed, functionsIn, blocksIn, instructionsIn, countIn, liveIn, tagIn, payloadIn, startIn, userIn, wordIn, callsIn}
+use Rattle.answer.specs.Image.{usersIn, recordIn, WellFormed}
 use Rattle.answer.proofs.Laws.{in-table, listed-is, starts-length, starts-at, bit-back, words-length, words-bit, rows-length, map-at, front-most, front-more}
 
 module _ (r : Record) (ok : Legal r) where

@@ -3,7 +3,8 @@ use mathlib.Core.Bool.{Bool as 𝔹, true, false, not}
 use mathlib.Core.Path.{_≡_, refl, sym, ap, ap₂, _∙_}
 use mathlib.Core.List.{List, [], _∷_, _++_, map, append-nil, append-assoc}
 use Prim.Native.Nat.{ℕ, zero, suc, _+_, _-_, _*_, _/_, _%_, _^_, _≤_, _<_}
-use native.Mathlib.Nat.{not-suc-le-zero, le-of-suc-le-suc, div-one, zero-div, div-div-eq-div-mul, pow-succ', add-mul-div-left, add-mul-mod-self-left, div-eq-of-lt, mod-eq-of-lt, add-div-left, add-mod-left, add-comm}
+use native.Mathlib.Nat.{not-suc-le-zero, le-of-suc-le-suc, div-one, zero-div, div-div-eq-div-mul, pow-succ', add-mul-div-left, add-mul-mod-self-left, div-eq-of-lt, mod-eq-of-lt, add-div-left}
+use native.Mathlib.Nat.{add-mod-left, add-comm}
 use native.Mathlib.Decide.{decLt}
 use native.Mathlib.Numerals.{add-one}
 use native.Mathlib.Omega.{arith}
@@ -18,9 +19,6 @@ use Rattle.answer.specs.Layout.{answerLen}
 use Rattle.answer.specs.Image.{startsFrom, wordOf, wordsOf, listed}
 
 -- ---- the functions
-
-pub kind-read : {t u x y : ℕ} {r : Kind} → t ≡ u → x ≡ y → r ≡ kindFrom t x → r ≡ kindFrom u y
-kind-read e f h = rw (← e, ← f) h
 
 pub totals-set : (a : List ℕ) (f b i c : ℕ) → length a ≡ answerLen → set (set (set (set a 0 f) 1 b) 2 i) 3 c ≡ over 0 (f ∷ b ∷ i ∷ c ∷ []) a
 unfolding over
@@ -164,10 +162,6 @@ front-table (t ∷ ts) zero h = append-nil t
 front-table (t ∷ ts) (suc k) h = rw (front-table ts k (le-of-suc-le-suc h), append-assoc)
 
 -- ---- tables that are known by their numbers: what publishing has to know of the tables that it copies
-
-pub starts-known : (s : List ℕ) (ls : List (List ℕ)) → length s ≡ suc (length ls) → ((i : ℕ) → i ≤ length ls → getD s i 0 ≡ length (concat (take i ls))) → s ≡ startsFrom 0 ls
-starts-known s ls e h =
-    ext-getD 0 s (startsFrom 0 ls) (e ∙ sym (starts-length 0 ls)) (λ i lt. h i (omega arith) ∙ sym (starts-at 0 ls i (omega arith) ∙ (omega arith)))
 
 module _ (k : ℕ) where
   pub rows-known : (t : List ℕ) (rows : List (List 𝔹)) → length t ≡ length rows * k → ((j : ℕ) → j < length t → getD t j 0 < 2 ^ 64)

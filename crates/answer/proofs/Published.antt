@@ -20,7 +20,8 @@ unfolding opened zeros filled startsFrom wordOf wordsOf imageOf
 listing-words = refl
 
 pub ration-words :
-    answerWords (analyze limits (bytes "class Cow attr_accessor :fresh def initialize(fresh) @fresh = fresh end end def ration(cow) if cow.fresh return 9 else return 4 end end def main() return ration(Cow.new(true)) end"))
+    answerWords
+    (analyze limits (bytes "class Cow attr_accessor :fresh def initialize(fresh) @fresh = fresh end end def ration(cow) if cow.fresh return 9 else return 4 end end def main() return ration(Cow.new(true)) end"))
     ≡ (22788, ration)
 unfolding opened zeros filled startsFrom wordOf wordsOf imageOf
 ration-words = refl

@@ -13,7 +13,8 @@ use borrow.Author.Tests.{leb-true, ne-eqb}
 use Rattle.kinds.specs.declared.Kind.the-variants.{Empty}
 use Rattle.kinds.specs.Kinds.{bitOf, fitsOf}
 use Rattle.rules.specs.Lists.{consIf, any, all, sum, placesFrom, concat}
-use Rattle.rules.specs.Program.{limits, Opnd, Const, Insn, Jump, IfTrue, Return, Static, Dynamic, Op, Ends, Send, Compute, Phi, Param, SelfParam, New, GetIvar, SetIvar, Instruction, Class, Program, sameOpnd, about, listedCount}
+use Rattle.rules.specs.Program.{limits, Opnd, Const, Insn, Jump, IfTrue, Return, Static, Dynamic, Op, Ends, Send, Compute, Phi, Param, SelfParam, New, GetIvar, SetIvar, Instruction, Class, Program}
+use Rattle.rules.specs.Program.{sameOpnd, about, listedCount}
 use Rattle.rules.specs.Finished.{withinLimits}
 use Rattle.rules.specs.Machine.{State}
 use Rattle.rules.specs.Uses.{uses}
@@ -108,7 +109,8 @@ used-most [] i n = omega (arith, sum-none i n)
 used-most (o ∷ l) i n =
     omega (
       arith,
-      sum-less (λ j. bitOf (sameOpnd (Insn j) o || any (sameOpnd (Insn j)) l)) (λ j. bitOf (sameOpnd (Insn j) o) + bitOf (any (sameOpnd (Insn j)) l)) i n (λ j. either-bit (sameOpnd (Insn j) o) (any (sameOpnd (Insn j)) l)),
+      sum-less (λ j. bitOf (sameOpnd (Insn j) o || any (sameOpnd (Insn j)) l)) (λ j. bitOf (sameOpnd (Insn j) o) + bitOf (any (sameOpnd (Insn j)) l)) i n
+          (λ j. either-bit (sameOpnd (Insn j) o) (any (sameOpnd (Insn j)) l)),
       sum-both (λ j. bitOf (sameOpnd (Insn j) o)) (λ j. bitOf (any (sameOpnd (Insn j)) l)) i n,
       hits o i n,
       used-most l i n,

@@ -1,7 +1,7 @@
 // The answer memory: its layout, publishing into it, and reading it.
-use sets::BlockId;
-use sets::FunId;
-use sets::InsnId;
+use ids::BlockId;
+use ids::FunId;
+use ids::InsnId;
 ghost use mathlib.Core.Path.{_≡_};
 ghost use mathlib.Core.Bool.{not};
 ghost use mathlib.Core.List.{[], _∷_};

@@ -29,20 +29,20 @@ use Rattle.lookups.specs.declared.FoundIvar.the-variants.{At, Nothing}
 use Rattle.lookups.specs.Look.{ivarFound, ivarRow}
 use Rattle.lookups.proofs.Rows.{ivars-are}
 use Rattle.state.specs.declared.Sizes.{Sizes}
-use Rattle.state.specs.View.{Attrs, ivarsOf, view}
-use Rattle.opnds.specs.Reads.{Reads}
-use Rattle.receivers.specs.Receivers.{Matches}
+use Rattle.state.specs.View.{Attrs, ivarsOf, stateView}
+use Rattle.machine.specs.opnds.Reads.{StateReads}
+use Rattle.machine.specs.receivers.Receivers.{StateMatches}
 use Rattle.attributes.specs.Attributes.{ProgramIs}
 
-module _ (s m : List ℕ) (c : Counts) (x : ℕ) (n : Name) {r : FoundIvar} (f : ivarFound r ≡ ivarNamed (Prog.view s m c) x (nameIn s n)) where
-  placed : {a : ℕ} → r ≡ At a → ivarNamed (Prog.view s m c) x (nameIn s n) ≡ some a
+module _ (s m : List ℕ) (c : Counts) (x : ℕ) (n : Name) {r : FoundIvar} (f : ivarFound r ≡ ivarNamed (Prog.programView s m c) x (nameIn s n)) where
+  placed : {a : ℕ} → r ≡ At a → ivarNamed (Prog.programView s m c) x (nameIn s n) ≡ some a
   placed e = sym f ∙ ap ivarFound e
 
-  inside : {a : ℕ} → r ≡ At a → a < length (class (Prog.view s m c) x .ivars)
+  inside : {a : ℕ} → r ≡ At a → a < length (class (Prog.programView s m c) x .ivars)
   unfolding ivarNamed
-  inside {a} e = places-∈ [] (λ (y : P.Name). same y (nameIn s n)) (class (Prog.view s m c) x .ivars) a (first-in _ (placed e)) .0
+  inside {a} e = places-∈ [] (λ (y : P.Name). same y (nameIn s n)) (class (Prog.programView s m c) x .ivars) a (first-in _ (placed e)) .0
 
-  pub at-low : {z : Sizes} {a : ℕ} → Matches z m c → x < z .classes → r ≡ At a → a < 64
+  pub at-low : {z : Sizes} {a : ℕ} → StateMatches z m c → x < z .classes → r ≡ At a → a < 64
   at-low {z} {a} y lt e =
       let k = y .classes in
       let g : x < c .classes = omega arith in
@@ -56,7 +56,7 @@ module _ (s m : List ℕ) (c : Counts) (x : ℕ) (n : Name) {r : FoundIvar} (f :
     pub at-place : {a : ℕ} → r ≡ At a → ivarNamed p x (nameIn s n) ≡ some a
     at-place e = ap (λ (y : Program). ivarNamed y x (nameIn s n)) (h .program) ∙ placed e
 
-    pub at-counted : {z : Sizes} {a : ℕ} → Matches z m c → x < z .classes → r ≡ At a → a < v .count x
+    pub at-counted : {z : Sizes} {a : ℕ} → StateMatches z m c → x < z .classes → r ≡ At a → a < v .count x
     at-counted y lt e = let k = y .classes in let t = h .attrs x (omega arith) in let l = inside e in omega arith
 
     pub no-place : r ≡ Nothing → ivarNamed p x (nameIn s n) ≡ none
@@ -73,15 +73,15 @@ get-none : (L : Limits) (p : Program) (n : P.Name) (k : Kind) (x : ℕ) (s : Sta
 unfolding getIvar
 get-none L p n k x s e = rw e
 
-module _ (z : Sizes) (w s m : List ℕ) (c : Counts) (n : Name) (k : Kind) (x : ℕ) {r : FoundIvar} (f : ivarFound r ≡ ivarNamed (Prog.view s m c) x (nameIn s n)) where
-  pub got : {a : ℕ} {j : Kind} {u : Joined} → Matches z m c → x < z .classes → r ≡ At a
+module _ (z : Sizes) (w s m : List ℕ) (c : Counts) (n : Name) (k : Kind) (x : ℕ) {r : FoundIvar} (f : ivarFound r ≡ ivarNamed (Prog.programView s m c) x (nameIn s n)) where
+  pub got : {a : ℕ} {j : Kind} {u : Joined} → StateMatches z m c → x < z .classes → r ≡ At a
       → ((v : Attrs) → a < v .count x → j ≡ getD (getD (ivarsOf z v w) x []) a Empty) → u ≡ unionOf k j
-      → Reads z (ProgramIs s m c) (λ L p. getIvar L p (nameIn s n) k x) w u
+      → StateReads z (ProgramIs s m c) (λ L p. getIvar L p (nameIn s n) k x) w u
   got {a} y lt e ej eu = record {
     is = λ L p v h q.
-        ap (λ (i : Joined). lift (toAnswer i) (view z v w q)) (eu ∙ ap (unionOf k) (ej v (at-counted s m c x n f h y lt e)))
-        ∙ sym (get-some L p (nameIn s n) k x a (view z v w q) (at-place s m c x n f h e));
+        ap (λ (i : Joined). lift (toAnswer i) (stateView z v w q)) (eu ∙ ap (unionOf k) (ej v (at-counted s m c x n f h y lt e)))
+        ∙ sym (get-some L p (nameIn s n) k x a (stateView z v w q) (at-place s m c x n f h e));
   }
 
-  pub got-none : r ≡ Nothing → Reads z (ProgramIs s m c) (λ L p. getIvar L p (nameIn s n) k x) w (Refused 15)
-  got-none e = record { is = λ L p v h q. sym (get-none L p (nameIn s n) k x (view z v w q) (no-place s m c x n f h e)) }
+  pub got-none : r ≡ Nothing → StateReads z (ProgramIs s m c) (λ L p. getIvar L p (nameIn s n) k x) w (Refused 15)
+  got-none e = record { is = λ L p v h q. sym (get-none L p (nameIn s n) k x (stateView z v w q) (no-place s m c x n f h e)) }

@@ -4,7 +4,7 @@ use mathlib.Core.Path.{_≡_, refl, ap, _∙_}
 use mathlib.Core.List.{List, [], _∷_}
 use Prim.Native.Nat.{ℕ}
 use native.Mathlib.Omega.{arith}
-use Rattle.sets.specs.Sets.{membersOf}
+use Rattle.ids.specs.Sets.{membersOf}
 use Rattle.kinds.specs.declared.Kind.{Kind}
 use Rattle.kinds.specs.declared.Kind.the-variants.{Empty}
 use Rattle.rules.specs.Actions.{Answer, answered, refused, _>>_, give, change, each}
@@ -16,12 +16,12 @@ use Rattle.rules.specs.Program.{Limits, limits, Program, noProgram, Name, GetIv
 use Rattle.rules.specs.Machine.{State, classesOf, addRead, rule}
 use Rattle.state.specs.declared.Sizes.{Sizes}
 use Rattle.state.specs.declared.Regs.{Regs}
-use Rattle.state.specs.declared.Went.the-variants.{On}
-use Rattle.state.specs.View.{kindsOf, view}
-use Rattle.state.specs.Changes.{Did, Every}
+use Rattle.state.specs.declared.Acted.the-variants.{On}
+use Rattle.state.specs.View.{kindsOf, stateView}
+use Rattle.state.specs.Changes.{StateDid, Every}
 use Rattle.state.proofs.Pushes.{noAttrs}
-use Rattle.opnds.specs.Reads.{kindIn}
-use Rattle.receivers.proofs.Asked.{asked-yes, asked-no}
+use Rattle.machine.specs.opnds.Reads.{kindIn}
+use Rattle.machine.proofs.receivers.Asked.{asked-yes, asked-no}
 use Rattle.attributes.specs.Attributes.{markReads, readIvars, setIvars}
 
 -- what the marks of a read leave
@@ -58,15 +58,15 @@ abbrev state-in : State → Answer (Unit {0} × State) → State
 state-in s (answered a) = a .1
 state-in s (refused n) = s
 
-pub marked-kinds : {z : Sizes} (i : ℕ) (o : Opnd) {m : List ℕ} {q : Regs} {w : List ℕ} {a : Regs} → Did z Every (λ L p. markReads i (opndOf o)) m q w (On a) → kindsOf z w ≡ kindsOf z m
+pub marked-kinds : {z : Sizes} (i : ℕ) (o : Opnd) {m : List ℕ} {q : Regs} {w : List ℕ} {a : Regs} → StateDid z Every (λ L p. markReads i (opndOf o)) m q w (On a) → kindsOf z w ≡ kindsOf z m
 marked-kinds {z} i o {m} {q} {w} {a} d = go (classesIn (kindIn (kindsOf z m) (opndOf o))) refl (d .is limits refl noProgram noAttrs tt)
   where
-    go : (x : Option ℕ) → classesIn (kindIn (kindsOf z m) (opndOf o)) ≡ x → _≡_ {A = Answer (Unit {0} × State)} (answered (tt, view z noAttrs w a)) (markReads i (opndOf o) (view z noAttrs m q))
+    go : (x : Option ℕ) → classesIn (kindIn (kindsOf z m) (opndOf o)) ≡ x → _≡_ {A = Answer (Unit {0} × State)} (answered (tt, stateView z noAttrs w a)) (markReads i (opndOf o) (stateView z noAttrs m q))
         → kindsOf z w ≡ kindsOf z m
     go none e h =
-        let b : _≡_ {A = Answer (Unit {0} × State)} (answered (tt, view z noAttrs w a)) (refused 14) = rw (asked-no (opndOf o) (view z noAttrs m q) e) at h in
+        let b : _≡_ {A = Answer (Unit {0} × State)} (answered (tt, stateView z noAttrs w a)) (refused 14) = rw (asked-no (opndOf o) (stateView z noAttrs m q) e) at h in
         absurd (let y : _≡_ {A = ℕ} 0 1 = cc in omega arith)
     go (some c) e h =
-        let g = marked i (membersOf c) (view z noAttrs m q) in
-        let b : _≡_ {A = Answer (Unit {0} × State)} (answered (tt, view z noAttrs w a)) (answered (tt, g .to)) = rw (asked-yes (opndOf o) (view z noAttrs m q) c e, g .is) at h in
-        ap (λ (y : Answer (Unit {0} × State)). state-in (view z noAttrs m q) y .kinds) b ∙ g .kinds
+        let g = marked i (membersOf c) (stateView z noAttrs m q) in
+        let b : _≡_ {A = Answer (Unit {0} × State)} (answered (tt, stateView z noAttrs w a)) (answered (tt, g .to)) = rw (asked-yes (opndOf o) (stateView z noAttrs m q) c e, g .is) at h in
+        ap (λ (y : Answer (Unit {0} × State)). state-in (stateView z noAttrs m q) y .kinds) b ∙ g .kinds

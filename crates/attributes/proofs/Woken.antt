@@ -8,7 +8,7 @@ use native.Mathlib.Omega.{arith}
 use mir.Syntax.{w32}
 use mir.Val.{Fits}
 use lib.ListN.{length}
-use Rattle.sets.specs.declared.InsnId.{InsnId}
+use Rattle.ids.specs.declared.InsnId.{InsnId}
 use Rattle.rules.specs.Actions.{Answer, ifAnswered, answered, each}
 use Rattle.rules.specs.Lists.{keep, consIf, isJustName}
 use Rattle.rules.specs.Program as P
@@ -24,14 +24,14 @@ use Rattle.program.specs.View as Prog
 use Rattle.program.specs.View.{ReadsInsn}
 use Rattle.state.specs.declared.Sizes.{Sizes}
 use Rattle.state.specs.declared.Regs.{Regs}
-use Rattle.state.specs.declared.Went.{Went}
-use Rattle.state.specs.declared.Went.the-variants.{On, No}
+use Rattle.state.specs.declared.Acted.{Acted}
+use Rattle.state.specs.declared.Acted.the-variants.{On, Refused}
 use Rattle.state.specs.declared.NextInsn.{NextInsn}
 use Rattle.state.specs.declared.NextInsn.the-variants.{Place, Done}
-use Rattle.state.specs.View.{Attrs, readsOf, view, Ready}
-use Rattle.state.specs.Changes.{marksFrom, Following, went, After, Did, Every}
+use Rattle.state.specs.View.{Attrs, readsOf, stateView, StateReady}
+use Rattle.state.specs.Changes.{marksFrom, Following, went, StateAfter, StateDid, Every}
 use Rattle.state.proofs.Pushes.{valueIn, push-keeps, noAttrs}
-use Rattle.receivers.specs.Receivers.{Matches}
+use Rattle.machine.specs.receivers.Receivers.{StateMatches}
 use Rattle.attributes.specs.Attributes.{ProgramIs, opGets, pushIf, wakeReads}
 
 -- ---- whether an instruction reads attribute n
@@ -53,7 +53,7 @@ op-gets s n (New c) l = refl
 op-gets s n (GetIvar m) l = refl
 op-gets s n (SetIvar m) l = refl
 
-pub gets-is : (s m : List ℕ) (c : Counts) (i : ℕ) (n : P.Name) {x : Row} {r : 𝔹} → ReadsInsn m c i x → r ≡ opGets s n (x .op) → r ≡ getsName (Prog.view s m c) n i
+pub gets-is : (s m : List ℕ) (c : Counts) (i : ℕ) (n : P.Name) {x : Row} {r : 𝔹} → ReadsInsn m c i x → r ≡ opGets s n (x .op) → r ≡ getsName (Prog.programView s m c) n i
 gets-is s m c i n {x} d e =
     e ∙ op-gets s n (x .op) (map opndOf (opndsIn m (opndsAt + 2 * x .first) (x .count)))
     ∙ ap (λ (y : P.Instruction). isJustName (about (y .op) .gets) n) (sym (d .is s))
@@ -72,11 +72,11 @@ unfolding pushIf
 if-no L p i s = refl
 
 module _ (z : Sizes) (m : List ℕ) (q : Regs) (b : 𝔹) (i : ℕ) where
-  pub if-pushed : {m' : List ℕ} {r : Went} → b ≡ true → Did z Every (λ L p. pushInsn L p i) m q m' r → Did z Every (λ L p. pushIf L p b i) m q m' r
-  if-pushed e d = rw e (record { is = λ L f p v a. d .is L f p v a ∙ sym (if-yes L p i (view z v m q)); ok = d .ok })
+  pub if-pushed : {m' : List ℕ} {r : Acted} → b ≡ true → StateDid z Every (λ L p. pushInsn L p i) m q m' r → StateDid z Every (λ L p. pushIf L p b i) m q m' r
+  if-pushed e d = rw e (record { is = λ L f p v a. d .is L f p v a ∙ sym (if-yes L p i (stateView z v m q)); ok = d .ok })
 
-  pub if-passed : Ready z m q → b ≡ false → Did z Every (λ L p. pushIf L p b i) m q m (On q)
-  if-passed r e = rw e (record { is = λ L f p v a. sym (if-no L p i (view z v m q)); ok = record { ready = r; count = refl } })
+  pub if-passed : StateReady z m q → b ≡ false → StateDid z Every (λ L p. pushIf L p b i) m q m (On q)
+  if-passed r e = rw e (record { is = λ L f p v a. sym (if-no L p i (stateView z v m q)); ok = record { ready = r; count = refl } })
 
 if-keeps : (L : Limits) → L .worklist ≡ 16384 → (p : Program) (b : 𝔹) (i : ℕ) (s t : State) → answered (tt, t) ≡ pushIf L p b i s → t .ivarReads ≡ s .ivarReads
 unfolding valueIn
@@ -96,18 +96,18 @@ kept-first L p t i l s = go (t i)
 -- ---- at the loop's head: what is left from here comes to what the whole comes to
 
 pub record Waking (s pm : List ℕ) (pc : Counts) (z : Sizes) (n : Name) (c : ℕ) (m₀ : List ℕ) (q₀ : Regs) (m : List ℕ) (q : Regs) (from : ℕ) : Type 0 where
-  pub after : After z q₀ m q
+  pub after : StateAfter z q₀ m q
   pub long : length m ≡ length m₀
   pub reads : readsOf z m ≡ readsOf z m₀
   pub same : (L : Limits) → L .worklist ≡ 16384 → (p : Program) (v : Attrs) → ProgramIs s pm pc p v
-      → each (keep (getsName p (nameIn s n)) (marksFrom (readsOf z m₀) c from)) (pushInsn L p) (view z v m q) ≡ wakeReads L p c (nameIn s n) (view z v m₀ q₀)
+      → each (keep (getsName p (nameIn s n)) (marksFrom (readsOf z m₀) c from)) (pushInsn L p) (stateView z v m q) ≡ wakeReads L p c (nameIn s n) (stateView z v m₀ q₀)
 
 reads-all : (z : Sizes) (c : ℕ) (m : List ℕ) (q : Regs) (L : Limits) (p : Program) (v : Attrs) (n : P.Name)
-    → each (keep (getsName p n) (marksFrom (readsOf z m) c 0)) (pushInsn L p) (view z v m q) ≡ wakeReads L p c n (view z v m q)
+    → each (keep (getsName p n) (marksFrom (readsOf z m) c 0)) (pushInsn L p) (stateView z v m q) ≡ wakeReads L p c n (stateView z v m q)
 unfolding wakeReads marksFrom
 reads-all z c m q L p v n = refl
 
-pub waking-start : (s pm : List ℕ) (pc : Counts) (z : Sizes) (n : Name) (c : ℕ) (m : List ℕ) (q : Regs) → Ready z m q → Waking s pm pc z n c m q m q 0
+pub waking-start : (s pm : List ℕ) (pc : Counts) (z : Sizes) (n : Name) (c : ℕ) (m : List ℕ) (q : Regs) → StateReady z m q → Waking s pm pc z n c m q m q 0
 waking-start s pm pc z n c m q r = record { after = record { ready = r; count = refl }; long = refl; reads = refl; same = λ L f p v h. reads-all z c m q L p v (nameIn s n) }
 
 module _ {s pm : List ℕ} {pc : Counts} {z : Sizes} {n : Name} {c : ℕ} {m₀ : List ℕ} {q₀ : Regs} {m : List ℕ} {q : Regs} {from : ℕ}
@@ -119,7 +119,7 @@ module _ {s pm : List ℕ} {pc : Counts} {z : Sizes} {n : Name} {c : ℕ} {m₀ 
     pub read-below : i .0 < z .insns
     read-below = left e .ok .1
 
-    pub read-there : Matches z pm pc → i .0 < pc .insns
+    pub read-there : StateMatches z pm pc → i .0 < pc .insns
     read-there y = let b = read-below in let k = y .insns in omega arith
 
     pub read-fits : Fits w32 (i .0 + 1)
@@ -128,16 +128,16 @@ module _ {s pm : List ℕ} {pc : Counts} {z : Sizes} {n : Name} {c : ℕ} {m₀ 
     pub read-falls : z .insns - (i .0 + 1) < z .insns - from
     read-falls = let b = left e .ok in omega (arith, b .0, b .1)
 
-    module _ {b : 𝔹} {w : List ℕ} {a : Went} (t : b ≡ getsName (Prog.view s pm pc) (nameIn s n) (i .0)) (d : Did z Every (λ L p. pushIf L p b (i .0)) m q w a) where
-      turn : {x : Went} → a ≡ x → (L : Limits) → L .worklist ≡ 16384 → (p : Program) (v : Attrs) → ProgramIs s pm pc p v
-          → ifAnswered (went z v w x) (λ y. each (keep (getsName p (nameIn s n)) (marksFrom (readsOf z m₀) c (i .0 + 1))) (pushInsn L p) (y .1)) ≡ wakeReads L p c (nameIn s n) (view z v m₀ q₀)
+    module _ {b : 𝔹} {w : List ℕ} {a : Acted} (t : b ≡ getsName (Prog.programView s pm pc) (nameIn s n) (i .0)) (d : StateDid z Every (λ L p. pushIf L p b (i .0)) m q w a) where
+      turn : {x : Acted} → a ≡ x → (L : Limits) → L .worklist ≡ 16384 → (p : Program) (v : Attrs) → ProgramIs s pm pc p v
+          → ifAnswered (went z v w x) (λ y. each (keep (getsName p (nameIn s n)) (marksFrom (readsOf z m₀) c (i .0 + 1))) (pushInsn L p) (y .1)) ≡ wakeReads L p c (nameIn s n) (stateView z v m₀ q₀)
       turn k L f p v h =
           let d1 = rw k at d in
           ap (λ (y : Answer (Unit {0} × State)). ifAnswered y (λ j. each (keep (getsName p (nameIn s n)) (marksFrom (readsOf z m₀) c (i .0 + 1))) (pushInsn L p) (j .1)))
-          (d1 .is L f p v tt ∙ ap (λ (j : 𝔹). pushIf L p j (i .0) (view z v m q)) (t ∙ ap (λ (j : Program). getsName j (nameIn s n) (i .0)) (sym (h .program))))
-          ∙ sym (kept-first L p (getsName p (nameIn s n)) (i .0) (marksFrom (readsOf z m₀) c (i .0 + 1)) (view z v m q))
-          ∙ ap (λ (y : ℕ). each (keep (getsName p (nameIn s n)) (i .0 ∷ marksFrom (readsOf z m₀) c y)) (pushInsn L p) (view z v m q)) (add-one (i .0))
-          ∙ ap (λ (y : List ℕ). each (keep (getsName p (nameIn s n)) y) (pushInsn L p) (view z v m q)) (sym (left e .is)) ∙ g .same L f p v h
+          (d1 .is L f p v tt ∙ ap (λ (j : 𝔹). pushIf L p j (i .0) (stateView z v m q)) (t ∙ ap (λ (j : Program). getsName j (nameIn s n) (i .0)) (sym (h .program))))
+          ∙ sym (kept-first L p (getsName p (nameIn s n)) (i .0) (marksFrom (readsOf z m₀) c (i .0 + 1)) (stateView z v m q))
+          ∙ ap (λ (y : ℕ). each (keep (getsName p (nameIn s n)) (i .0 ∷ marksFrom (readsOf z m₀) c y)) (pushInsn L p) (stateView z v m q)) (add-one (i .0))
+          ∙ ap (λ (y : List ℕ). each (keep (getsName p (nameIn s n)) y) (pushInsn L p) (stateView z v m q)) (sym (left e .is)) ∙ g .same L f p v h
 
       pub waking-more : {q' : Regs} → length w ≡ length m → a ≡ On q' → Waking s pm pc z n c m₀ q₀ w q' (i .0 + 1)
       waking-more {q'} len y =
@@ -145,15 +145,15 @@ module _ {s pm : List ℕ} {pc : Counts} {z : Sizes} {n : Name} {c : ℕ} {m₀ 
           record {
             after = record { ready = d1 .ok .ready; count = d1 .ok .count ∙ g .after .count };
             long = len ∙ g .long;
-            reads = if-keeps limits refl noProgram b (i .0) (view z noAttrs m q) (view z noAttrs w q') (d1 .is limits refl noProgram noAttrs tt) ∙ g .reads;
+            reads = if-keeps limits refl noProgram b (i .0) (stateView z noAttrs m q) (stateView z noAttrs w q') (d1 .is limits refl noProgram noAttrs tt) ∙ g .reads;
             same = turn y;
           }
 
-      pub waking-stop : {k : ℕ} → a ≡ No k → Did z (ProgramIs s pm pc) (λ L p. wakeReads L p c (nameIn s n)) m₀ q₀ w (No k)
+      pub waking-stop : {k : ℕ} → a ≡ Refused k → StateDid z (ProgramIs s pm pc) (λ L p. wakeReads L p c (nameIn s n)) m₀ q₀ w (Refused k)
       waking-stop y = record { is = turn y; ok = tt }
 
-  pub waking-done : r ≡ Done → Did z (ProgramIs s pm pc) (λ L p. wakeReads L p c (nameIn s n)) m₀ q₀ m (On q)
+  pub waking-done : r ≡ Done → StateDid z (ProgramIs s pm pc) (λ L p. wakeReads L p c (nameIn s n)) m₀ q₀ m (On q)
   waking-done e = record {
-    is = λ L f p v h. ap (λ (y : List ℕ). each (keep (getsName p (nameIn s n)) y) (pushInsn L p) (view z v m q)) (sym (left e .is)) ∙ g .same L f p v h;
+    is = λ L f p v h. ap (λ (y : List ℕ). each (keep (getsName p (nameIn s n)) y) (pushInsn L p) (stateView z v m q)) (sym (left e .is)) ∙ g .same L f p v h;
     ok = g .after;
   }

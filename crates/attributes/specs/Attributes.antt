@@ -15,13 +15,13 @@ use Rattle.program.specs.declared.Counts.{Counts}
 use Rattle.program.specs.declared.Op.{Op}
 use Rattle.program.specs.declared.Op.the-variants.{Jump, IfTrue, Return, SendStatic, SendDynamic, Compute, Phi, Param, SelfParam, New, GetIvar, SetIvar}
 use Rattle.program.specs.Rows.{nameIn}
-use Rattle.program.specs.View.{view}
+use Rattle.program.specs.View.{programView}
 use Rattle.state.specs.View.{Attrs}
 
 -- the program that a script and tables stand for, and the numbers of its classes' attributes
 pub record ProgramIs (s m : List ℕ) (c : Counts) (p : Program) (v : Attrs) : Type 0 where
-  pub program : p ≡ view s m c
-  pub attrs : (k : ℕ) → k < c .classes → v .count k ≡ length (class (view s m c) k .ivars)
+  pub program : p ≡ programView s m c
+  pub attrs : (k : ℕ) → k < c .classes → v .count k ≡ length (class (programView s m c) k .ivars)
 
 -- what a read sets off, and what it gives
 abbrev pub markReads : ℕ → P.Opnd → Acts (Unit {0})

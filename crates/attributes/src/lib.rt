@@ -1,51 +1,51 @@
 // Reading and setting an attribute, by the classes of its receiver.
+use ids::ClassId;
+use ids::InsnId;
+use ids::NextClass;
 use kinds::Joined;
 use kinds::Kind;
 use lookups::FoundIvar;
+use machine::receivers::ReceiverClasses;
 use program::Counts;
 use program::Name;
 use program::Op;
 use program::Opnd;
-use receivers::Receiver;
-use sets::ClassId;
-use sets::InsnId;
-use sets::Next;
+use state::Acted;
 use state::NextInsn;
 use state::Regs;
 use state::Sizes;
-use state::Went;
 ghost use mathlib.Core.Path.{_≡_};
 ghost use Prim.Native.Nat.{_<_};
-ghost use Rattle.sets.specs.Sets.{membersOf};
+ghost use Rattle.ids.specs.Sets.{membersOf};
 ghost use Rattle.rules.specs.Actions.{each, fold, change};
 ghost use Rattle.rules.specs.Lists.{isJustName};
 ghost use Rattle.rules.specs.Program.{about, opOf};
 ghost use Rattle.rules.specs.Machine.{addRead, getIvar, setIvar};
 ghost use Rattle.program.specs.Rows.{nameIn, opndOf};
-ghost use Rattle.program.specs.View.{view, Ready as Tables};
-ghost use Rattle.state.specs.View.{Held, Ready};
-ghost use Rattle.state.specs.Changes.{Did, Every};
-ghost use Rattle.opnds.specs.Reads.{Inside, Reads};
-ghost use Rattle.receivers.specs.Receivers.{Matches, ClassesBelow, Within};
+ghost use Rattle.program.specs.View.{programView, ProgramReady};
+ghost use Rattle.state.specs.View.{StateHeld, StateReady};
+ghost use Rattle.state.specs.Changes.{StateDid, Every};
+ghost use Rattle.machine.specs.opnds.Reads.{OperandInside, StateReads};
+ghost use Rattle.machine.specs.receivers.Receivers.{StateMatches, ClassesBelow, ReceiverWithin};
 ghost use Rattle.attributes.specs.Attributes.{ProgramIs, markReads, readIvars, setIvars, opGets, pushIf, wakeReads};
 
 // ---- a read: it met the classes, then the union of the attribute's kinds
 
 // Instruction i is a read that met each class of a set.
-fn mark_each(m: &mut [usize], z: Sizes, set: u64, i: InsnId)
-    requires { ⌜ Held z (now m) ⌝ }
-    requires { ⌜ ClassesBelow (z .classes) set ⌝ }
-    requires { ⌜ i .0 < z .insns ⌝ }
-    ensures { λ _. ⌜ ((q : Regs) → Ready z (now (m .entry)) q → Did z Every (λ L p. each (membersOf set) (λ c. change (addRead c (i .0)))) (now (m .entry)) q (now (m .exit)) (Went.On q)) ⌝ }
+fn mark_each(state: &mut [usize], sizes: Sizes, set: u64, i: InsnId)
+    requires { ⌜ StateHeld sizes (now state) ⌝ }
+    requires { ⌜ ClassesBelow (sizes .classes) set ⌝ }
+    requires { ⌜ i .0 < sizes .insns ⌝ }
+    ensures { λ _. ⌜ ((q : Regs) → StateReady sizes (now (state .entry)) q → StateDid sizes Every (λ L p. each (membersOf set) (λ c. change (addRead c (i .0)))) (now (state .entry)) q (now (state .exit)) (Acted.On q)) ⌝ }
 {
     let mut left = set;
     loop {
-        match sets::smallest(left) {
-            Next::Member(c, rest) => {
-                state::add_read(m, z, c, i);
+        match ids::smallest(left) {
+            NextClass::Member(c, rest) => {
+                state::add_read(state, sizes, c, i);
                 left = rest;
             }
-            Next::Done => {
+            NextClass::Done => {
                 return;
             }
         }
@@ -53,41 +53,41 @@ fn mark_each(m: &mut [usize], z: Sizes, set: u64, i: InsnId)
 }
 
 // Instruction i is a read that met the receiver's classes, or 14.
-pub fn mark_reads(m: &mut [usize], z: Sizes, q: Regs, i: InsnId, o: Opnd) -> Went
-    requires { ⌜ Ready z (now m) q ⌝ }
-    requires { ⌜ i .0 < z .insns ⌝ }
-    requires { ⌜ Inside z o ⌝ }
-    requires { ⌜ Within z (now m) o ⌝ }
-    ensures { λ r. ⌜ Did z Every (λ L p. markReads (i .0) (opndOf o)) (now (m .entry)) q (now (m .exit)) r ⌝ }
+pub fn mark_reads(state: &mut [usize], sizes: Sizes, regs: Regs, i: InsnId, o: Opnd) -> Acted
+    requires { ⌜ StateReady sizes (now state) regs ⌝ }
+    requires { ⌜ i .0 < sizes .insns ⌝ }
+    requires { ⌜ OperandInside sizes o ⌝ }
+    requires { ⌜ ReceiverWithin sizes (now state) o ⌝ }
+    ensures { λ r. ⌜ StateDid sizes Every (λ L p. markReads (i .0) (opndOf o)) (now (state .entry)) regs (now (state .exit)) r ⌝ }
 {
-    match receivers::classes_of(m, z, o) {
-        Receiver::Classes(set) => {
-            mark_each(m, z, set, i);
-            Went::On(q)
+    match machine::receivers::classes_of(state, sizes, o) {
+        ReceiverClasses::Classes(set) => {
+            mark_each(state, sizes, set, i);
+            Acted::On(regs)
         }
-        Receiver::Refused(n) => Went::No(n),
+        ReceiverClasses::Refused(n) => Acted::Refused(n),
     }
 }
 
 // The union of k with the attribute's kind in one class, or 15.
 fn read_one(
-    s: &[u8],
-    p: &[usize],
-    c: Counts,
-    m: &[usize],
-    z: Sizes,
+    script: &[u8],
+    program: &[usize],
+    counts: Counts,
+    state: &[usize],
+    sizes: Sizes,
     n: Name,
     k: Kind,
     x: ClassId,
 ) -> Joined
-    requires { ⌜ Held z (now m) ⌝ }
-    requires { ⌜ Matches z (now p) c ⌝ }
-    requires { ⌜ x .0 < z .classes ⌝ }
-    ensures { λ r. ⌜ Reads z (ProgramIs (now (s .entry)) (now (p .entry)) c) (λ L p. getIvar L p (nameIn (now (s .entry)) n) k (x .0)) (now (m .entry)) r ⌝ }
+    requires { ⌜ StateHeld sizes (now state) ⌝ }
+    requires { ⌜ StateMatches sizes (now program) counts ⌝ }
+    requires { ⌜ x .0 < sizes .classes ⌝ }
+    ensures { λ r. ⌜ StateReads sizes (ProgramIs (now (script .entry)) (now (program .entry)) counts) (λ L program. getIvar L program (nameIn (now (script .entry)) n) k (x .0)) (now (state .entry)) r ⌝ }
 {
-    match lookups::ivar_named(s, p, c, x, n) {
+    match lookups::ivar_named(script, program, counts, x, n) {
         FoundIvar::At(a) => {
-            let j = state::ivar_at(m, z, x, a);
+            let j = state::ivar_at(state, sizes, x, a);
             kinds::union(k, j)
         }
         FoundIvar::Nothing => Joined::Refused(15),
@@ -95,17 +95,34 @@ fn read_one(
 }
 
 // The union of the attribute's kinds in the classes of a set.
-fn read_each(s: &[u8], p: &[usize], c: Counts, m: &[usize], z: Sizes, n: Name, set: u64) -> Joined
-    requires { ⌜ Held z (now m) ⌝ }
-    requires { ⌜ Matches z (now p) c ⌝ }
-    requires { ⌜ ClassesBelow (z .classes) set ⌝ }
-    ensures { λ r. ⌜ Reads z (ProgramIs (now (s .entry)) (now (p .entry)) c) (λ L p. fold (getIvar L p (nameIn (now (s .entry)) n)) Kind.Empty (membersOf set)) (now (m .entry)) r ⌝ }
+fn read_each(
+    script: &[u8],
+    program: &[usize],
+    counts: Counts,
+    state: &[usize],
+    sizes: Sizes,
+    n: Name,
+    set: u64,
+) -> Joined
+    requires { ⌜ StateHeld sizes (now state) ⌝ }
+    requires { ⌜ StateMatches sizes (now program) counts ⌝ }
+    requires { ⌜ ClassesBelow (sizes .classes) set ⌝ }
+    ensures { λ r. ⌜ StateReads sizes (ProgramIs (now (script .entry)) (now (program .entry)) counts) (λ L program. fold (getIvar L program (nameIn (now (script .entry)) n)) Kind.Empty (membersOf set)) (now (state .entry)) r ⌝ }
 {
     let mut k = Kind::Empty;
     let mut left = set;
     loop {
-        match sets::smallest(left) {
-            Next::Member(x, rest) => match read_one(s, p, c, m, z, n, k, x) {
+        match ids::smallest(left) {
+            NextClass::Member(x, rest) => match read_one(
+                script,
+                program,
+                counts,
+                state,
+                sizes,
+                n,
+                k,
+                x,
+            ) {
                 Joined::Of(u) => {
                     k = u;
                     left = rest;
@@ -114,7 +131,7 @@ fn read_each(s: &[u8], p: &[usize], c: Counts, m: &[usize], z: Sizes, n: Name, s
                     return Joined::Refused(e);
                 }
             },
-            Next::Done => {
+            NextClass::Done => {
                 return Joined::Of(k);
             }
         }
@@ -123,31 +140,31 @@ fn read_each(s: &[u8], p: &[usize], c: Counts, m: &[usize], z: Sizes, n: Name, s
 
 // The kind that a read of attribute n of receiver o gives, or 14, 15 or 19.
 pub fn read_ivar(
-    s: &[u8],
-    p: &[usize],
-    c: Counts,
-    m: &[usize],
-    z: Sizes,
+    script: &[u8],
+    program: &[usize],
+    counts: Counts,
+    state: &[usize],
+    sizes: Sizes,
     n: Name,
     o: Opnd,
 ) -> Joined
-    requires { ⌜ Held z (now m) ⌝ }
-    requires { ⌜ Matches z (now p) c ⌝ }
-    requires { ⌜ Inside z o ⌝ }
-    requires { ⌜ Within z (now m) o ⌝ }
-    ensures { λ r. ⌜ Reads z (ProgramIs (now (s .entry)) (now (p .entry)) c) (λ L p. readIvars L p (nameIn (now (s .entry)) n) (opndOf o)) (now (m .entry)) r ⌝ }
+    requires { ⌜ StateHeld sizes (now state) ⌝ }
+    requires { ⌜ StateMatches sizes (now program) counts ⌝ }
+    requires { ⌜ OperandInside sizes o ⌝ }
+    requires { ⌜ ReceiverWithin sizes (now state) o ⌝ }
+    ensures { λ r. ⌜ StateReads sizes (ProgramIs (now (script .entry)) (now (program .entry)) counts) (λ L program. readIvars L program (nameIn (now (script .entry)) n) (opndOf o)) (now (state .entry)) r ⌝ }
 {
-    match receivers::classes_of(m, z, o) {
-        Receiver::Classes(set) => read_each(s, p, c, m, z, n, set),
-        Receiver::Refused(e) => Joined::Refused(e),
+    match machine::receivers::classes_of(state, sizes, o) {
+        ReceiverClasses::Classes(set) => read_each(script, program, counts, state, sizes, n, set),
+        ReceiverClasses::Refused(e) => Joined::Refused(e),
     }
 }
 
 // ---- a setting: the attribute is widened in each class
 
 // Whether an instruction of a sort reads attribute n.
-fn op_gets(s: &[u8], op: Op, n: Name) -> bool
-    ensures { λ r. ⌜ r ≡ opGets (now (s .entry)) (nameIn (now (s .entry)) n) op ⌝ }
+fn op_gets(script: &[u8], op: Op, n: Name) -> bool
+    ensures { λ r. ⌜ r ≡ opGets (now (script .entry)) (nameIn (now (script .entry)) n) op ⌝ }
 {
     match op {
         Op::Jump(_) => false,
@@ -160,67 +177,67 @@ fn op_gets(s: &[u8], op: Op, n: Name) -> bool
         Op::Param(_) => false,
         Op::SelfParam(_) => false,
         Op::New(_) => false,
-        Op::GetIvar(x) => words::same_name(s, x.start, x.len, n.start, n.len),
+        Op::GetIvar(x) => lexer::same_name(script, x.start, x.len, n.start, n.len),
         Op::SetIvar(_) => false,
     }
 }
 
-fn gets(s: &[u8], p: &[usize], c: Counts, i: InsnId, n: Name) -> bool
-    requires { ⌜ Tables (now p) c ⌝ }
-    requires { ⌜ i .0 < c .insns ⌝ }
-    ensures { λ r. ⌜ r ≡ isJustName (about (opOf (view (now (s .entry)) (now (p .entry)) c) (i .0)) .gets) (nameIn (now (s .entry)) n) ⌝ }
+fn gets(script: &[u8], program: &[usize], counts: Counts, i: InsnId, n: Name) -> bool
+    requires { ⌜ ProgramReady (now program) counts ⌝ }
+    requires { ⌜ i .0 < counts .insns ⌝ }
+    ensures { λ r. ⌜ r ≡ isJustName (about (opOf (programView (now (script .entry)) (now (program .entry)) counts) (i .0)) .gets) (nameIn (now (script .entry)) n) ⌝ }
 {
-    let row = program::read_insn(p, c, i);
+    let row = program::read_insn(program, counts, i);
     let op = row.op;
-    op_gets(s, op, n)
+    op_gets(script, op, n)
 }
 
 // Instruction i waits where `yes` says so.
-fn push_if(m: &mut [usize], z: Sizes, q: Regs, yes: bool, i: InsnId) -> Went
-    requires { ⌜ Ready z (now m) q ⌝ }
-    requires { ⌜ i .0 < z .insns ⌝ }
-    ensures { λ r. ⌜ Did z Every (λ L p. pushIf L p yes (i .0)) (now (m .entry)) q (now (m .exit)) r ⌝ }
+fn push_if(state: &mut [usize], sizes: Sizes, regs: Regs, yes: bool, i: InsnId) -> Acted
+    requires { ⌜ StateReady sizes (now state) regs ⌝ }
+    requires { ⌜ i .0 < sizes .insns ⌝ }
+    ensures { λ r. ⌜ StateDid sizes Every (λ L p. pushIf L p yes (i .0)) (now (state .entry)) regs (now (state .exit)) r ⌝ }
 {
     if yes {
-        return state::push_insn(m, z, q, i);
+        return state::push_insn(state, sizes, regs, i);
     }
-    Went::On(q)
+    Acted::On(regs)
 }
 
 // The reads of attribute n that met class x wait.
 fn wake_reads(
-    s: &[u8],
-    p: &[usize],
-    c: Counts,
-    m: &mut [usize],
-    z: Sizes,
-    q: Regs,
+    script: &[u8],
+    program: &[usize],
+    counts: Counts,
+    state: &mut [usize],
+    sizes: Sizes,
+    regs: Regs,
     n: Name,
     x: ClassId,
-) -> Went
-    requires { ⌜ Ready z (now m) q ⌝ }
-    requires { ⌜ Matches z (now p) c ⌝ }
-    requires { ⌜ x .0 < z .classes ⌝ }
-    ensures { λ r. ⌜ Did z (ProgramIs (now (s .entry)) (now (p .entry)) c) (λ L p. wakeReads L p (x .0) (nameIn (now (s .entry)) n)) (now (m .entry)) q (now (m .exit)) r ⌝ }
+) -> Acted
+    requires { ⌜ StateReady sizes (now state) regs ⌝ }
+    requires { ⌜ StateMatches sizes (now program) counts ⌝ }
+    requires { ⌜ x .0 < sizes .classes ⌝ }
+    ensures { λ r. ⌜ StateDid sizes (ProgramIs (now (script .entry)) (now (program .entry)) counts) (λ L program. wakeReads L program (x .0) (nameIn (now (script .entry)) n)) (now (state .entry)) regs (now (state .exit)) r ⌝ }
 {
-    let mut at = q;
+    let mut at = regs;
     let mut from = InsnId(0);
     loop {
-        match state::next_read(m, z, x, from) {
+        match state::next_read(state, sizes, x, from) {
             NextInsn::Place(i) => {
-                let yes = gets(s, p, c, i, n);
-                match push_if(m, z, at, yes, i) {
-                    Went::On(next) => {
+                let yes = gets(script, program, counts, i, n);
+                match push_if(state, sizes, at, yes, i) {
+                    Acted::On(next) => {
                         at = next;
                         from = InsnId(i.0 + 1);
                     }
-                    Went::No(e) => {
-                        return Went::No(e);
+                    Acted::Refused(e) => {
+                        return Acted::Refused(e);
                     }
                 }
             }
             NextInsn::Done => {
-                return Went::On(at);
+                return Acted::On(at);
             }
         }
     }
@@ -228,70 +245,80 @@ fn wake_reads(
 
 // Attribute n of class x is widened by k, and its reads that met the class wait if this changes it; or 15.
 fn widen_one(
-    s: &[u8],
-    p: &[usize],
-    c: Counts,
-    m: &mut [usize],
-    z: Sizes,
-    q: Regs,
+    script: &[u8],
+    program: &[usize],
+    counts: Counts,
+    state: &mut [usize],
+    sizes: Sizes,
+    regs: Regs,
     n: Name,
     k: Kind,
     x: ClassId,
-) -> Went
-    requires { ⌜ Ready z (now m) q ⌝ }
-    requires { ⌜ Matches z (now p) c ⌝ }
-    requires { ⌜ x .0 < z .classes ⌝ }
-    ensures { λ r. ⌜ Did z (ProgramIs (now (s .entry)) (now (p .entry)) c) (λ L p. setIvar L p (nameIn (now (s .entry)) n) k (x .0)) (now (m .entry)) q (now (m .exit)) r ⌝ }
+) -> Acted
+    requires { ⌜ StateReady sizes (now state) regs ⌝ }
+    requires { ⌜ StateMatches sizes (now program) counts ⌝ }
+    requires { ⌜ x .0 < sizes .classes ⌝ }
+    ensures { λ r. ⌜ StateDid sizes (ProgramIs (now (script .entry)) (now (program .entry)) counts) (λ L program. setIvar L program (nameIn (now (script .entry)) n) k (x .0)) (now (state .entry)) regs (now (state .exit)) r ⌝ }
 {
-    match lookups::ivar_named(s, p, c, x, n) {
+    match lookups::ivar_named(script, program, counts, x, n) {
         FoundIvar::At(a) => {
-            let old = state::ivar_at(m, z, x, a);
+            let old = state::ivar_at(state, sizes, x, a);
             match kinds::union(old, k) {
                 Joined::Of(u) => {
                     if u.same(old) {
-                        return Went::On(q);
+                        return Acted::On(regs);
                     }
-                    state::set_ivar(m, z, x, a, u);
-                    wake_reads(s, p, c, m, z, q, n, x)
+                    state::set_ivar(state, sizes, x, a, u);
+                    wake_reads(script, program, counts, state, sizes, regs, n, x)
                 }
-                Joined::Refused(e) => Went::No(e),
+                Joined::Refused(e) => Acted::Refused(e),
             }
         }
-        FoundIvar::Nothing => Went::No(15),
+        FoundIvar::Nothing => Acted::Refused(15),
     }
 }
 
 fn widen_each(
-    s: &[u8],
-    p: &[usize],
-    c: Counts,
-    m: &mut [usize],
-    z: Sizes,
-    q: Regs,
+    script: &[u8],
+    program: &[usize],
+    counts: Counts,
+    state: &mut [usize],
+    sizes: Sizes,
+    regs: Regs,
     n: Name,
     k: Kind,
     set: u64,
-) -> Went
-    requires { ⌜ Ready z (now m) q ⌝ }
-    requires { ⌜ Matches z (now p) c ⌝ }
-    requires { ⌜ ClassesBelow (z .classes) set ⌝ }
-    ensures { λ r. ⌜ Did z (ProgramIs (now (s .entry)) (now (p .entry)) c) (λ L p. each (membersOf set) (setIvar L p (nameIn (now (s .entry)) n) k)) (now (m .entry)) q (now (m .exit)) r ⌝ }
+) -> Acted
+    requires { ⌜ StateReady sizes (now state) regs ⌝ }
+    requires { ⌜ StateMatches sizes (now program) counts ⌝ }
+    requires { ⌜ ClassesBelow (sizes .classes) set ⌝ }
+    ensures { λ r. ⌜ StateDid sizes (ProgramIs (now (script .entry)) (now (program .entry)) counts) (λ L program. each (membersOf set) (setIvar L program (nameIn (now (script .entry)) n) k)) (now (state .entry)) regs (now (state .exit)) r ⌝ }
 {
-    let mut at = q;
+    let mut at = regs;
     let mut left = set;
     loop {
-        match sets::smallest(left) {
-            Next::Member(x, rest) => match widen_one(s, p, c, m, z, at, n, k, x) {
-                Went::On(next) => {
+        match ids::smallest(left) {
+            NextClass::Member(x, rest) => match widen_one(
+                script,
+                program,
+                counts,
+                state,
+                sizes,
+                at,
+                n,
+                k,
+                x,
+            ) {
+                Acted::On(next) => {
                     at = next;
                     left = rest;
                 }
-                Went::No(e) => {
-                    return Went::No(e);
+                Acted::Refused(e) => {
+                    return Acted::Refused(e);
                 }
             },
-            Next::Done => {
-                return Went::On(at);
+            NextClass::Done => {
+                return Acted::On(at);
             }
         }
     }
@@ -299,25 +326,35 @@ fn widen_each(
 
 // Attribute n of receiver o is widened by the kind of v in each class, or 14, 15, 19 or 20.
 pub fn set_ivar(
-    s: &[u8],
-    p: &[usize],
-    c: Counts,
-    m: &mut [usize],
-    z: Sizes,
-    q: Regs,
+    script: &[u8],
+    program: &[usize],
+    counts: Counts,
+    state: &mut [usize],
+    sizes: Sizes,
+    regs: Regs,
     n: Name,
     o: Opnd,
     v: Opnd,
-) -> Went
-    requires { ⌜ Ready z (now m) q ⌝ }
-    requires { ⌜ Matches z (now p) c ⌝ }
-    requires { ⌜ Inside z o × Inside z v ⌝ }
-    requires { ⌜ Within z (now m) o ⌝ }
-    ensures { λ r. ⌜ Did z (ProgramIs (now (s .entry)) (now (p .entry)) c) (λ L p. setIvars L p (nameIn (now (s .entry)) n) (opndOf o) (opndOf v)) (now (m .entry)) q (now (m .exit)) r ⌝ }
+) -> Acted
+    requires { ⌜ StateReady sizes (now state) regs ⌝ }
+    requires { ⌜ StateMatches sizes (now program) counts ⌝ }
+    requires { ⌜ OperandInside sizes o × OperandInside sizes v ⌝ }
+    requires { ⌜ ReceiverWithin sizes (now state) o ⌝ }
+    ensures { λ r. ⌜ StateDid sizes (ProgramIs (now (script .entry)) (now (program .entry)) counts) (λ L program. setIvars L program (nameIn (now (script .entry)) n) (opndOf o) (opndOf v)) (now (state .entry)) regs (now (state .exit)) r ⌝ }
 {
-    let k = opnds::kind_of(m, z, v);
-    match receivers::classes_of(m, z, o) {
-        Receiver::Classes(set) => widen_each(s, p, c, m, z, q, n, k, set),
-        Receiver::Refused(e) => Went::No(e),
+    let k = machine::opnds::kind_of(state, sizes, v);
+    match machine::receivers::classes_of(state, sizes, o) {
+        ReceiverClasses::Classes(set) => widen_each(
+            script,
+            program,
+            counts,
+            state,
+            sizes,
+            regs,
+            n,
+            k,
+            set,
+        ),
+        ReceiverClasses::Refused(e) => Acted::Refused(e),
     }
 }

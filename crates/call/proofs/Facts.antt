@@ -23,7 +23,7 @@ use Rattle.answer.specs.Record.{recordOf}
 use Rattle.answer.specs.Image.{imageOf, recordIn, countIn, liveIn}
 use Rattle.answer.proofs.Image.{image-length, record-back, count-is, live-is}
 use Rattle.answer.proofs.Answered.{Published, answer-published}
-use Rattle.call.specs.Call.{programLen, stateLen, Lent, Left, lent, left, answerOf, holding, ended, longEnough, after}
+use Rattle.call.specs.Call.{programLen, stateLen, Lent, CallLeft, lent, left, answerOf, holding, ended, longEnough, after}
 
 module _ (script : List ℕ) where
   answer-length : (a : Analysis) → analyze limits script ≡ answered a → length (answerOf a) ≡ answerLen
@@ -117,17 +117,17 @@ module _ (script : List ℕ) where
         of (refused m) t q h =
             let z : m ≡ n = one h in
             let k = t m refl in
-            record { least = omega (arith, k .0); most = omega (arith, k .1); first = λ g. absurd (omega (arith, k .0)); later = λ _. ap (λ (x : Left). x .lent) q }
+            record { least = omega (arith, k .0); most = omega (arith, k .1); first = λ g. absurd (omega (arith, k .0)); later = λ _. ap (λ (x : CallLeft). x .lent) q }
 
         asked : {m : ℕ} → (1 ≤ m) × (m ≤ 2) → after script l ≡ left (some m) l → Refusal n
         asked {m} h q =
-            let z : m ≡ n = one (sym (ap (λ (x : Left). x .number) q) ∙ e) in
-            record { least = omega (arith, h .0); most = omega (arith, h .1); first = λ _. ap (λ (x : Left). x .lent) q; later = λ g. absurd (omega (arith, h .1)) }
+            let z : m ≡ n = one (sym (ap (λ (x : CallLeft). x .number) q) ∙ e) in
+            record { least = omega (arith, h .0); most = omega (arith, h .1); first = λ _. ap (λ (x : CallLeft). x .lent) q; later = λ g. absurd (omega (arith, h .1)) }
 
         go : Ways → Refusal n
         go (too-long h q) = asked (omega arith, omega arith) q
         go (too-short h q) = asked (omega arith, omega arith) q
-        go (through h f q) = of (analyze limits script) (numbers limits script h .refuses) q (sym (ap (λ (x : Left). x .number) q) ∙ e)
+        go (through h f q) = of (analyze limits script) (numbers limits script h .refuses) q (sym (ap (λ (x : CallLeft). x .number) q) ∙ e)
 
     -- ---- an answer
 
@@ -151,7 +151,7 @@ module _ (script : List ℕ) where
             let p = answer-published script a q in
             let r = recordOf (a .program) (a .state) in
             let x = demand limits limits-usable script a q in
-            let m : after script l .lent ≡ holding (answerOf a) l = ap (λ (x : Left). x .lent) w in
+            let m : after script l .lent ≡ holding (answerOf a) l = ap (λ (x : CallLeft). x .lent) w in
             record {
               is = q;
               memory = m;
@@ -168,12 +168,12 @@ module _ (script : List ℕ) where
         of (refused n) q w h = let z : _≡_ {A = ℕ} 0 1 = cc in absurd (omega arith)
 
         some-none : {m : ℕ} → after script l ≡ left (some m) l → (a : Analysis) × Answers a
-        some-none {m} q = let f : some m ≡ none = sym (ap (λ (x : Left). x .number) q) ∙ e in let z : _≡_ {A = ℕ} 0 1 = cc in absurd (omega arith)
+        some-none {m} q = let f : some m ≡ none = sym (ap (λ (x : CallLeft). x .number) q) ∙ e in let z : _≡_ {A = ℕ} 0 1 = cc in absurd (omega arith)
 
         go : Ways → (a : Analysis) × Answers a
         go (too-long h q) = some-none q
         go (too-short h q) = some-none q
-        go (through h f q) = of (analyze limits script) refl q (sym (ap (λ (x : Left). x .number) q) ∙ e)
+        go (through h f q) = of (analyze limits script) refl q (sym (ap (λ (x : CallLeft). x .number) q) ∙ e)
 
     -- ---- with parts that are long enough, the number is the rules'
 
@@ -189,6 +189,6 @@ module _ (script : List ℕ) where
         of (refused n) = refl
 
         go : Ways → after script l .number ≡ numberIn (analyze limits script)
-        go (too-long f q) = ap (λ (x : Left). x .number) q ∙ sym (ap numberIn (long-refused limits script f))
+        go (too-long f q) = ap (λ (x : CallLeft). x .number) q ∙ sym (ap numberIn (long-refused limits script f))
         go (too-short f q) = let b : true ≡ false = sym h ∙ f in let z : _≡_ {A = ℕ} 0 1 = cc in absurd (omega arith)
-        go (through g f q) = ap (λ (x : Left). x .number) q ∙ of (analyze limits script)
+        go (through g f q) = ap (λ (x : CallLeft). x .number) q ∙ of (analyze limits script)

@@ -25,45 +25,45 @@ use Rattle.rules.proofs.Exactness.Answers as Answers
 use Rattle.rules.proofs.Demand.{limits-usable, usable-sane}
 use Rattle.memory.specs.Memory.{zeros, Blank}
 use Rattle.memory.proofs.Laws.{zeros-at, blank}
-use Rattle.program.specs.View.{view as Program·view, Ready, Small, limitsOf}
+use Rattle.program.specs.View.{programView, ProgramReady, Small, limitsOf}
 use Rattle.program.specs.declared.Counts.{Counts}
 use Rattle.program.specs.declared.Limits.{Limits}
 use Rattle.state.specs.declared.Regs.{Regs}
-use Rattle.state.specs.declared.Went.{Went}
-use Rattle.state.specs.declared.Went.the-variants.{On, No}
+use Rattle.state.specs.declared.Acted.{Acted}
+use Rattle.state.specs.declared.Acted.the-variants.{On, Refused as No}
 use Rattle.state.specs.declared.Sizes.{Sizes}
-use Rattle.state.specs.View.{Attrs, view, Held}
+use Rattle.state.specs.View.{Attrs, stateView, StateHeld}
 use Rattle.state.specs.Changes.{went}
 use Rattle.answer.specs.Layout.{answerLen, blocksMost, callersAt}
 use Rattle.answer.specs.Record.{Legal, recordOf}
 use Rattle.answer.specs.Image.{imageOf}
 use Rattle.answer.proofs.Answered.{run-published}
-use Rattle.analysed.specs.Analysed.{Suited, sizesOf}
-use Rattle.analysed.proofs.States.{attrs, attrs-fit}
+use Rattle.machine.specs.Analysed.{Suited, sizesOf}
+use Rattle.machine.proofs.States.{attrs, attrs-fit}
 use Rattle.publish.specs.Final.{withState}
 use Rattle.publish.proofs.Tables.{live-length}
 use Rattle.publish.proofs.Uses.{Outside}
 use Rattle.publish.proofs.Whole.{image-written}
-use Rattle.steps.specs.Stamps.{tablesOf as wordsOf}
-use Rattle.steps.specs.Runs.{Rested}
+use Rattle.run.specs.Stamps.{tablesOf as wordsOf}
+use Rattle.run.specs.Runs.{Rested}
 use Rattle.sctp.specs.Sctp.{tablesOf, Given, Analyses}
-use Rattle.reader.specs.Outcomes.{ReadsScript}
-use Rattle.reader.proofs.Laws.{read-ready, read-finished}
-use Rattle.reader.specs.declared.Outcome.{Outcome as Readout}
-use Rattle.reader.specs.declared.Outcome.the-variants as R
+use Rattle.parser.specs.Outcomes.{ReadsScript}
+use Rattle.parser.proofs.Laws.{read-ready, read-finished}
+use Rattle.parser.specs.declared.ReadOutcome.{ReadOutcome}
+use Rattle.parser.specs.declared.ReadOutcome.the-variants as R
 use Rattle.call.specs.declared.Outcome.{Outcome}
 use Rattle.call.specs.declared.Outcome.the-variants.{Answered, Refused}
 use Rattle.call.specs.Call.{programLen, stateLen, numberOf, Lent, lent, left, answerOf, ended, after}
-use Rattle.call.specs.Parts.{frontOf, imaged, analyzed, found, Parsed, Sized, Fresh, Analyzed, keptOf, Cleared, Ran}
+use Rattle.call.specs.Parts.{frontOf, imaged, analyzed, found, Parsed, PartsSized, PartsFresh, PartsAnalyzed, keptOf, PartsCleared, PartsRan}
 
 -- ---- publish_state
 
 -- the state's tables
-pub words-length : {z : Sizes} (m : List ℕ) → Held z (wordsOf m) → 52224 ≡ length (take 52224 m)
+pub words-length : {z : Sizes} (m : List ℕ) → StateHeld z (wordsOf m) → 52224 ≡ length (take 52224 m)
 words-length m h = sym (h .len)
 
 module _ (c : Counts) (m a : List ℕ) {z : Sizes} (e : z ≡ sizesOf c) where
-  pub sizes-held : Held (sizesOf c) m → Held z m
+  pub sizes-held : StateHeld (sizesOf c) m → StateHeld z m
   sizes-held h = rw e h
 
   pub sizes-blocks : c .blocks ≤ blocksMost → z .blocks ≤ blocksMost
@@ -74,7 +74,7 @@ module _ (c : Counts) (m a : List ℕ) {z : Sizes} (e : z ≡ sizesOf c) where
 
 -- ---- analyze_program
 
-pub given : (s p : List ℕ) (c : Counts) (u m : List ℕ) → Parsed s (frontOf p) c → Fresh u p m → Given s p c u m
+pub given : (s p : List ℕ) (c : Counts) (u m : List ℕ) → Parsed s (frontOf p) c → PartsFresh u p m → Given s p c u m
 unfolding frontOf
 given s p c u m h z = record { limits = limits; suited = h .suited; ready = h .ready; program = z .program; answer = z .answer .len; state = z .state }
 
@@ -82,7 +82,7 @@ front-tables : (p : List ℕ) → tablesOf p ≡ frontOf p
 unfolding frontOf
 front-tables p = refl
 
-module _ (s p : List ℕ) (c : Counts) (u u₁ m : List ℕ) {r : Went} (h : Parsed s (frontOf p) c) (analyses : Analyses s (tablesOf p) c u u₁ m r) where
+module _ (s p : List ℕ) (c : Counts) (u u₁ m : List ℕ) {r : Acted} (h : Parsed s (frontOf p) c) (analyses : Analyses s (tablesOf p) c u u₁ m r) where
   abbrev t : List ℕ
   t = frontOf p
 
@@ -90,7 +90,7 @@ module _ (s p : List ℕ) (c : Counts) (u u₁ m : List ℕ) {r : Went} (h : Par
   g = subst (λ (x : List ℕ). Analyses s x c u u₁ m r) (front-tables p) analyses
 
   abbrev P : Program
-  P = Program·view s t c
+  P = programView s t c
 
   abbrev v : Attrs
   v = attrs s t c limits (h .suited)
@@ -114,13 +114,13 @@ module _ (s p : List ℕ) (c : Counts) (u u₁ m : List ℕ) {r : Went} (h : Par
     rested : Rested s t c (sizesOf c) m q
     rested = (rw e at g) .outcome .ok
 
-    ends-in : answered (view (sizesOf c) v m q) ≡ ifAnswered (start limits P) (run limits P (bound P))
+    ends-in : answered (stateView (sizesOf c) v m q) ≡ ifAnswered (start limits P) (run limits P (bound P))
     ends-in = rw e at ends
 
-    legal : Legal (recordOf P (view (sizesOf c) v m q))
+    legal : Legal (recordOf P (stateView (sizesOf c) v m q))
     legal = let y = Answers.after (start limits P) _ (sym ends-in) in run-published P (h .suited .finished) (y .0) _ (y .1) (y .2) .legal
 
-    pub held-after : Held (sizesOf c) m
+    pub held-after : StateHeld (sizesOf c) m
     held-after = rested .ready .held
 
     pub blocks-few : c .blocks ≤ blocksMost
@@ -131,7 +131,7 @@ module _ (s p : List ℕ) (c : Counts) (u u₁ m : List ℕ) {r : Went} (h : Par
     others k b o (yes lt) = g .left .others k lt (o .0) (o .1)
     others k b o (no ge) = g .left .clear k (omega arith) ∙ sym (ap (λ (d : List ℕ). getD d k 0) (b .is) ∙ zeros-at answerLen k)
 
-    pub program-answered : {a p' w : List ℕ} → Fresh u p' w → length u₁ ≡ length u → a ≡ withState (sizesOf c) m (q .count) u₁ → found Answered a ≡ analyzed P
+    pub program-answered : {a p' w : List ℕ} → PartsFresh u p' w → length u₁ ≡ length u → a ≡ withState (sizesOf c) m (q .count) u₁ → found Answered a ≡ analyzed P
     unfolding analyzed image
     program-answered {a} f l ea =
         ap answered (image-written s t c (sizesOf c) v m q (h .ready) refl legal (f .answer) l (g .left .users) (λ k o. others k (f .answer) o (decLt k callersAt)) ea)
@@ -162,7 +162,7 @@ unfolding analyze
 imaged-no s n e = rw e
 
 -- the tables that were lent and came back
-pub reads-tables : (s t p : List ℕ) {r : Readout} → ReadsScript s t r → length t ≡ length (take 47872 p) → 47872 ≤ length p → ReadsScript s (frontOf (t ++ drop 47872 p)) r
+pub reads-tables : (s t p : List ℕ) {r : ReadOutcome} → ReadsScript s t r → length t ≡ length (take 47872 p) → 47872 ≤ length p → ReadsScript s (frontOf (t ++ drop 47872 p)) r
 reads-tables s t p {r} g e h = subst (λ x. ReadsScript s x r) (sym (tables-back t (drop 47872 p) (e ∙ length-take-le 47872 p h))) g
 
 -- the number of a refusal is a question's
@@ -173,7 +173,7 @@ number-of s n e = go (leb (length s) (limits .script)) refl
     go true h = let q = program-comes limits s h .refuses n e in omega (arith, q .most)
     go false h = let z : refused n ≡ refused 1 = sym e ∙ too-long-refused limits s h in let i : n ≡ 1 = cc in omega arith
 
-module _ (s t : List ℕ) {r : Readout} (g : ReadsScript s t r) where
+module _ (s t : List ℕ) {r : ReadOutcome} (g : ReadsScript s t r) where
   pub reading-number : {n : ℕ} → r ≡ R.Refused n → n < 256
   reading-number {n} e = omega (arith, number-of s n (sym ((rw e at g) .is)))
 
@@ -191,22 +191,22 @@ module _ (s t : List ℕ) {r : Readout} (g : ReadsScript s t r) where
           ready = read-ready g e;
         }
 
-    pub reading-finished : (o : Outcome) (a : List ℕ) → found o a ≡ analyzed (Program·view s t c) → found o a ≡ imaged (analyze limits s)
-    reading-finished o a f = f ∙ sym (imaged-on s (Program·view s t c) (sym ((rw e at g) .is)))
+    pub reading-finished : (o : Outcome) (a : List ℕ) → found o a ≡ analyzed (programView s t c) → found o a ≡ imaged (analyze limits s)
+    reading-finished o a f = f ∙ sym (imaged-on s (programView s t c) (sym ((rw e at g) .is)))
 
-pub answer-kept : (u u₁ : List ℕ) {p w : List ℕ} → Fresh u p w → length u₁ ≡ length u → length u₁ ≡ answerLen
+pub answer-kept : (u u₁ : List ℕ) {p w : List ℕ} → PartsFresh u p w → length u₁ ≡ length u → length u₁ ≡ answerLen
 answer-kept u u₁ f l = l ∙ f .answer .len
 
 -- lengths are kept
-pub fresh : {a a' p p' w w' : List ℕ} → Sized a p w → a' ≡ zeros (length a) → length p' ≡ length p → length w' ≡ length w → Fresh a' p' w'
+pub fresh : {a a' p p' w w' : List ℕ} → PartsSized a p w → a' ≡ zeros (length a) → length p' ≡ length p → length w' ≡ length w → PartsFresh a' p' w'
 fresh {a} {a'} z e k l = record { answer = blank a' (length a) answerLen e (z .answer); program = k ∙ z .program; state = l ∙ z .state }
 
-pub sized-kept : {a p p' w w' : List ℕ} → Sized a p w → length p' ≡ length p → length w' ≡ length w → Sized a p' w'
+pub sized-kept : {a p p' w w' : List ℕ} → PartsSized a p w → length p' ≡ length p → length w' ≡ length w → PartsSized a p' w'
 sized-kept f k l = record { answer = f .answer; program = k ∙ f .program; state = l ∙ f .state }
 
 -- ---- analyze_parts
 
-pub cleared-is : (n : ℕ) (a p w : List ℕ) {r : Outcome} {a' p' w' : List ℕ} → r ≡ Refused n → a' ≡ zeros (length a) → p' ≡ zeros (length p) → w' ≡ zeros (length w) → Cleared r a p w a' p' w'
+pub cleared-is : (n : ℕ) (a p w : List ℕ) {r : Outcome} {a' p' w' : List ℕ} → r ≡ Refused n → a' ≡ zeros (length a) → p' ≡ zeros (length p) → w' ≡ zeros (length w) → PartsCleared r a p w a' p' w'
 cleared-is n a p w e ea ep ew = record { answer = rw e ea; program = ep; state = ew }
 
 -- what stands in the parts is what the call leaves
@@ -217,7 +217,7 @@ left-of (answered y) (Refused n) a p w l e h = let z : _≡_ {A = ℕ} 0 1 = cc 
 left-of (refused m) Answered a p w l e h = let z : _≡_ {A = ℕ} 0 1 = cc in absurd (omega arith)
 left-of (refused m) (Refused n) a p w l e h = let z : n ≡ m = cc in rw (z, h)
 
-pub ran-is : (s a₁ p₁ w₁ : List ℕ) {a p w : List ℕ} {r : Outcome} → Analyzed s r a₁ p₁ w₁ → Cleared r a₁ p₁ w₁ a p w → Ran s r a p w
+pub ran-is : (s a₁ p₁ w₁ : List ℕ) {a p w : List ℕ} {r : Outcome} → PartsAnalyzed s r a₁ p₁ w₁ → PartsCleared r a₁ p₁ w₁ a p w → PartsRan s r a p w
 ran-is s a₁ p₁ w₁ {a} {p} {w} {r} d t =
     record { is = λ l. left-of (analyze limits s) r a₁ p₁ w₁ l (d .is) (d .sized .answer) ∙ rw (t .answer, t .program, t .state, d .sized .program, d .sized .state) }
 
@@ -240,7 +240,7 @@ module _ (s a p w : List ℕ) where
   unfolding after
   short-state h i j k = rw (le-leb (length s) 16384 h, le-leb answerLen (length a) i, le-leb programLen (length p) j, lt-leb stateLen (length w) k)
 
-  pub ran-through : {r : Outcome} {a' p' w' : List ℕ} → length s ≤ 16384 → answerLen ≤ length a → programLen ≤ length p → stateLen ≤ length w → Ran s r a' p' w'
+  pub ran-through : {r : Outcome} {a' p' w' : List ℕ} → length s ≤ 16384 → answerLen ≤ length a → programLen ≤ length p → stateLen ≤ length w → PartsRan s r a' p' w'
       → after s (lent a p w) ≡ left (numberOf r) (lent (a' ++ drop answerLen a) (p' ++ drop programLen p) (w' ++ drop stateLen w))
   unfolding after
   ran-through h i j k x =

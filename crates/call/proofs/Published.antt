@@ -6,10 +6,10 @@ use lib.Dec.{lit≤}
 use Rattle.rules.specs.Program.{limits}
 use Rattle.program.specs.Rows.{insnsAt, opndsAt, blocksAt, functionsAt, classesAt, ivarsAt}
 use Rattle.program.specs.Rows as Rows
-use Rattle.index.specs.Chains as Chains
-use Rattle.parser.specs.Cursor as Cursor
+use Rattle.chains.specs.Chains as Chains
+use Rattle.cursor.specs.Cursor as Cursor
 use Rattle.answer.specs.Layout.{answerLen}
-use Rattle.steps.specs.Stamps.{stampsAt}
+use Rattle.run.specs.Stamps.{stampsAt}
 use Rattle.call.specs.Call.{programLen, stateLen}
 use Rattle.call.specs.Published.{published, program, state, scratch}
 

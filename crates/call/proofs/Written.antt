@@ -11,7 +11,7 @@ use Rattle.rules.specs.Lists.{concat}
 use Rattle.rules.specs.Program.{limits}
 use Rattle.rules.specs.Frames.{Analysis, analyze, refusalFrame, live}
 use Rattle.answer.specs.Layout.{answerLen}
-use Rattle.frames.specs.declared.Cursor.the-variants.{Totals}
+use Rattle.frames.specs.declared.NextFrame.the-variants.{Totals}
 use Rattle.frames.specs.Text.{Run}
 use Rattle.frames.proofs.Frames.{live-written, live-refused}
 use Rattle.call.specs.Call.{Lent, longEnough, after}

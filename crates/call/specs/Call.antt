@@ -34,14 +34,14 @@ pub record Lent : Type 0 where
   pub state : List ℕ
 
 -- what a call gives, and the lent memory after it
-pub record Left : Type 0 where
+pub record CallLeft : Type 0 where
   pub number : Option ℕ
   pub lent : Lent
 
 abbrev pub lent : List ℕ → List ℕ → List ℕ → Lent
 lent a p w = record { answer = a; program = p; state = w }
 
-abbrev pub left : Option ℕ → Lent → Left
+abbrev pub left : Option ℕ → Lent → CallLeft
 left n l = record { number = n; lent = l }
 
 -- the answer memory of an analysis
@@ -53,12 +53,12 @@ abbrev pub holding : List ℕ → Lent → Lent
 holding t l = lent (t ++ drop answerLen (l .answer)) (zeros programLen ++ drop programLen (l .program)) (zeros stateLen ++ drop stateLen (l .state))
 
 -- an answer, or a refusal on the way to it, which clears the answer part too
-abbrev pub ended : Answer Analysis → Lent → Left
+abbrev pub ended : Answer Analysis → Lent → CallLeft
 ended (answered a) l = left none (holding (answerOf a) l)
 ended (refused n) l = left (some n) (holding (zeros answerLen) l)
 
 -- question n before the reading: a "no" changes no memory
-abbrev pub before : ℕ → 𝔹 → Lent → (Unit {0} → Left) → Left
+abbrev pub before : ℕ → 𝔹 → Lent → (Unit {0} → CallLeft) → CallLeft
 before n yes? l rest = choose yes? rest (λ _. left (some n) l)
 
 -- each part has its published length
@@ -66,7 +66,7 @@ abbrev pub longEnough : Lent → 𝔹
 longEnough l = leb answerLen (length (l .answer)) && leb programLen (length (l .program)) && leb stateLen (length (l .state))
 
 -- question 1, question 2, then the reading and the analysis
-unfoldable pub after : List ℕ → Lent → Left
+unfoldable pub after : List ℕ → Lent → CallLeft
 after script l =
     before 1 (leb (length script) (limits .script)) l (λ _.
     before 2 (longEnough l) l (λ _.

@@ -11,14 +11,14 @@ use Rattle.rules.specs.Bound.{bound}
 use Rattle.rules.specs.Frames.{Analysis, analyze}
 use Rattle.memory.specs.Memory.{zeros, Blank}
 use Rattle.program.specs.Rows.{size}
-use Rattle.program.specs.View.{Ready}
+use Rattle.program.specs.View.{ProgramReady}
 use Rattle.program.specs.declared.Counts.{Counts}
 use Rattle.answer.specs.Layout.{answerLen}
 use Rattle.answer.specs.Record.{recordOf}
 use Rattle.answer.specs.Image.{imageOf}
-use Rattle.analysed.specs.Analysed.{Suited}
-use Rattle.reader.specs.declared.Outcome.{Outcome as Readout}
-use Rattle.reader.specs.Outcomes.{answerOf as readOf, ReadyIf}
+use Rattle.machine.specs.Analysed.{Suited}
+use Rattle.parser.specs.declared.ReadOutcome.{ReadOutcome}
+use Rattle.parser.specs.Outcomes.{answerOf as readOf, OutcomeReadyIf}
 use Rattle.call.specs.declared.Outcome.{Outcome}
 use Rattle.call.specs.declared.Outcome.the-variants.{Answered, Refused}
 use Rattle.call.specs.Call.{programLen, stateLen, numberOf, Lent, lent, left, answerOf, ended}
@@ -41,13 +41,13 @@ found Answered a = answered a
 found (Refused n) a = refused n
 
 -- parts of the published lengths
-pub record Sized (a p w : List ℕ) : Type 0 where
+pub record PartsSized (a p w : List ℕ) : Type 0 where
   pub answer : length a ≡ answerLen
   pub program : length p ≡ programLen
   pub state : length w ≡ stateLen
 
 -- the same, and the answer part is cleared
-pub record Fresh (a p w : List ℕ) : Type 0 where
+pub record PartsFresh (a p w : List ℕ) : Type 0 where
   pub answer : Blank a answerLen
   pub program : length p ≡ programLen
   pub state : length w ≡ stateLen
@@ -55,23 +55,23 @@ pub record Fresh (a p w : List ℕ) : Type 0 where
 -- the tables t hold a program that was read
 pub record Parsed (s t : List ℕ) (c : Counts) : Type 0 where
   pub suited : Suited s t c limits
-  pub ready : Ready t c
+  pub ready : ProgramReady t c
 
 -- the analysis of a script is done, and nothing is cleared yet
-pub record Analyzed (script : List ℕ) (r : Outcome) (a p w : List ℕ) : Type 0 where
+pub record PartsAnalyzed (script : List ℕ) (r : Outcome) (a p w : List ℕ) : Type 0 where
   pub is : found r a ≡ imaged (analyze limits script)
-  pub sized : Sized a p w
+  pub sized : PartsSized a p w
 
 -- the answer part, cleared if it was a refusal
 abbrev pub keptOf : Outcome → List ℕ → List ℕ
 keptOf Answered a = a
 keptOf (Refused n) a = zeros (length a)
 
-pub record Cleared (r : Outcome) (a p w a' p' w' : List ℕ) : Type 0 where
+pub record PartsCleared (r : Outcome) (a p w a' p' w' : List ℕ) : Type 0 where
   pub answer : a' ≡ keptOf r a
   pub program : p' ≡ zeros (length p)
   pub state : w' ≡ zeros (length w)
 
 -- the call on parts of the published lengths
-pub record Ran (script : List ℕ) (r : Outcome) (a p w : List ℕ) : Type 0 where
+pub record PartsRan (script : List ℕ) (r : Outcome) (a p w : List ℕ) : Type 0 where
   pub is : (l : Lent) → ended (analyze limits script) l ≡ left (numberOf r) (lent (a ++ drop answerLen (l .answer)) (p ++ drop programLen (l .program)) (w ++ drop stateLen (l .state)))

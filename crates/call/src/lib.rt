@@ -1,20 +1,20 @@
 // The call: a script, and three lent parts of memory.
 use program::Counts;
-use state::Went;
+use state::Acted;
 ghost use mathlib.Core.Path.{_≡_};
 ghost use Prim.Native.Nat.{_≤_};
 ghost use lib.ListN.{length};
 ghost use Rattle.program.specs.Rows.{size as tablesSize};
-ghost use Rattle.program.specs.View.{view};
-ghost use Rattle.parser.specs.Cursor.{size as scratchSize};
-ghost use Rattle.state.specs.View.{Held};
+ghost use Rattle.program.specs.View.{programView};
+ghost use Rattle.cursor.specs.Cursor.{size as scratchSize};
+ghost use Rattle.state.specs.View.{StateHeld};
 ghost use Rattle.answer.specs.Layout.{answerLen, blocksMost};
-ghost use Rattle.analysed.specs.Analysed.{sizesOf};
-ghost use Rattle.steps.specs.Stamps.{tablesOf as wordsOf};
+ghost use Rattle.machine.specs.Analysed.{sizesOf};
+ghost use Rattle.run.specs.Stamps.{tablesOf as wordsOf};
 ghost use Rattle.publish.specs.Final.{withState};
-ghost use Rattle.reader.specs.Outcomes.{ReadsScript};
+ghost use Rattle.parser.specs.Outcomes.{ReadsScript};
 ghost use Rattle.call.specs.Call.{numberOf, lent, left, after};
-ghost use Rattle.call.specs.Parts.{frontOf, found, analyzed, Parsed, Sized, Fresh, Analyzed, Cleared, Ran};
+ghost use Rattle.call.specs.Parts.{frontOf, found, analyzed, Parsed, PartsSized, PartsFresh, PartsAnalyzed, PartsCleared, PartsRan};
 
 // "Answered", or the number of the question that was answered "no".
 pub enum Outcome {
@@ -35,22 +35,22 @@ pub const SCRIPT_MOST: usize = 16384;
 // The program's tables; its index stands behind them.
 const TABLES: usize = 47872;
 
-fn read_tables(script: &[u8], program: &mut [usize], scratch: &mut [usize]) -> reader::Outcome
+fn read_tables(script: &[u8], program: &mut [usize], scratch: &mut [usize]) -> parser::ReadOutcome
     requires { ⌜ tablesSize ≤ length (now program) ⌝ }
     requires { ⌜ scratchSize ≤ length (now scratch) ⌝ }
     ensures { λ r. ⌜ ReadsScript (now (script .entry)) (frontOf (now (program .exit))) r ⌝ }
 {
-    reader::read(script, &mut program[..TABLES], scratch)
+    parser::read(script, &mut program[..TABLES], scratch)
 }
 
-fn publish_state(state: &[usize], c: Counts, count: u64, answer: &mut [usize])
-    requires { ⌜ Held (sizesOf c) (wordsOf (now state)) ⌝ }
+fn publish_state(state: &[usize], counts: Counts, count: u64, answer: &mut [usize])
+    requires { ⌜ StateHeld (sizesOf counts) (wordsOf (now state)) ⌝ }
     requires { ⌜ length (now answer) ≡ answerLen ⌝ }
-    requires { ⌜ c .blocks ≤ blocksMost ⌝ }
-    ensures { λ _. ⌜ now (answer .exit) ≡ withState (sizesOf c) (wordsOf (now (state .entry))) count (now (answer .entry)) ⌝ }
+    requires { ⌜ counts .blocks ≤ blocksMost ⌝ }
+    ensures { λ _. ⌜ now (answer .exit) ≡ withState (sizesOf counts) (wordsOf (now (state .entry))) count (now (answer .entry)) ⌝ }
 {
-    let z = analysed::sizes(c);
-    publish::write_state(&state[..steps::STAMPS], z, count, answer);
+    let z = machine::sizes(counts);
+    publish::write_state(&state[..run::STAMPS], z, count, answer);
 }
 
 // The analysis of a program that was read.
@@ -59,18 +59,18 @@ fn analyze_program(
     answer: &mut [usize],
     program: &mut [usize],
     state: &mut [usize],
-    c: Counts,
+    counts: Counts,
 ) -> Outcome
-    requires { ⌜ Parsed (now script) (frontOf (now program)) c ⌝ }
-    requires { ⌜ Fresh (now answer) (now program) (now state) ⌝ }
-    ensures { λ r. ⌜ found r (now (answer .exit)) ≡ analyzed (view (now (script .entry)) (frontOf (now (program .entry))) c) ⌝ }
+    requires { ⌜ Parsed (now script) (frontOf (now program)) counts ⌝ }
+    requires { ⌜ PartsFresh (now answer) (now program) (now state) ⌝ }
+    ensures { λ r. ⌜ found r (now (answer .exit)) ≡ analyzed (programView (now (script .entry)) (frontOf (now (program .entry))) counts) ⌝ }
 {
-    match sctp::sctp(script, program, c, answer, state) {
-        Went::On(q) => {
-            publish_state(state, c, q.count, answer);
+    match sctp::sctp(script, program, counts, answer, state) {
+        Acted::On(q) => {
+            publish_state(state, counts, q.count, answer);
             Outcome::Answered
         }
-        Went::No(n) => {
+        Acted::Refused(n) => {
             let number = n as u8;
             Outcome::Refused(number)
         }
@@ -84,15 +84,15 @@ fn analyze_script(
     program: &mut [usize],
     state: &mut [usize],
 ) -> Outcome
-    requires { ⌜ Sized (now answer) (now program) (now state) ⌝ }
-    ensures { λ r. ⌜ Analyzed (now (script .entry)) r (now (answer .exit)) (now (program .exit)) (now (state .exit)) ⌝ }
+    requires { ⌜ PartsSized (now answer) (now program) (now state) ⌝ }
+    ensures { λ r. ⌜ PartsAnalyzed (now (script .entry)) r (now (answer .exit)) (now (program .exit)) (now (state .exit)) ⌝ }
 {
     match read_tables(script, program, state) {
-        reader::Outcome::Finished(c) => {
+        parser::ReadOutcome::Finished(c) => {
             memory::clear(answer);
             analyze_program(script, answer, program, state, c)
         }
-        reader::Outcome::Refused(n) => {
+        parser::ReadOutcome::Refused(n) => {
             let number = n as u8;
             Outcome::Refused(number)
         }
@@ -100,7 +100,7 @@ fn analyze_script(
 }
 
 fn clear_parts(answer: &mut [usize], program: &mut [usize], state: &mut [usize], r: Outcome)
-    ensures { λ _. ⌜ Cleared r (now (answer .entry)) (now (program .entry)) (now (state .entry)) (now (answer .exit)) (now (program .exit)) (now (state .exit)) ⌝ }
+    ensures { λ _. ⌜ PartsCleared r (now (answer .entry)) (now (program .entry)) (now (state .entry)) (now (answer .exit)) (now (program .exit)) (now (state .exit)) ⌝ }
 {
     memory::clear(program);
     memory::clear(state);
@@ -116,8 +116,8 @@ fn analyze_parts(
     program: &mut [usize],
     state: &mut [usize],
 ) -> Outcome
-    requires { ⌜ Sized (now answer) (now program) (now state) ⌝ }
-    ensures { λ r. ⌜ Ran (now (script .entry)) r (now (answer .exit)) (now (program .exit)) (now (state .exit)) ⌝ }
+    requires { ⌜ PartsSized (now answer) (now program) (now state) ⌝ }
+    ensures { λ r. ⌜ PartsRan (now (script .entry)) r (now (answer .exit)) (now (program .exit)) (now (state .exit)) ⌝ }
 {
     let r = analyze_script(script, answer, program, state);
     clear_parts(answer, program, state, r);

@@ -12,15 +12,15 @@ use Rattle.rules.specs.Program as P
 use Rattle.rules.specs.Program.{code, about, opOf, successors, returnedBy}
 use Rattle.rules.specs.Constructors.{endOf}
 use Rattle.program.specs.Rows.{insnAt, instructionAt, opIn, opndOf, opndsIn, opndsAt}
-use Rattle.program.specs.View.{view, Ready}
+use Rattle.program.specs.View.{programView, ProgramReady}
 use Rattle.program.specs.declared.Counts.{Counts}
 use Rattle.program.specs.declared.Row.{Row}
 use Rattle.program.specs.declared.Op.{Op}
 use Rattle.program.specs.declared.Op.the-variants as O
-use Rattle.sets.specs.declared.BlockId.{BlockId}
-use Rattle.index.specs.Chains.{pick, Chained, at, self, ChainIs, Index, FitsId}
-use Rattle.index.proofs.Lists.{Starts, chained-below, chained-none, chained-some, chained-low, chained-high, chained-next}
-use Rattle.index.proofs.Whole.{code-is, insn-of}
+use Rattle.ids.specs.declared.BlockId.{BlockId}
+use Rattle.chains.specs.Chains.{pick, ChainsChained, at, self, ChainIs, Index, FitsId}
+use Rattle.chains.proofs.Lists.{Starts, chained-below, chained-none, chained-some, chained-low, chained-high, chained-next}
+use Rattle.chains.proofs.Whole.{code-is, insn-of}
 use Rattle.constructors.specs.declared.Ends.{Ends}
 use Rattle.constructors.specs.declared.Ends.the-variants.{Return, Jump, IfTrue, Open}
 use Rattle.constructors.specs.Walks.{endsFrom, targets, returning, Ended}
@@ -37,22 +37,22 @@ pub final-cons : (x : ℕ) (l : List ℕ) → final (x ∷ l) ≡ some (finalOr 
 final-cons x [] = refl
 final-cons x (y ∷ l) = final-cons y l
 
-chained-final : (link : ℕ → ℕ) (n k h x : ℕ) (l : List ℕ) → Chained self link n k h (x ∷ l) → finalOr x l < n
-unfolding Chained
+chained-final : (link : ℕ → ℕ) (n k h x : ℕ) (l : List ℕ) → ChainsChained self link n k h (x ∷ l) → finalOr x l < n
+unfolding ChainsChained
 chained-final link n k h x [] d = omega (arith, d .1, d .2)
 chained-final link n k h x (y ∷ l) d = chained-final link n (suc h) (link h) y l (d .3)
 
-pub chain-of : {m x : List ℕ} {c : Counts} → Index m c x → (b : ℕ) → b < 1024 → Chained self (at x 1024) (c .insns) 0 (getD x b 0) (codesOf m (c .insns) b)
+pub chain-of : {m x : List ℕ} {c : Counts} → Index m c x → (b : ℕ) → b < 1024 → ChainsChained self (at x 1024) (c .insns) 0 (getD x b 0) (codesOf m (c .insns) b)
 chain-of {m} {x} {c} ix b h =
     let e : 3072 * 0 + b ≡ b = omega arith in
-    subst (λ (l : List ℕ). Chained self (at x 1024) (c .insns) 0 (getD x b 0) l) (code-is [] m c b)
-    (subst (λ (k : ℕ). Chained self (at x 1024) (c .insns) 0 (getD x k 0) (code (view [] m c) b)) e (ix .codes [] b h))
+    subst (λ (l : List ℕ). ChainsChained self (at x 1024) (c .insns) 0 (getD x b 0) l) (code-is [] m c b)
+    (subst (λ (k : ℕ). ChainsChained self (at x 1024) (c .insns) 0 (getD x k 0) (code (programView [] m c) b)) e (ix .codes [] b h))
 
 -- the words of a block's head and of a link fit
-pub code-word : {m x : List ℕ} {c : Counts} {b : ℕ} → Ready m c → Index m c x → b < c .blocks → FitsId x b
+pub code-word : {m x : List ℕ} {c : Counts} {b : ℕ} → ProgramReady m c → Index m c x → b < c .blocks → FitsId x b
 code-word {m} {x} {c} {b} ok ix g = omega (arith, ok .insns, chained-high self (at x 1024) (c .insns) 0 _ _ (chain-of ix b (omega (arith, ok .blocks))))
 
-pub code-next : (x : List ℕ) {m : List ℕ} {c : Counts} {h : ℕ} (l : List ℕ) → Ready m c → Chained self (at x 1024) (c .insns) 0 h l → h < c .insns → FitsId x (1024 + h)
+pub code-next : (x : List ℕ) {m : List ℕ} {c : Counts} {h : ℕ} (l : List ℕ) → ProgramReady m c → ChainsChained self (at x 1024) (c .insns) 0 h l → h < c .insns → FitsId x (1024 + h)
 code-next x {m} {c} {h} l ok d g = omega (arith, ok .insns, chained-next self (at x 1024) (c .insns) 0 h l d g)
 
 pub ends-jump : {o : Op} {b : BlockId} → o ≡ O.Jump b → Jump b ≡ endsFrom o
@@ -65,10 +65,10 @@ ends-if e = rw e
 
 pub record Ending (m x : List ℕ) (n b last h : ℕ) : Type 0 where
   pub rest : List ℕ
-  pub cells : Chained self (at x 1024) n 0 h rest
+  pub cells : ChainsChained self (at x 1024) n 0 h rest
   pub same : finalOr last rest ≡ finalOr n (codesOf m n b)
 
-pub ending-start : {m x : List ℕ} {c : Counts} {b h : ℕ} → Ready m c → Index m c x → b < c .blocks → h ≡ getD x b 0 → Ending m x (c .insns) b (c .insns) h
+pub ending-start : {m x : List ℕ} {c : Counts} {b h : ℕ} → ProgramReady m c → Index m c x → b < c .blocks → h ≡ getD x b 0 → Ending m x (c .insns) b (c .insns) h
 ending-start {m} {x} {c} {b} ok ix g e =
     record { rest = codesOf m (c .insns) b; cells = rw e (chain-of ix b (omega (arith, ok .blocks))); same = refl }
 
@@ -122,29 +122,30 @@ term-leaves s (O.GetIvar n) l = refl
 term-leaves s (O.SetIvar n) l = refl
 
 module _ {m x : List ℕ} {c : Counts} (ix : Index m c x) (b : ℕ) (h : b < 1024) where
-  end-is : (s : List ℕ) (l : List ℕ) → code (view s m c) b ≡ l → (y : ℕ) (k : List ℕ) → l ≡ y ∷ k → endOf (view s m c) b ≡ about (opOf (view s m c) (finalOr y k)) .terminator
+  end-is : (s : List ℕ) (l : List ℕ) → code (programView s m c) b ≡ l → (y : ℕ) (k : List ℕ) → l ≡ y ∷ k → endOf (programView s m c) b ≡ about (opOf (programView s m c) (finalOr y k)) .terminator
   unfolding endOf
-  end-is s l e y k f = ap (λ (o : Option ℕ). elim o [ none ↦ none | some i ↦ about (opOf (view s m c) i) .terminator ]) (ap final (e ∙ f) ∙ final-cons y k)
+  end-is s l e y k f = ap (λ (o : Option ℕ). elim o [ none ↦ none | some i ↦ about (opOf (programView s m c) i) .terminator ]) (ap final (e ∙ f) ∙ final-cons y k)
 
-  end-no : (s : List ℕ) → code (view s m c) b ≡ [] → endOf (view s m c) b ≡ none
+  end-no : (s : List ℕ) → code (programView s m c) b ≡ [] → endOf (programView s m c) b ≡ none
   unfolding endOf
-  end-no s e = ap (λ (o : Option ℕ). elim o [ none ↦ none | some i ↦ about (opOf (view s m c) i) .terminator ]) (ap final e)
+  end-no s e = ap (λ (o : Option ℕ). elim o [ none ↦ none | some i ↦ about (opOf (programView s m c) i) .terminator ]) (ap final e)
 
-  op-is : (s : List ℕ) (i : ℕ) → i < c .insns → opOf (view s m c) i ≡ opIn s (insnAt m i .op) (map opndOf (opndsIn m (opndsAt + 2 * insnAt m i .first) (insnAt m i .count)))
+  op-is : (s : List ℕ) (i : ℕ) → i < c .insns → opOf (programView s m c) i ≡ opIn s (insnAt m i .op) (map opndOf (opndsIn m (opndsAt + 2 * insnAt m i .first) (insnAt m i .count)))
   unfolding instructionAt
   op-is s i g = ap (λ (z : P.Instruction). z .op) (insn-of s m c i g)
 
   module _ (last : ℕ) (q : last ≡ finalOr (c .insns) (codesOf m (c .insns) b)) where
-    found : (s : List ℕ) (l : List ℕ) → codesOf m (c .insns) b ≡ l → last < c .insns → endOf (view s m c) b ≡ about (opOf (view s m c) last) .terminator
+    found : (s : List ℕ) (l : List ℕ) → codesOf m (c .insns) b ≡ l → last < c .insns → endOf (programView s m c) b ≡ about (opOf (programView s m c) last) .terminator
     found s [] e g = absurd (omega (arith, q ∙ ap (finalOr (c .insns)) e))
     found s (y ∷ k) e g =
         end-is s (codesOf m (c .insns) b) (code-is s m c b) y k e
-        ∙ ap (λ i. about (opOf (view s m c) i) .terminator) (sym (q ∙ ap (finalOr (c .insns)) e))
+        ∙ ap (λ i. about (opOf (programView s m c) i) .terminator) (sym (q ∙ ap (finalOr (c .insns)) e))
 
     missing : (l : List ℕ) → codesOf m (c .insns) b ≡ l → c .insns ≤ last → codesOf m (c .insns) b ≡ []
     missing [] e g = e
     missing (y ∷ k) e g =
-        absurd (omega (arith, q ∙ ap (finalOr (c .insns)) e, chained-final (at x 1024) (c .insns) 0 (getD x b 0) y k (subst (λ (l : List ℕ). Chained self (at x 1024) (c .insns) 0 (getD x b 0) l) e (chain-of ix b h))))
+        absurd
+        (omega (arith, q ∙ ap (finalOr (c .insns)) e, chained-final (at x 1024) (c .insns) 0 (getD x b 0) y k (subst (λ (l : List ℕ). ChainsChained self (at x 1024) (c .insns) 0 (getD x b 0) l) e (chain-of ix b h))))
 
     pub end-some : {r : Row} {t : Ends} → last < c .insns → r ≡ insnAt m last → t ≡ endsFrom (r .op) → Ended m c b t
     end-some {r} {t} g e f =
@@ -160,5 +161,5 @@ module _ {m x : List ℕ} {c : Counts} (ix : Index m c x) (b : ℕ) (h : b < 102
 
     pub end-none : c .insns ≤ last → Ended m c b Open
     end-none g =
-        let e : (s : List ℕ) → endOf (view s m c) b ≡ none = λ s. end-no s (code-is s m c b ∙ missing (codesOf m (c .insns) b) refl g) in
+        let e : (s : List ℕ) → endOf (programView s m c) b ≡ none = λ s. end-no s (code-is s m c b ∙ missing (codesOf m (c .insns) b) refl g) in
         record { onward = λ s. ap successors (e s); leaves = λ s. ap (λ z. has (returnedBy z)) (e s) }

@@ -14,9 +14,9 @@ use lib.ListN.{length, getD}
 use Rattle.rules.specs.Lists.{any}
 use Rattle.rules.specs.Program.{Program, successors}
 use Rattle.rules.specs.Constructors.{endOf, setBefore}
-use Rattle.program.specs.View.{view}
+use Rattle.program.specs.View.{programView}
 use Rattle.program.specs.declared.Counts.{Counts}
-use Rattle.sets.specs.declared.BlockId.{BlockId}
+use Rattle.ids.specs.declared.BlockId.{BlockId}
 use Rattle.constructors.specs.declared.Ends.{Ends}
 use Rattle.constructors.specs.declared.Ends.the-variants.{Return, Jump, IfTrue, Open}
 use Rattle.constructors.specs.Walks.{targets, Ended}
@@ -104,7 +104,7 @@ metAs (suc k) t = some t
 
 pub record Meeting (m : List ℕ) (c : Counts) (w : List ℕ) (n b q bits met : ℕ) : Type 0 where
   pub high : q ≤ n
-  pub is : (s : List ℕ) (a : ℕ) → a < 64 → setBefore (view s m c) b (doneFrom w a q (n - q)) ≡ metAs met (holds a bits)
+  pub is : (s : List ℕ) (a : ℕ) → a < 64 → setBefore (programView s m c) b (doneFrom w a q (n - q)) ≡ metAs met (holds a bits)
   pub start : met ≡ 0 → bits ≡ full
 
 pub meet-start : (m : List ℕ) (c : Counts) (w : List ℕ) (n b : ℕ) → Meeting m c w n b n full 0
@@ -112,7 +112,7 @@ unfolding doneFrom
 meet-start m c w n b =
     record {
       high = omega arith;
-      is = λ s a h. let e : n - n ≡ 0 = omega arith in ap (λ f. setBefore (view s m c) b (doneFrom w a n f)) e;
+      is = λ s a h. let e : n - n ≡ 0 = omega arith in ap (λ f. setBefore (programView s m c) b (doneFrom w a n f)) e;
       start = λ e. refl;
     }
 
@@ -127,10 +127,10 @@ module _ {m : List ℕ} {c : Counts} {w : List ℕ} {n b q bits met : ℕ} (z : 
 
     module _ {r : Ends} {t : 𝔹} (en : Ended m c (getD w (1024 + (q - 1)) 0) r) (le : t ≡ any (eqb b) (targets r)) where
       stepped : (s : List ℕ) (a : ℕ) → a < 64
-          → setBefore (view s m c) b (doneFrom w a (q - 1) (n - (q - 1))) ≡ step t (holds a (getD w (2048 + (q - 1)) 0)) (metAs met (holds a bits))
+          → setBefore (programView s m c) b (doneFrom w a (q - 1) (n - (q - 1))) ≡ step t (holds a (getD w (2048 + (q - 1)) 0)) (metAs met (holds a bits))
       stepped s a l =
-          ap (setBefore (view s m c) b) (down a)
-          ∙ (before-cons (view s m c) b (getD w (1024 + (q - 1)) 0) (holds a (getD w (2048 + (q - 1)) 0)) (doneFrom w a q (n - q))
+          ap (setBefore (programView s m c) b) (down a)
+          ∙ (before-cons (programView s m c) b (getD w (1024 + (q - 1)) 0) (holds a (getD w (2048 + (q - 1)) 0)) (doneFrom w a q (n - q))
           ∙ ap₂ {C = Option 𝔹} (λ x y. step x (holds a (getD w (2048 + (q - 1)) 0)) y) (ap (any (eqb b)) (en .onward s) ∙ sym le) (z .is s a l))
 
       pub meet-skip : t ≡ false → Meeting m c w n b (q - 1) bits met
@@ -162,12 +162,12 @@ module _ {m : List ℕ} {c : Counts} {w : List ℕ} {n b q bits met : ℕ} (z : 
       record {
         is = λ s a l.
             holds-none a
-            ∙ sym (ap orFalse ((sym (ap (λ k. setBefore (view s m c) b (doneFrom w a k (n - k))) e) ∙ z .is s a l) ∙ ap (λ k. metAs k (holds a bits)) f));
+            ∙ sym (ap orFalse ((sym (ap (λ k. setBefore (programView s m c) b (doneFrom w a k (n - k))) e) ∙ z .is s a l) ∙ ap (λ k. metAs k (holds a bits)) f));
       }
 
   pub meet-some : {i : ℕ} → q ≡ i → (met ≡ 0 → ⊥) → Before m c w n i b bits
   meet-some {i} e f =
       let g : met ≡ suc (met - 1) = omega (arith, f) in
       record {
-        is = λ s a l. sym (ap orFalse ((sym (ap (λ k. setBefore (view s m c) b (doneFrom w a k (n - k))) e) ∙ z .is s a l) ∙ ap (λ k. metAs k (holds a bits)) g));
+        is = λ s a l. sym (ap orFalse ((sym (ap (λ k. setBefore (programView s m c) b (doneFrom w a k (n - k))) e) ∙ z .is s a l) ∙ ap (λ k. metAs k (holds a bits)) g));
       }

@@ -12,14 +12,14 @@ use lib.Bits.{bitOr, shifted-even}
 use lib.Pow.{pow-pos, pow-lt, pow-add, shl-shr}
 use lib.Dec.{eqb, ltb}
 use lib.ListN.{length, getD}
-use Rattle.sets.proofs.Bits.{one-shl}
-use Rattle.words.specs.Names.{name}
+use Rattle.ids.proofs.Bits.{one-shl}
+use Rattle.lexer.specs.Names.{name}
 use Rattle.rules.specs.Lists.{any, same, has, first, placesFrom, places}
 use Rattle.rules.specs.Program as P
 use Rattle.rules.specs.Program.{ivarNamed}
 use Rattle.program.specs.Tab.{tab}
 use Rattle.program.specs.Rows.{nameIn, ivarAt, ivarsOf, classAt}
-use Rattle.program.specs.View.{view, Ready, classesOf}
+use Rattle.program.specs.View.{programView, ProgramReady, classesOf}
 use Rattle.program.specs.declared.Counts.{Counts}
 use Rattle.program.specs.declared.Name.{Name}
 use Rattle.program.proofs.Tables.{tab-at, tab-more}
@@ -73,9 +73,9 @@ any-snoc f (y ∷ l) x = go (f y) (any-snoc f l x)
     go false e = e
 
 module _ (s m : List ℕ) (c : Counts) (k : ℕ) (h : k < c .classes) (n : List ℕ) where
-  named-any : has (ivarNamed (view s m c) k n) ≡ any (λ x. same x n) (tab (ivarIn s m k) (ivarsOf m k))
+  named-any : has (ivarNamed (programView s m c) k n) ≡ any (λ x. same x n) (tab (ivarIn s m k) (ivarsOf m k))
   unfolding ivarNamed classesOf classAt
-  named-any = has-first 0 (λ x. same x n) (P.class (view s m c) k .ivars) ∙ ap (λ (x : P.Class). any (λ y. same y n) (x .ivars)) (tab-at (classAt s m) (c .classes) k P.builtIn h)
+  named-any = has-first 0 (λ x. same x n) (P.class (programView s m c) k .ivars) ∙ ap (λ (x : P.Class). any (λ y. same y n) (x .ivars)) (tab-at (classAt s m) (c .classes) k P.builtIn h)
 
 -- ---- the loop
 
@@ -103,7 +103,9 @@ module _ {s m : List ℕ} {k start len bits found a : ℕ} (z : Naming s m k sta
   or-true false = refl
 
   more-some : any (λ x. same x (name s start len)) (tab (ivarIn s m k) (a + 1)) ≡ (any (λ x. same x (name s start len)) (tab (ivarIn s m k) a) || t)
-  more-some = ap (any (λ x. same x (name s start len))) (tab-more (ivarIn s m k) a) ∙ (any-snoc (λ x. same x (name s start len)) (tab (ivarIn s m k) a) (ivarIn s m k a) ∙ ap (λ y. any (λ x. same x (name s start len)) (tab (ivarIn s m k) a) || y) (sym e))
+  more-some =
+      ap (any (λ x. same x (name s start len)))
+      (tab-more (ivarIn s m k) a) ∙ (any-snoc (λ x. same x (name s start len)) (tab (ivarIn s m k) a) (ivarIn s m k a) ∙ ap (λ y. any (λ x. same x (name s start len)) (tab (ivarIn s m k) a) || y) (sym e))
 
   pub name-skip : t ≡ false → Naming s m k start len bits found (a + 1)
   name-skip f =
@@ -140,8 +142,10 @@ module _ {s m : List ℕ} {k start len bits found a : ℕ} (z : Naming s m k sta
       up x = elim (ℕ-discrete x a) [
         | yes q ↦
             let a-name : same (ivarIn s m k x) (name s start len) ≡ true = ap (λ y. same (ivarIn s m k y) (name s start len)) q ∙ (sym e ∙ f) in
-            ap (λ y. (ltb x a && same (ivarIn s m k x) (name s start len)) || y) (eq-eqb x a q) ∙ (or-true (ltb x a && same (ivarIn s m k x) (name s start len)) ∙ sym (ap₂ {C = 𝔹} (λ y w. y && w) (lt-ltb x (a + 1) (omega arith)) a-name))
-        | no q ↦ ap (λ y. (ltb x a && same (ivarIn s m k x) (name s start len)) || y) (ne-eqb x a q) ∙ (or-false (ltb x a && same (ivarIn s m k x) (name s start len)) ∙ ap (λ y. y && same (ivarIn s m k x) (name s start len)) (same-side x q))
+            ap (λ y. (ltb x a && same (ivarIn s m k x) (name s start len)) || y)
+            (eq-eqb x a q) ∙ (or-true (ltb x a && same (ivarIn s m k x) (name s start len)) ∙ sym (ap₂ {C = 𝔹} (λ y w. y && w) (lt-ltb x (a + 1) (omega arith)) a-name))
+        | no q ↦ ap (λ y. (ltb x a && same (ivarIn s m k x) (name s start len)) || y)
+            (ne-eqb x a q) ∙ (or-false (ltb x a && same (ivarIn s m k x) (name s start len)) ∙ ap (λ y. y && same (ivarIn s m k x) (name s start len)) (same-side x q))
       ]
         where
           same-side : (x : ℕ) → (x ≡ a → ⊥) → ltb x a ≡ ltb x (a + 1)
@@ -157,7 +161,7 @@ name-done {s} {m} {k} {bits} {found} {a} {n} {c} z g h =
 
 -- ---- rooms
 
-module _ {m : List ℕ} {c : Counts} {k : ℕ} (ok : Ready m c) (h : k < c .classes) where
+module _ {m : List ℕ} {c : Counts} {k : ℕ} (ok : ProgramReady m c) (h : k < c .classes) where
   pub class-room : 39424 + 4 * k + 2 < length m
   class-room = omega (arith, ok .classes, ok .len-mem)
 

@@ -14,12 +14,12 @@ use Rattle.rules.specs.Finished.{Finished}
 use Rattle.rules.proofs.Paths.Jumps.{next-in}
 use Rattle.program.specs.Tab.{tab}
 use Rattle.program.specs.Rows.{insnAt, instructionAt, blockAt, opIn, opndOf, opndsIn, opndsAt}
-use Rattle.program.specs.View.{view, blocksOf}
+use Rattle.program.specs.View.{programView, blocksOf}
 use Rattle.program.specs.declared.Counts.{Counts}
 use Rattle.program.proofs.Tables.{tab-length}
-use Rattle.index.specs.Chains.{pick}
-use Rattle.index.proofs.Whole.{code-is, insn-of}
-use Rattle.constructors.specs.Walks.{endsFrom, targets, Inside}
+use Rattle.chains.specs.Chains.{pick}
+use Rattle.chains.proofs.Whole.{code-is, insn-of}
+use Rattle.constructors.specs.Walks.{endsFrom, targets, WalkInside}
 use Rattle.constructors.proofs.Endings.{codesOf, finalOr, final-cons, term-onward}
 
 -- ---- a block's last instruction
@@ -42,13 +42,13 @@ last-below t k (suc f) y l e = go (t k) e (last-below t (suc k) f)
 
 module _ (m : List ℕ) (c : Counts) (b : ℕ) where
   abbrev by : List ℕ → Option ℕ → Option P.Terminator
-  by s o = elim o [ none ↦ none | some i ↦ about (opOf (view s m c) i) .terminator ]
+  by s o = elim o [ none ↦ none | some i ↦ about (opOf (programView s m c) i) .terminator ]
 
-  end-by : (s l : List ℕ) → codesOf m (c .insns) b ≡ l → endOf (view s m c) b ≡ by s (final l)
+  end-by : (s l : List ℕ) → codesOf m (c .insns) b ≡ l → endOf (programView s m c) b ≡ by s (final l)
   unfolding endOf
   end-by s l e = ap (λ (r : List ℕ). by s (final r)) (code-is s m c b ∙ e)
 
-  op-is : (s : List ℕ) (i : ℕ) → i < c .insns → opOf (view s m c) i ≡ opIn s (insnAt m i .op) (map opndOf (opndsIn m (opndsAt + 2 * insnAt m i .first) (insnAt m i .count)))
+  op-is : (s : List ℕ) (i : ℕ) → i < c .insns → opOf (programView s m c) i ≡ opIn s (insnAt m i .op) (map opndOf (opndsIn m (opndsAt + 2 * insnAt m i .first) (insnAt m i .count)))
   unfolding instructionAt
   op-is s i g = ap (λ (z : P.Instruction). z .op) (insn-of s m c i g)
 
@@ -56,15 +56,15 @@ module _ (m : List ℕ) (c : Counts) (b : ℕ) where
   below y l e = let z : 0 + c .insns ≡ c .insns = omega arith in omega (arith, last-below (λ j. eqb (insnAt m j .block .0) b) 0 (c .insns) y l e)
 
   -- where a block leads is the same for any script
-  leads-by : (s : List ℕ) (y : ℕ) (l : List ℕ) → codesOf m (c .insns) b ≡ y ∷ l → successors (endOf (view s m c) b) ≡ targets (endsFrom (insnAt m (finalOr y l) .op))
+  leads-by : (s : List ℕ) (y : ℕ) (l : List ℕ) → codesOf m (c .insns) b ≡ y ∷ l → successors (endOf (programView s m c) b) ≡ targets (endsFrom (insnAt m (finalOr y l) .op))
   leads-by s y l e =
       ap successors (end-by s (y ∷ l) e ∙ (ap (by s) (final-cons y l) ∙ ap (λ (o : P.Op). about o .terminator) (op-is s (finalOr y l) (below y l e))))
       ∙ term-onward s (insnAt m (finalOr y l) .op) _
 
-pub inside-of : {L : P.Limits} (s₀ m : List ℕ) (c : Counts) → Finished L (view s₀ m c) → Inside m c
+pub inside-of : {L : P.Limits} (s₀ m : List ℕ) (c : Counts) → Finished L (programView s₀ m c) → WalkInside m c
 unfolding blocksOf
 inside-of {L} s₀ m c R = record { inside = λ s b t h q. go b (codesOf m (c .insns) b) refl s t q }
   where
-    go : (b : ℕ) (l : List ℕ) → codesOf m (c .insns) b ≡ l → (s : List ℕ) (t : ℕ) → any (eqb t) (successors (endOf (view s m c) b)) ≡ true → t < c .blocks
+    go : (b : ℕ) (l : List ℕ) → codesOf m (c .insns) b ≡ l → (s : List ℕ) (t : ℕ) → any (eqb t) (successors (endOf (programView s m c) b)) ≡ true → t < c .blocks
     go b [] e s t q = absurd (false≢true (sym (ap (λ o. any (eqb t) (successors o)) (end-by m c b s [] e)) ∙ q))
-    go b (y ∷ l) e s t q = omega (arith, next-in (view s₀ m c) L R b t (ap (any (eqb t)) (leads-by m c b s₀ y l e ∙ sym (leads-by m c b s y l e)) ∙ q), tab-length (blockAt m) (c .blocks))
+    go b (y ∷ l) e s t q = omega (arith, next-in (programView s₀ m c) L R b t (ap (any (eqb t)) (leads-by m c b s₀ y l e ∙ sym (leads-by m c b s y l e)) ∙ q), tab-length (blockAt m) (c .blocks))

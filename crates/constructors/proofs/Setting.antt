@@ -16,15 +16,15 @@ use Rattle.rules.specs.Program as P
 use Rattle.rules.specs.Program.{Program, about, opOf, code, ivarNamed, returnedBy}
 use Rattle.rules.specs.Constructors.{endOf, setsOf, setBefore, flow, initialized, declared, reversePostOrder}
 use Rattle.program.specs.Rows.{insnAt, instructionAt, opIn, opndOf, opndsIn, opndsAt, nameIn, ivarsOf}
-use Rattle.program.specs.View.{view, Ready}
+use Rattle.program.specs.View.{programView, ProgramReady}
 use Rattle.program.specs.declared.Counts.{Counts}
 use Rattle.program.specs.declared.Name.{Name}
 use Rattle.program.specs.declared.Row.{Row}
 use Rattle.program.specs.declared.Op.{Op}
 use Rattle.program.specs.declared.Op.the-variants as O
-use Rattle.index.specs.Chains.{Chained, at, self, Index}
-use Rattle.index.proofs.Lists.{Starts, chained-below, chained-none, chained-some, chained-low}
-use Rattle.index.proofs.Whole.{code-is, insn-of}
+use Rattle.chains.specs.Chains.{ChainsChained, at, self, Index}
+use Rattle.chains.proofs.Lists.{Starts, chained-below, chained-none, chained-some, chained-low}
+use Rattle.chains.proofs.Whole.{code-is, insn-of}
 use Rattle.constructors.specs.declared.Ends.{Ends}
 use Rattle.constructors.specs.declared.Places.{Places}
 use Rattle.constructors.specs.declared.SetName.{SetName}
@@ -34,7 +34,7 @@ use Rattle.constructors.specs.declared.Sets.the-variants as S
 use Rattle.constructors.specs.declared.Sure.{Sure}
 use Rattle.constructors.specs.declared.Sure.the-variants as Q
 use Rattle.constructors.specs.Walks.{work, returning, Ended, outOf, Walked}
-use Rattle.constructors.specs.Flows.{holds, doneFrom, orFalse, Placed, Before, ivarIn, NamedIs, setName, Told, setsIn, sureIn, allDeclared, SetsIs, SureIs}
+use Rattle.constructors.specs.Flows.{holds, doneFrom, orFalse, FlowPlaced, Before, ivarIn, NamedIs, setName, FlowTold, setsIn, sureIn, allDeclared, SetsIs, SureIs}
 use Rattle.constructors.proofs.Endings.{codesOf, chain-of}
 use Rattle.constructors.proofs.Meeting.{holds-and, holds-or, holds-none, holds-full, full}
 
@@ -73,31 +73,31 @@ or-assoc true b c = refl
 or-assoc false b c = refl
 
 module _ (s m : List ℕ) (c : Counts) where
-  names-at : (h : ℕ) (l : List ℕ) {r : Row} {t : SetName} → h < c .insns → r ≡ insnAt m h → t ≡ setName (r .op) → namesOf (view s m c) (h ∷ l) ≡ setIn s t ++ namesOf (view s m c) l
+  names-at : (h : ℕ) (l : List ℕ) {r : Row} {t : SetName} → h < c .insns → r ≡ insnAt m h → t ≡ setName (r .op) → namesOf (programView s m c) (h ∷ l) ≡ setIn s t ++ namesOf (programView s m c) l
   unfolding instructionAt
   names-at h l {r} {t} g e f =
-      ap (λ x. x ++ namesOf (view s m c) l)
+      ap (λ x. x ++ namesOf (programView s m c) l)
       (ap (λ (x : P.Instruction). toList (about (x .op) .sets)) (insn-of s m c h g)
       ∙ (sets-is s (insnAt m h .op) (map opndOf (opndsIn m (opndsAt + 2 * insnAt m h .first) (insnAt m h .count)))
       ∙ sym (ap (setIn s) (f ∙ ap (λ (x : Row). setName (x .op)) e))))
 
-  sets-names : (b : ℕ) → setsOf (view s m c) b ≡ namesOf (view s m c) (codesOf m (c .insns) b)
+  sets-names : (b : ℕ) → setsOf (programView s m c) b ≡ namesOf (programView s m c) (codesOf m (c .insns) b)
   unfolding setsOf
-  sets-names b = ap (namesOf (view s m c)) (code-is s m c b)
+  sets-names b = ap (namesOf (programView s m c)) (code-is s m c b)
 
 -- the instructions of block b that are left, and the attributes that those before them set
 pub record Setting (s m x : List ℕ) (c : Counts) (k b bits h : ℕ) : Type 0 where
   pub rest : List ℕ
-  pub cells : Chained self (at x 1024) (c .insns) 0 h rest
-  pub sets : (a : ℕ) → a < ivarsOf m k → (holds a bits || any (same (ivarIn s m k a)) (namesOf (view s m c) rest)) ≡ any (same (ivarIn s m k a)) (setsOf (view s m c) b)
-  pub asked : allDeclared s m c k (namesOf (view s m c) rest) ≡ allDeclared s m c k (setsOf (view s m c) b)
+  pub cells : ChainsChained self (at x 1024) (c .insns) 0 h rest
+  pub sets : (a : ℕ) → a < ivarsOf m k → (holds a bits || any (same (ivarIn s m k a)) (namesOf (programView s m c) rest)) ≡ any (same (ivarIn s m k a)) (setsOf (programView s m c) b)
+  pub asked : allDeclared s m c k (namesOf (programView s m c) rest) ≡ allDeclared s m c k (setsOf (programView s m c) b)
 
-pub set-start : (s : List ℕ) {m x : List ℕ} {c : Counts} (k : ℕ) {b h : ℕ} → Ready m c → Index m c x → b < c .blocks → h ≡ getD x b 0 → Setting s m x c k b 0 h
+pub set-start : (s : List ℕ) {m x : List ℕ} {c : Counts} (k : ℕ) {b h : ℕ} → ProgramReady m c → Index m c x → b < c .blocks → h ≡ getD x b 0 → Setting s m x c k b 0 h
 set-start s {m} {x} {c} k {b} ok ix g e =
     record {
       rest = codesOf m (c .insns) b;
       cells = rw e (chain-of ix b (omega (arith, ok .blocks)));
-      sets = λ a l. ap (λ t. t || any (same (ivarIn s m k a)) (namesOf (view s m c) (codesOf m (c .insns) b))) (holds-none a) ∙ sym (ap (any (same (ivarIn s m k a))) (sets-names s m c b));
+      sets = λ a l. ap (λ t. t || any (same (ivarIn s m k a)) (namesOf (programView s m c) (codesOf m (c .insns) b))) (holds-none a) ∙ sym (ap (any (same (ivarIn s m k a))) (sets-names s m c b));
       asked = sym (ap (allDeclared s m c k) (sets-names s m c b));
     }
 
@@ -106,28 +106,28 @@ module _ {s m x : List ℕ} {c : Counts} {k b bits h : ℕ} (z : Setting s m x c
   set-done g =
       let e : z .rest ≡ [] = chained-none self (at x 1024) (c .insns) 0 h (z .rest) (z .cells) g in
       record {
-        asked = sym (sym (ap (λ l. allDeclared s m c k (namesOf (view s m c) l)) e) ∙ z .asked);
+        asked = sym (sym (ap (λ l. allDeclared s m c k (namesOf (programView s m c) l)) e) ∙ z .asked);
         bits = λ o q a l.
             let i : bits ≡ o = cc in
-            ap (holds a) (sym i) ∙ (sym (or-none (holds a bits)) ∙ (sym (ap (λ (l : List ℕ). holds a bits || any (same (ivarIn s m k a)) (namesOf (view s m c) l)) e) ∙ z .sets a l));
+            ap (holds a) (sym i) ∙ (sym (or-none (holds a bits)) ∙ (sym (ap (λ (l : List ℕ). holds a bits || any (same (ivarIn s m k a)) (namesOf (programView s m c) l)) e) ∙ z .sets a l));
       }
 
   module _ (g : h < c .insns) {r : Row} {t : SetName} (re : r ≡ insnAt m h) (te : t ≡ setName (r .op)) where
     more : Starts self (at x 1024) (c .insns) h (z .rest)
     more = chained-some self (at x 1024) (c .insns) 0 h (z .rest) (z .cells) g
 
-    opened : namesOf (view s m c) (z .rest) ≡ setIn s t ++ namesOf (view s m c) (more .rest)
-    opened = ap (namesOf (view s m c)) (more .is) ∙ names-at s m c h (more .rest) g re te
+    opened : namesOf (programView s m c) (z .rest) ≡ setIn s t ++ namesOf (programView s m c) (more .rest)
+    opened = ap (namesOf (programView s m c)) (more .is) ∙ names-at s m c h (more .rest) g re te
 
     pub set-rises : {h' : ℕ} → h' ≡ getD x (1024 + h) 0 → h < h'
     set-rises e = omega (arith, chained-low self (at x 1024) (c .insns) (suc h) _ _ (more .onward) (omega arith))
 
-    onward : {h' : ℕ} → h' ≡ getD x (1024 + h) 0 → Chained self (at x 1024) (c .insns) 0 h' (more .rest)
+    onward : {h' : ℕ} → h' ≡ getD x (1024 + h) 0 → ChainsChained self (at x 1024) (c .insns) 0 h' (more .rest)
     onward e = rw e (chained-below self (at x 1024) (c .insns) (suc h) 0 _ _ (omega arith) (more .onward))
 
     pub set-skip : {h' : ℕ} → h' ≡ getD x (1024 + h) 0 → t ≡ N.Nothing → Setting s m x c k b bits h'
     set-skip e q =
-        let o = opened ∙ ap (λ y. setIn s y ++ namesOf (view s m c) (more .rest)) q in
+        let o = opened ∙ ap (λ y. setIn s y ++ namesOf (programView s m c) (more .rest)) q in
         record {
           rest = more .rest;
           cells = onward e;
@@ -136,8 +136,8 @@ module _ {s m x : List ℕ} {c : Counts} {k b bits h : ℕ} (z : Setting s m x c
         }
 
     module _ {n : Name} {p : Places} (d : NamedIs s m c k n p) (q : t ≡ N.Of n) where
-      o : namesOf (view s m c) (z .rest) ≡ nameIn s n ∷ namesOf (view s m c) (more .rest)
-      o = opened ∙ ap (λ y. setIn s y ++ namesOf (view s m c) (more .rest)) q
+      o : namesOf (programView s m c) (z .rest) ≡ nameIn s n ∷ namesOf (programView s m c) (more .rest)
+      o = opened ∙ ap (λ y. setIn s y ++ namesOf (programView s m c) (more .rest)) q
 
       pub set-more : {h' : ℕ} → ivarsOf m k ≤ 64 → h' ≡ getD x (1024 + h) 0 → (p .found ≡ 0 → ⊥) → Setting s m x c k b (bitOr bits (p .bits)) h'
       set-more few e f =
@@ -146,17 +146,17 @@ module _ {s m x : List ℕ} {c : Counts} {k b bits h : ℕ} (z : Setting s m x c
             cells = onward e;
             sets = λ a l.
                 let here : holds a (p .bits) ≡ same (ivarIn s m k a) (nameIn s n) = d .places a (omega arith) ∙ ap (λ y. y && same (ivarIn s m k a) (nameIn s n)) (lt-ltb a (ivarsOf m k) l) in
-                ap (λ y. y || any (same (ivarIn s m k a)) (namesOf (view s m c) (more .rest))) (holds-or a bits (p .bits) ∙ ap (λ y. holds a bits || y) here)
-                ∙ (or-assoc (holds a bits) (same (ivarIn s m k a) (nameIn s n)) (any (same (ivarIn s m k a)) (namesOf (view s m c) (more .rest)))
+                ap (λ y. y || any (same (ivarIn s m k a)) (namesOf (programView s m c) (more .rest))) (holds-or a bits (p .bits) ∙ ap (λ y. holds a bits || y) here)
+                ∙ (or-assoc (holds a bits) (same (ivarIn s m k a) (nameIn s n)) (any (same (ivarIn s m k a)) (namesOf (programView s m c) (more .rest)))
                 ∙ (sym (ap (λ (y : List (List ℕ)). holds a bits || any (same (ivarIn s m k a)) y) o) ∙ z .sets a l));
             asked =
-                sym (ap (allDeclared s m c k) o ∙ ap (λ y. y && allDeclared s m c k (namesOf (view s m c) (more .rest))) (d .declared ∙ ap not (ne-eqb (p .found) 0 f))) ∙ z .asked;
+                sym (ap (allDeclared s m c k) o ∙ ap (λ y. y && allDeclared s m c k (namesOf (programView s m c) (more .rest))) (d .declared ∙ ap not (ne-eqb (p .found) 0 f))) ∙ z .asked;
           }
 
       pub set-stop : p .found ≡ 0 → SetsIs s m c k b S.Undeclared
       set-stop f =
           record {
-            asked = sym (sym (ap (allDeclared s m c k) o ∙ ap (λ y. y && allDeclared s m c k (namesOf (view s m c) (more .rest))) (d .declared ∙ ap not (eq-eqb (p .found) 0 f))) ∙ z .asked);
+            asked = sym (sym (ap (allDeclared s m c k) o ∙ ap (λ y. y && allDeclared s m c k (namesOf (programView s m c) (more .rest))) (d .declared ∙ ap not (eq-eqb (p .found) 0 f))) ∙ z .asked);
             bits = λ y e. absurd (let w : _≡_ {A = ℕ} 0 1 = cc in omega arith);
           }
 
@@ -165,7 +165,8 @@ module _ {s m x : List ℕ} {c : Counts} {k b bits h : ℕ} (z : Setting s m x c
 abbrev atEnd : Program → ℕ × 𝔹 → 𝔹
 atEnd p x = not (has (returnedBy (endOf p (x .0)))) || x .1
 
-done-same : (w w' : List ℕ) (a q f : ℕ) → ((j : ℕ) → q ≤ j → j < q + f → (getD w' (1024 + j) 0 ≡ getD w (1024 + j) 0) × (getD w' (2048 + j) 0 ≡ getD w (2048 + j) 0)) → doneFrom w' a q f ≡ doneFrom w a q f
+done-same : (w w' : List ℕ) (a q f : ℕ) → ((j : ℕ) → q ≤ j → j < q + f → (getD w' (1024 + j) 0 ≡ getD w (1024 + j) 0) × (getD w' (2048 + j) 0 ≡ getD w (2048 + j) 0))
+    → doneFrom w' a q f ≡ doneFrom w a q f
 unfolding doneFrom
 done-same w w' a q zero e = refl
 done-same w w' a q (suc f) e =
@@ -176,9 +177,9 @@ pub record Passing (s m : List ℕ) (c : Counts) (k n : ℕ) (w₀ w : List ℕ)
   pub len-same : length w ≡ length w₀
   pub high : i ≤ n
   pub order : (j : ℕ) → j < n → getD w (1024 + j) 0 ≡ getD w₀ (1024 + j) 0
-  pub flows : (a : ℕ) → a < ivarsOf m k → flow (view s m c) (ivarIn s m k a) (outOf w₀ i) (doneFrom w a i (n - i)) ≡ flow (view s m c) (ivarIn s m k a) (outOf w₀ n) []
-  pub ends : (a : ℕ) → a < ivarsOf m k → all (atEnd (view s m c)) (doneFrom w a i (n - i)) ≡ holds a res
-  pub asked : declared (view s m c) k (outOf w₀ i) ≡ declared (view s m c) k (outOf w₀ n)
+  pub flows : (a : ℕ) → a < ivarsOf m k → flow (programView s m c) (ivarIn s m k a) (outOf w₀ i) (doneFrom w a i (n - i)) ≡ flow (programView s m c) (ivarIn s m k a) (outOf w₀ n) []
+  pub ends : (a : ℕ) → a < ivarsOf m k → all (atEnd (programView s m c)) (doneFrom w a i (n - i)) ≡ holds a res
+  pub asked : declared (programView s m c) k (outOf w₀ i) ≡ declared (programView s m c) k (outOf w₀ n)
 
 pub pass-start : (s m : List ℕ) (c : Counts) (k n : ℕ) (w : List ℕ) → ivarsOf m k ≤ 64 → Passing s m c k n w w full n
 unfolding doneFrom
@@ -188,8 +189,8 @@ pass-start s m c k n w few =
       len-same = refl;
       high = omega arith;
       order = λ j h. refl;
-      flows = λ a l. ap (λ f. flow (view s m c) (ivarIn s m k a) (outOf w n) (doneFrom w a n f)) e;
-      ends = λ a l. ap (λ f. all (atEnd (view s m c)) (doneFrom w a n f)) e ∙ sym (holds-full a (omega arith));
+      flows = λ a l. ap (λ f. flow (programView s m c) (ivarIn s m k a) (outOf w n) (doneFrom w a n f)) e;
+      ends = λ a l. ap (λ f. all (atEnd (programView s m c)) (doneFrom w a n f)) e ∙ sym (holds-full a (omega arith));
       asked = refl;
     }
 
@@ -205,7 +206,7 @@ flow-cons : (p : Program) (nm : List ℕ) (b : ℕ) (l : List ℕ) (done : List 
 unfolding flow
 flow-cons p nm b l done = ap (λ t. flow p nm l ((b, (any (same nm) (setsOf p b) || t)) ∷ done)) (or-is (setBefore p b done))
 
-declared-cons : (s m : List ℕ) (c : Counts) (k b : ℕ) (l : List ℕ) → declared (view s m c) k (b ∷ l) ≡ (allDeclared s m c k (setsOf (view s m c) b) && declared (view s m c) k l)
+declared-cons : (s m : List ℕ) (c : Counts) (k b : ℕ) (l : List ℕ) → declared (programView s m c) k (b ∷ l) ≡ (allDeclared s m c k (setsOf (programView s m c) b) && declared (programView s m c) k l)
 unfolding declared
 declared-cons s m c k b l = refl
 
@@ -216,12 +217,12 @@ module _ {s m : List ℕ} {c : Counts} {k n : ℕ} {w₀ w : List ℕ} {res i : 
       let e : i ≡ 0 = omega arith in
       let f : n - 0 ≡ n = omega arith in
       record {
-        asked = sym (sym (ap (λ j. declared (view s m c) k (outOf w₀ j)) e) ∙ z .asked);
+        asked = sym (sym (ap (λ j. declared (programView s m c) k (outOf w₀ j)) e) ∙ z .asked);
         bits = λ o q a l.
             let y : res ≡ o = cc in
             ap (holds a) (sym y)
             ∙ (sym (z .ends a l)
-            ∙ ap (all (atEnd (view s m c))) (sym (ap (λ j. flow (view s m c) (ivarIn s m k a) (outOf w₀ j) (doneFrom w a i (n - i))) e) ∙ z .flows a l));
+            ∙ ap (all (atEnd (programView s m c))) (sym (ap (λ j. flow (programView s m c) (ivarIn s m k a) (outOf w₀ j) (doneFrom w a i (n - i))) e) ∙ z .flows a l));
       }
 
   module _ (h : 0 < i) where
@@ -233,13 +234,13 @@ module _ {s m : List ℕ} {c : Counts} {k n : ℕ} {w₀ w : List ℕ} {res i : 
         let e : i ≡ suc (i - 1) = omega arith in
         ap (outOf w₀) e ∙ (out-suc w₀ (i - 1) ∙ ap (λ y. y ∷ outOf w₀ (i - 1)) (sym (z .order (i - 1) (omega (arith, z .high)))))
 
-    asks : (allDeclared s m c k (setsOf (view s m c) (getD w (1024 + (i - 1)) 0)) && declared (view s m c) k (outOf w₀ (i - 1))) ≡ declared (view s m c) k (outOf w₀ n)
-    asks = sym (declared-cons s m c k (getD w (1024 + (i - 1)) 0) (outOf w₀ (i - 1))) ∙ (sym (ap (declared (view s m c) k) taken) ∙ z .asked)
+    asks : (allDeclared s m c k (setsOf (programView s m c) (getD w (1024 + (i - 1)) 0)) && declared (programView s m c) k (outOf w₀ (i - 1))) ≡ declared (programView s m c) k (outOf w₀ n)
+    asks = sym (declared-cons s m c k (getD w (1024 + (i - 1)) 0) (outOf w₀ (i - 1))) ∙ (sym (ap (declared (programView s m c) k) taken) ∙ z .asked)
 
     pub pass-stop : {t : Sets} → SetsIs s m c k (getD w (1024 + (i - 1)) 0) t → t ≡ S.Undeclared → SureIs s m c k (outOf w₀ n) Q.Undeclared
     pass-stop y q =
         record {
-          asked = sym (sym (ap (λ x. x && declared (view s m c) k (outOf w₀ (i - 1))) (y .asked ∙ ap (λ x. has (setsIn x)) q)) ∙ asks);
+          asked = sym (sym (ap (λ x. x && declared (programView s m c) k (outOf w₀ (i - 1))) (y .asked ∙ ap (λ x. has (setsIn x)) q)) ∙ asks);
           bits = λ o e. absurd (let v : _≡_ {A = ℕ} 0 1 = cc in omega arith);
         }
 
@@ -266,31 +267,33 @@ module _ {s m : List ℕ} {c : Counts} {k n : ℕ} {w₀ w : List ℕ} {res i : 
           (ap (λ u. doneFrom w' a u (n - i)) f
           ∙ done-same w w' a i (n - i) (λ j g l. (kept-order j (omega (arith, z .high)), getD-set-other w (2048 + (i - 1)) (2048 + j) (bitOr o ins) 0 (λ x. omega arith))))
 
-      flag : (a : ℕ) → a < ivarsOf m k → holds a (bitOr o ins) ≡ (any (same (ivarIn s m k a)) (setsOf (view s m c) (getD w (1024 + (i - 1)) 0)) || orFalse (setBefore (view s m c) (getD w (1024 + (i - 1)) 0) (doneFrom w a i (n - i))))
+      flag : (a : ℕ) → a < ivarsOf m k
+          → holds a (bitOr o ins) ≡ (any (same (ivarIn s m k a)) (setsOf (programView s m c) (getD w (1024 + (i - 1)) 0)) || orFalse (setBefore (programView s m c) (getD w (1024 + (i - 1)) 0) (doneFrom w a i (n - i))))
       flag a l =
           let e : i - 1 + 1 ≡ i = omega arith in
           holds-or a o ins
           ∙ ap₂ {C = 𝔹} (λ u v. u || v) (y .bits o (ap setsIn q) a l)
-          (bf .is s a (omega arith) ∙ ap (λ u. orFalse (setBefore (view s m c) (getD w (1024 + (i - 1)) 0) (doneFrom w a u (n - u)))) e)
+          (bf .is s a (omega arith) ∙ ap (λ u. orFalse (setBefore (programView s m c) (getD w (1024 + (i - 1)) 0) (doneFrom w a u (n - u)))) e)
 
-      flows-on : (a : ℕ) → a < ivarsOf m k → flow (view s m c) (ivarIn s m k a) (outOf w₀ (i - 1)) (doneFrom w' a (i - 1) (n - (i - 1))) ≡ flow (view s m c) (ivarIn s m k a) (outOf w₀ n) []
+      flows-on : (a : ℕ) → a < ivarsOf m k
+          → flow (programView s m c) (ivarIn s m k a) (outOf w₀ (i - 1)) (doneFrom w' a (i - 1) (n - (i - 1))) ≡ flow (programView s m c) (ivarIn s m k a) (outOf w₀ n) []
       flows-on a l =
-          ap (flow (view s m c) (ivarIn s m k a) (outOf w₀ (i - 1))) (done-on a ∙ ap (λ u. (getD w (1024 + (i - 1)) 0, u) ∷ doneFrom w a i (n - i)) (flag a l))
-          ∙ (sym (flow-cons (view s m c) (ivarIn s m k a) (getD w (1024 + (i - 1)) 0) (outOf w₀ (i - 1)) (doneFrom w a i (n - i)))
-          ∙ (sym (ap (λ u. flow (view s m c) (ivarIn s m k a) u (doneFrom w a i (n - i))) taken) ∙ z .flows a l))
+          ap (flow (programView s m c) (ivarIn s m k a) (outOf w₀ (i - 1))) (done-on a ∙ ap (λ u. (getD w (1024 + (i - 1)) 0, u) ∷ doneFrom w a i (n - i)) (flag a l))
+          ∙ (sym (flow-cons (programView s m c) (ivarIn s m k a) (getD w (1024 + (i - 1)) 0) (outOf w₀ (i - 1)) (doneFrom w a i (n - i)))
+          ∙ (sym (ap (λ u. flow (programView s m c) (ivarIn s m k a) u (doneFrom w a i (n - i))) taken) ∙ z .flows a l))
 
-      asked-on : declared (view s m c) k (outOf w₀ (i - 1)) ≡ declared (view s m c) k (outOf w₀ n)
-      asked-on = sym (ap (λ x. x && declared (view s m c) k (outOf w₀ (i - 1))) (y .asked ∙ ap (λ x. has (setsIn x)) q)) ∙ asks
+      asked-on : declared (programView s m c) k (outOf w₀ (i - 1)) ≡ declared (programView s m c) k (outOf w₀ n)
+      asked-on = sym (ap (λ x. x && declared (programView s m c) k (outOf w₀ (i - 1))) (y .asked ∙ ap (λ x. has (setsIn x)) q)) ∙ asks
 
-      ends-on : (a : ℕ) → all (atEnd (view s m c)) (doneFrom w' a (i - 1) (n - (i - 1))) ≡ ((not back || holds a (bitOr o ins)) && all (atEnd (view s m c)) (doneFrom w a i (n - i)))
+      ends-on : (a : ℕ) → all (atEnd (programView s m c)) (doneFrom w' a (i - 1) (n - (i - 1))) ≡ ((not back || holds a (bitOr o ins)) && all (atEnd (programView s m c)) (doneFrom w a i (n - i)))
       ends-on a =
-          ap (all (atEnd (view s m c))) (done-on a)
-          ∙ ap (λ u. (not u || holds a (bitOr o ins)) && all (atEnd (view s m c)) (doneFrom w a i (n - i))) (en .leaves s ∙ sym bk)
+          ap (all (atEnd (programView s m c))) (done-on a)
+          ∙ ap (λ u. (not u || holds a (bitOr o ins)) && all (atEnd (programView s m c)) (doneFrom w a i (n - i))) (en .leaves s ∙ sym bk)
 
       abbrev Next : ℕ → Type 0
       Next v = Passing s m c k n w₀ w' v (i - 1)
 
-      next : (v : ℕ) → ((a : ℕ) → a < ivarsOf m k → all (atEnd (view s m c)) (doneFrom w' a (i - 1) (n - (i - 1))) ≡ holds a v) → Passing s m c k n w₀ w' v (i - 1)
+      next : (v : ℕ) → ((a : ℕ) → a < ivarsOf m k → all (atEnd (programView s m c)) (doneFrom w' a (i - 1) (n - (i - 1))) ≡ holds a v) → Passing s m c k n w₀ w' v (i - 1)
       next v e =
           record {
             len-same = length-set w (2048 + (i - 1)) (bitOr o ins) ∙ z .len-same;
@@ -302,21 +305,22 @@ module _ {s m : List ℕ} {c : Counts} {k n : ℕ} {w₀ w : List ℕ} {res i : 
           }
 
       pub pass-on : back ≡ false → Passing s m c k n w₀ (set w (2048 + (i - 1)) (bitOr o ins)) res (i - 1)
-      pass-on f = next res (λ a l. ends-on a ∙ (ap (λ u. (not u || holds a (bitOr o ins)) && all (atEnd (view s m c)) (doneFrom w a i (n - i))) f ∙ z .ends a l))
+      pass-on f = next res (λ a l. ends-on a ∙ (ap (λ u. (not u || holds a (bitOr o ins)) && all (atEnd (programView s m c)) (doneFrom w a i (n - i))) f ∙ z .ends a l))
 
       pub pass-back : back ≡ true → Passing s m c k n w₀ (set w (2048 + (i - 1)) (bitOr o ins)) (bitAnd (bitOr o ins) res) (i - 1)
       pass-back f =
           next (bitAnd (bitOr o ins) res)
           (λ a l.
           ends-on a
-          ∙ (ap (λ u. (not u || holds a (bitOr o ins)) && all (atEnd (view s m c)) (doneFrom w a i (n - i))) f
+          ∙ (ap (λ u. (not u || holds a (bitOr o ins)) && all (atEnd (programView s m c)) (doneFrom w a i (n - i))) f
           ∙ (ap (λ u. holds a (bitOr o ins) && u) (z .ends a l) ∙ sym (holds-and a (bitOr o ins) res))))
 
-pub placed-on : {k : ℕ} {w₀ w : List ℕ} {n : ℕ} → Placed k w₀ n → ((j : ℕ) → j < n → getD w (1024 + j) 0 ≡ getD w₀ (1024 + j) 0) → Placed k w n
+pub placed-on : {k : ℕ} {w₀ w : List ℕ} {n : ℕ} → FlowPlaced k w₀ n → ((j : ℕ) → j < n → getD w (1024 + j) 0 ≡ getD w₀ (1024 + j) 0) → FlowPlaced k w n
 placed-on p e = record { blocks = λ i h. rw (e i h) (p .blocks i h); few = p .few }
 
-pub walked-placed : {m : List ℕ} {c : Counts} {b : ℕ} {w : List ℕ} {n : ℕ} → c .blocks ≤ 1024 → Walked m c b w n → Placed (c .blocks) w n
+pub walked-placed : {m : List ℕ} {c : Counts} {b : ℕ} {w : List ℕ} {n : ℕ} → c .blocks ≤ 1024 → Walked m c b w n → FlowPlaced (c .blocks) w n
 walked-placed few d = record { blocks = d .inside; few = omega (arith, d .few) }
 
-pub analyzed : (s : List ℕ) {m : List ℕ} {c : Counts} (k : ℕ) {b : ℕ} {w : List ℕ} {n : ℕ} (r : Sure) → Walked m c b w n → SureIs s m c k (outOf w n) r → SureIs s m c k (reversePostOrder (view s m c) b) r
+pub analyzed : (s : List ℕ) {m : List ℕ} {c : Counts} (k : ℕ) {b : ℕ} {w : List ℕ} {n : ℕ} (r : Sure) → Walked m c b w n → SureIs s m c k (outOf w n) r
+    → SureIs s m c k (reversePostOrder (programView s m c) b) r
 analyzed s {m} {c} k {b} {w} {n} r d y = subst (λ l. SureIs s m c k l r) (d .order s) y

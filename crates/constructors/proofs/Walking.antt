@@ -15,15 +15,15 @@ use Rattle.rules.specs.Lists.{any}
 use Rattle.rules.specs.Program.{Program, successors}
 use Rattle.rules.specs.Constructors.{Walk, endOf, walkEach, walk, reversePostOrder}
 use Rattle.program.specs.Tab.{tab}
-use Rattle.program.specs.View.{view, blocksOf}
+use Rattle.program.specs.View.{programView, blocksOf}
 use Rattle.program.specs.Rows.{blockAt}
 use Rattle.program.specs.declared.Counts.{Counts}
 use Rattle.program.proofs.Tables.{tab-length}
-use Rattle.index.specs.Chains.{Filled}
-use Rattle.sets.specs.declared.BlockId.{BlockId}
+use Rattle.chains.specs.Chains.{ChainsFilled}
+use Rattle.ids.specs.declared.BlockId.{BlockId}
 use Rattle.constructors.specs.declared.Ends.{Ends}
 use Rattle.constructors.specs.declared.Ends.the-variants.{Return, Jump, IfTrue, Open}
-use Rattle.constructors.specs.Walks.{work, targets, Ended, Inside, marked, unseen, outOf, Marks, Good, Same, walkOf, visitOf, Did, Walked}
+use Rattle.constructors.specs.Walks.{work, targets, Ended, WalkInside, marked, unseen, outOf, Marks, WalkGood, Same, walkOf, visitOf, WalkDid, Walked}
 
 or-true : (t : 𝔹) → (t || (true || false)) ≡ true
 or-true true = refl
@@ -78,8 +78,8 @@ module _ (w : List ℕ) (n b : ℕ) where
   unfolding outOf
   out-more h = rw (add-one, getD-set-same w (1024 + n) b 0 h, out-push n (omega arith))
 
-module _ (k : ℕ) (w : List ℕ) (n b : ℕ) (ok : Good k w n) (l : b < k) where
-  pub push-good : n < k → n + 1 + unseen w k ≤ k → Good k (set w (1024 + n) b) (n + 1)
+module _ (k : ℕ) (w : List ℕ) (n b : ℕ) (ok : WalkGood k w n) (l : b < k) where
+  pub push-good : n < k → n + 1 + unseen w k ≤ k → WalkGood k (set w (1024 + n) b) (n + 1)
   push-good h r =
       record {
         len = omega (arith, ok .len, length-set w (1024 + n) b);
@@ -105,11 +105,12 @@ module _ (p : Program) where
   -- what a walk does after the mark, by the blocks that b leads to
   pub walk-to : (f b : ℕ) (v : Walk) (ts : List ℕ) → successors (endOf p b) ≡ ts
       → walk p (suc f) b v
-      ≡ record { visited = walkEach p (walk p f) ts (record { visited = b ∷ v .visited; order = v .order }) .visited; order = b ∷ walkEach p (walk p f) ts (record { visited = b ∷ v .visited; order = v .order }) .order }
+      ≡ record
+      { visited = walkEach p (walk p f) ts (record { visited = b ∷ v .visited; order = v .order }) .visited; order = b ∷ walkEach p (walk p f) ts (record { visited = b ∷ v .visited; order = v .order }) .order }
   unfolding walk
   walk-to f b v ts e = rw e
 
-module _ (m : List ℕ) (c : Counts) {w : List ℕ} {n : ℕ} {b : ℕ} (ok : Good (c .blocks) w n) (l : b < c .blocks) (e : getD w b 0 ≡ 0) where
+module _ (m : List ℕ) (c : Counts) {w : List ℕ} {n : ℕ} {b : ℕ} (ok : WalkGood (c .blocks) w n) (l : b < c .blocks) (e : getD w b 0 ≡ 0) where
   abbrev K : ℕ
   K = c .blocks
 
@@ -122,7 +123,7 @@ module _ (m : List ℕ) (c : Counts) {w : List ℕ} {n : ℕ} {b : ℕ} (ok : Go
   one-less : unseen w1 K + 1 ≡ unseen w K
   one-less = unseen-mark w b e long K l
 
-  pub mark-good : Good (c .blocks) (set w b 1) n
+  pub mark-good : WalkGood (c .blocks) (set w b 1) n
   mark-good =
       record {
         len = omega (arith, ok .len, length-set w b 1);
@@ -137,16 +138,12 @@ module _ (m : List ℕ) (c : Counts) {w : List ℕ} {n : ℕ} {b : ℕ} (ok : Go
   pub mark-room : n < 1024
   mark-room = omega (arith, ok .room, one-less, ok .few)
 
-  -- the marks and blocks from which the targets are visited
-  marked-same : (v : List ℕ) → Marks w K v → Same K w1 n (record { visited = b ∷ v; order = outOf w n })
-  marked-same v f = record { visited = marks-more w b e long K v f; order = out-mark w b (omega (arith, ok .few)) n }
-
-  module _ {w2 : List ℕ} {n2 : ℕ} (ts : List ℕ) (onward : (s : List ℕ) → successors (endOf (view s m c) b) ≡ ts)
-      (d : Did (λ s f v. walkEach (view s m c) (walk (view s m c) f) ts v) (c .blocks) (set w b 1) n w2 n2) where
+  module _ {w2 : List ℕ} {n2 : ℕ} (ts : List ℕ) (onward : (s : List ℕ) → successors (endOf (programView s m c) b) ≡ ts)
+      (d : WalkDid (λ s f v. walkEach (programView s m c) (walk (programView s m c) f) ts v) (c .blocks) (set w b 1) n w2 n2) where
     fits : n2 + 1 + unseen w2 K ≤ K
     fits = omega (arith, d .room, one-less, ok .room)
 
-    pub leave : (w' : List ℕ) (r : ℕ) → r ≡ n2 + 1 → w' ≡ set w2 (1024 + n2) b → Did (walkOf m c b) (c .blocks) w n w' r
+    pub leave : (w' : List ℕ) (r : ℕ) → r ≡ n2 + 1 → w' ≡ set w2 (1024 + n2) b → WalkDid (walkOf m c b) (c .blocks) w n w' r
     leave w' r er ew =
         let h : n2 < K = omega (arith, d .room, one-less, ok .room) in
         rw (er, ew)
@@ -156,8 +153,8 @@ module _ (m : List ℕ) (c : Counts) {w : List ℕ} {n : ℕ} {b : ℕ} (ok : Go
               let inner = d .is s (f - 1) (omega (arith, one-less)) (b ∷ v) (marks-more w b e long K v k) in
               let start : outOf w1 n ≡ outOf w n = out-mark w b (omega (arith, ok .few)) n in
               subst (λ (z : Walk). Same K (set w2 (1024 + n2) b) (n2 + 1) z)
-              (sym (ap (λ x. walk (view s m c) x b (record { visited = v; order = outOf w n })) one ∙ walk-to (view s m c) (f - 1) b (record { visited = v; order = outOf w n }) ts (onward s)))
-              (push-same K w2 n2 b (d .good) l h _ (subst (λ (o : List ℕ). Same K w2 n2 (walkEach (view s m c) (walk (view s m c) (f - 1)) ts (record { visited = b ∷ v; order = o }))) start inner));
+              (sym (ap (λ x. walk (programView s m c) x b (record { visited = v; order = outOf w n })) one ∙ walk-to (programView s m c) (f - 1) b (record { visited = v; order = outOf w n }) ts (onward s)))
+              (push-same K w2 n2 b (d .good) l h _ (subst (λ (o : List ℕ). Same K w2 n2 (walkEach (programView s m c) (walk (programView s m c) (f - 1)) ts (record { visited = b ∷ v; order = o }))) start inner));
           fewer = rw (unseen-push w2 n2 b K (ok .few)) (omega (arith, d .fewer, one-less));
           room = rw (unseen-push w2 n2 b K (ok .few)) (omega (arith, d .room, one-less));
           good = push-good K w2 n2 b (d .good) l h fits;
@@ -167,9 +164,9 @@ module _ (m : List ℕ) (c : Counts) {w : List ℕ} {n : ℕ} {b : ℕ} (ok : Go
 -- ---- the blocks that it leads to
 
 abbrev pub Each : List ℕ → Counts → List ℕ → List ℕ → ℕ → Walk → Walk
-Each m c ts s f v = walkEach (view s m c) (walk (view s m c) f) ts v
+Each m c ts s f v = walkEach (programView s m c) (walk (programView s m c) f) ts v
 
-each-none : (m : List ℕ) (c : Counts) {w : List ℕ} {n : ℕ} → Good (c .blocks) w n → Did (Each m c []) (c .blocks) w n w n
+each-none : (m : List ℕ) (c : Counts) {w : List ℕ} {n : ℕ} → WalkGood (c .blocks) w n → WalkDid (Each m c []) (c .blocks) w n w n
 each-none m c ok =
     record {
       is = λ s f g v k. record { visited = k; order = refl };
@@ -179,11 +176,11 @@ each-none m c ok =
       len-same = refl;
     }
 
-each-one : (m : List ℕ) (c : Counts) (t : ℕ) {w w2 : List ℕ} {n n2 : ℕ} → Did (visitOf m c t) (c .blocks) w n w2 n2 → Did (Each m c (t ∷ [])) (c .blocks) w n w2 n2
+each-one : (m : List ℕ) (c : Counts) (t : ℕ) {w w2 : List ℕ} {n n2 : ℕ} → WalkDid (visitOf m c t) (c .blocks) w n w2 n2 → WalkDid (Each m c (t ∷ [])) (c .blocks) w n w2 n2
 each-one m c t d = record { is = d .is; fewer = d .fewer; room = d .room; good = d .good; len-same = d .len-same }
 
-each-two : (m : List ℕ) (c : Counts) (t u : ℕ) {w w2 w3 : List ℕ} {n n2 n3 : ℕ} → Did (visitOf m c t) (c .blocks) w n w2 n2 → Did (visitOf m c u) (c .blocks) w2 n2 w3 n3
-    → Did (Each m c (t ∷ u ∷ [])) (c .blocks) w n w3 n3
+each-two : (m : List ℕ) (c : Counts) (t u : ℕ) {w w2 w3 : List ℕ} {n n2 n3 : ℕ} → WalkDid (visitOf m c t) (c .blocks) w n w2 n2 → WalkDid (visitOf m c u) (c .blocks) w2 n2 w3 n3
+    → WalkDid (Each m c (t ∷ u ∷ [])) (c .blocks) w n w3 n3
 each-two m c t u {w} {w2} {w3} {n} {n2} {n3} d d' =
     record {
       is = λ s f g v k.
@@ -197,28 +194,28 @@ each-two m c t u {w} {w2} {w3} {n} {n2} {n3} d d' =
       len-same = d' .len-same ∙ d .len-same;
     }
 
-module _ {m : List ℕ} {c : Counts} {w : List ℕ} {n b : ℕ} {r : Ends} (ok : Good (c .blocks) w n) (l : b < c .blocks) (e : getD w b 0 ≡ 0) (en : Ended m c b r) where
-  leads : (ts : List ℕ) → targets r ≡ ts → (s : List ℕ) → successors (endOf (view s m c) b) ≡ ts
+module _ {m : List ℕ} {c : Counts} {w : List ℕ} {n b : ℕ} {r : Ends} (ok : WalkGood (c .blocks) w n) (l : b < c .blocks) (e : getD w b 0 ≡ 0) (en : Ended m c b r) where
+  leads : (ts : List ℕ) → targets r ≡ ts → (s : List ℕ) → successors (endOf (programView s m c) b) ≡ ts
   leads ts q s = en .onward s ∙ q
 
-  pub walk-end : targets r ≡ [] → {w' : List ℕ} {k : ℕ} → k ≡ n + 1 → w' ≡ set (set w b 1) (1024 + n) b → Did (walkOf m c b) (c .blocks) w n w' k
+  pub walk-end : targets r ≡ [] → {w' : List ℕ} {k : ℕ} → k ≡ n + 1 → w' ≡ set (set w b 1) (1024 + n) b → WalkDid (walkOf m c b) (c .blocks) w n w' k
   walk-end q er ew = leave m c ok l e [] (leads [] q) (each-none m c (mark-good m c ok l e)) _ _ er ew
 
-  module _ {t : BlockId} {w2 : List ℕ} {n2 : ℕ} (d : Did (visitOf m c (t .0)) (c .blocks) (set w b 1) n w2 n2) where
-    pub walk-jump : r ≡ Jump t → {w' : List ℕ} {k : ℕ} → k ≡ n2 + 1 → w' ≡ set w2 (1024 + n2) b → Did (walkOf m c b) (c .blocks) w n w' k
+  module _ {t : BlockId} {w2 : List ℕ} {n2 : ℕ} (d : WalkDid (visitOf m c (t .0)) (c .blocks) (set w b 1) n w2 n2) where
+    pub walk-jump : r ≡ Jump t → {w' : List ℕ} {k : ℕ} → k ≡ n2 + 1 → w' ≡ set w2 (1024 + n2) b → WalkDid (walkOf m c b) (c .blocks) w n w' k
     walk-jump q er ew = leave m c ok l e (t .0 ∷ []) (leads (t .0 ∷ []) (ap targets q)) (each-one m c (t .0) d) _ _ er ew
 
-    module _ {u : BlockId} {w3 : List ℕ} {n3 : ℕ} (d' : Did (visitOf m c (u .0)) (c .blocks) w2 n2 w3 n3) where
-      pub walk-choice : r ≡ IfTrue t u → {w' : List ℕ} {k : ℕ} → k ≡ n3 + 1 → w' ≡ set w3 (1024 + n3) b → Did (walkOf m c b) (c .blocks) w n w' k
+    module _ {u : BlockId} {w3 : List ℕ} {n3 : ℕ} (d' : WalkDid (visitOf m c (u .0)) (c .blocks) w2 n2 w3 n3) where
+      pub walk-choice : r ≡ IfTrue t u → {w' : List ℕ} {k : ℕ} → k ≡ n3 + 1 → w' ≡ set w3 (1024 + n3) b → WalkDid (walkOf m c b) (c .blocks) w n w' k
       walk-choice q er ew = leave m c ok l e (t .0 ∷ u .0 ∷ []) (leads (t .0 ∷ u .0 ∷ []) (ap targets q)) (each-two m c (t .0) (u .0) d d') _ _ er ew
 
-  pub walk-return : r ≡ Return → {w' : List ℕ} {k : ℕ} → k ≡ n + 1 → w' ≡ set (set w b 1) (1024 + n) b → Did (walkOf m c b) (c .blocks) w n w' k
+  pub walk-return : r ≡ Return → {w' : List ℕ} {k : ℕ} → k ≡ n + 1 → w' ≡ set (set w b 1) (1024 + n) b → WalkDid (walkOf m c b) (c .blocks) w n w' k
   walk-return q er ew = walk-end (ap targets q) er ew
 
-  pub walk-open : r ≡ Open → {w' : List ℕ} {k : ℕ} → k ≡ n + 1 → w' ≡ set (set w b 1) (1024 + n) b → Did (walkOf m c b) (c .blocks) w n w' k
+  pub walk-open : r ≡ Open → {w' : List ℕ} {k : ℕ} → k ≡ n + 1 → w' ≡ set (set w b 1) (1024 + n) b → WalkDid (walkOf m c b) (c .blocks) w n w' k
   walk-open q er ew = walk-end (ap targets q) er ew
 
-  module _ (inn : Inside m c) {t : BlockId} where
+  module _ (inn : WalkInside m c) {t : BlockId} where
     pub jump-inside : r ≡ Jump t → t .0 < c .blocks
     jump-inside q = inn .inside [] b (t .0) l (rw (leads (t .0 ∷ []) (ap targets q) [], eq-eqb (t .0) (t .0) refl) refl)
 
@@ -229,7 +226,7 @@ module _ {m : List ℕ} {c : Counts} {w : List ℕ} {n b : ℕ} {r : Ends} (ok :
     else-inside {u} q = inn .inside [] b (t .0) l (rw (leads (u .0 ∷ t .0 ∷ []) (ap targets q) [], eq-eqb (t .0) (t .0) refl) (or-true (eqb (t .0) (u .0))))
 
 -- after visits: what the next call asks
-module _ (c : Counts) {w : List ℕ} {n b : ℕ} (ok : Good (c .blocks) w n) (l : b < c .blocks) (e : getD w b 0 ≡ 0) {F : List ℕ → ℕ → Walk → Walk} {w2 : List ℕ} {n2 : ℕ} (d : Did F (c .blocks) (set w b 1) n w2 n2) where
+module _ (c : Counts) {w : List ℕ} {n b : ℕ} (ok : WalkGood (c .blocks) w n) (l : b < c .blocks) (e : getD w b 0 ≡ 0) {F : List ℕ → ℕ → Walk → Walk} {w2 : List ℕ} {n2 : ℕ} (d : WalkDid F (c .blocks) (set w b 1) n w2 n2) where
   less : unseen (set w b 1) (c .blocks) + 1 ≡ unseen w (c .blocks)
   less = unseen-mark w b e (omega (arith, ok .len, ok .few)) (c .blocks) l
 
@@ -239,13 +236,13 @@ module _ (c : Counts) {w : List ℕ} {n b : ℕ} (ok : Good (c .blocks) w n) (l 
   pub next-room : n2 < 1024
   next-room = omega (arith, d .room, less, ok .room, ok .few)
 
-  pub last-room : {G : List ℕ → ℕ → Walk → Walk} {w3 : List ℕ} {n3 : ℕ} → Did G (c .blocks) w2 n2 w3 n3 → n3 < 1024
+  pub last-room : {G : List ℕ → ℕ → Walk → Walk} {w3 : List ℕ} {n3 : ℕ} → WalkDid G (c .blocks) w2 n2 w3 n3 → n3 < 1024
   last-room d' = omega (arith, d .room, d' .room, less, ok .room, ok .few)
 
 -- ---- a visit
 
-module _ (m : List ℕ) (c : Counts) {w : List ℕ} {n b : ℕ} (ok : Good (c .blocks) w n) (l : b < c .blocks) where
-  pub visit-new : {w' : List ℕ} {r : ℕ} → getD w b 0 ≡ 0 → Did (walkOf m c b) (c .blocks) w n w' r → Did (visitOf m c b) (c .blocks) w n w' r
+module _ (m : List ℕ) (c : Counts) {w : List ℕ} {n b : ℕ} (ok : WalkGood (c .blocks) w n) (l : b < c .blocks) where
+  pub visit-new : {w' : List ℕ} {r : ℕ} → getD w b 0 ≡ 0 → WalkDid (walkOf m c b) (c .blocks) w n w' r → WalkDid (visitOf m c b) (c .blocks) w n w' r
   visit-new {w'} {r} e d =
       record {
         is = λ s f g v k. let q : any (eqb b) v ≡ false = k b l ∙ rw (eq-eqb (getD w b 0) 0 e) in rw q (d .is s f g v k);
@@ -255,7 +252,7 @@ module _ (m : List ℕ) (c : Counts) {w : List ℕ} {n b : ℕ} (ok : Good (c .b
         len-same = d .len-same;
       }
 
-  pub visit-old : (getD w b 0 ≡ 0 → ⊥) → Did (visitOf m c b) (c .blocks) w n w n
+  pub visit-old : (getD w b 0 ≡ 0 → ⊥) → WalkDid (visitOf m c b) (c .blocks) w n w n
   visit-old e =
       record {
         is = λ s f g v k. let q : any (eqb b) v ≡ true = k b l ∙ rw (ne-eqb (getD w b 0) 0 e) in rw q (record { visited = k; order = refl });
@@ -276,11 +273,11 @@ unseen-le w (suc k) = go (eqb (getD w k 0) 0) (unseen-le w k)
     go true h = omega arith
     go false h = omega arith
 
-module _ (c : Counts) {v w : List ℕ} (f : Filled 0 1024 0 v w) (long : work ≤ length v) (few : c .blocks ≤ 1024) where
+module _ (c : Counts) {v w : List ℕ} (f : ChainsFilled 0 1024 0 v w) (long : work ≤ length v) (few : c .blocks ≤ 1024) where
   pub clear-word : (b : ℕ) → b < c .blocks → getD w b 0 ≡ 0
   clear-word b h = let e : 0 + b ≡ b = omega arith in sym (ap (λ k. getD w k 0) e) ∙ f .here b (omega arith)
 
-  pub clear-good : Good (c .blocks) w 0
+  pub clear-good : WalkGood (c .blocks) w 0
   clear-good =
       record {
         len = omega (arith, f .only .len-same);
@@ -289,13 +286,13 @@ module _ (c : Counts) {v w : List ℕ} (f : Filled 0 1024 0 v w) (long : work �
         order = λ i h. absurd (omega arith);
       }
 
-  pub walk-done : (m : List ℕ) {b : ℕ} {w' : List ℕ} {r : ℕ} → Did (walkOf m c b) (c .blocks) w 0 w' r → Walked m c b w' r
+  pub walk-done : (m : List ℕ) {b : ℕ} {w' : List ℕ} {r : ℕ} → WalkDid (walkOf m c b) (c .blocks) w 0 w' r → Walked m c b w' r
   unfolding reversePostOrder blocksOf outOf
   walk-done m {b} {w'} {r} d =
       record {
         order = λ s.
             let a = d .is s (c .blocks) (unseen-le w (c .blocks)) [] (λ x h. rw (clear-word x h)) in
-            a .order ∙ ap (λ k. walk (view s m c) k b (record { visited = []; order = [] }) .order) (sym (tab-length (blockAt m) (c .blocks)));
+            a .order ∙ ap (λ k. walk (programView s m c) k b (record { visited = []; order = [] }) .order) (sym (tab-length (blockAt m) (c .blocks)));
         inside = d .good .order;
         few = omega (arith, d .good .room);
         len = d .good .len;

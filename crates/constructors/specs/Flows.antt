@@ -10,7 +10,7 @@ use Rattle.rules.specs.Constructors.{reversePostOrder, setsOf, setBefore, initi
 use Rattle.rules.specs.Lists.{same, any, all, has}
 use Rattle.rules.specs.Program.{ivarNamed}
 use Rattle.program.specs.Rows.{nameIn, ivarAt, ivarsOf}
-use Rattle.program.specs.View.{view}
+use Rattle.program.specs.View.{programView}
 use Rattle.program.specs.declared.Name.{Name}
 use Rattle.program.specs.declared.Op.{Op}
 use Rattle.program.specs.declared.Op.the-variants as O
@@ -38,13 +38,13 @@ orFalse none = false
 orFalse (some t) = t
 
 -- the first n places of the order have blocks
-pub record Placed (k : ℕ) (w : List ℕ) (n : ℕ) : Type 0 where
+pub record FlowPlaced (k : ℕ) (w : List ℕ) (n : ℕ) : Type 0 where
   pub blocks : (i : ℕ) → i < n → getD w (1024 + i) 0 < k
   pub few : n ≤ 1024
 
 -- r is what is set before block b, by the blocks done from place i on
 pub record Before (m : List ℕ) (c : Counts) (w : List ℕ) (n i b r : ℕ) : Type 0 where
-  pub is : (s : List ℕ) (a : ℕ) → a < 64 → holds a r ≡ orFalse (setBefore (view s m c) b (doneFrom w a i (n - i)))
+  pub is : (s : List ℕ) (a : ℕ) → a < 64 → holds a r ≡ orFalse (setBefore (programView s m c) b (doneFrom w a i (n - i)))
 
 -- ---- what a block sets
 
@@ -55,7 +55,7 @@ ivarIn s m k a = nameIn s (ivarAt m k a)
 -- the places of class k's attributes that bear a name, and whether there is one
 pub record NamedIs (s m : List ℕ) (c : Counts) (k : ℕ) (n : Name) (r : Places) : Type 0 where
   pub places : (a : ℕ) → a < 64 → holds a (r .bits) ≡ (ltb a (ivarsOf m k) && same (ivarIn s m k a) (nameIn s n))
-  pub declared : has (ivarNamed (view s m c) k (nameIn s n)) ≡ not (eqb (r .found) 0)
+  pub declared : has (ivarNamed (programView s m c) k (nameIn s n)) ≡ not (eqb (r .found) 0)
 
 abbrev pub setName : Op → SetName
 setName (O.Jump b) = N.Nothing
@@ -72,7 +72,7 @@ setName (O.GetIvar n) = N.Nothing
 setName (O.SetIvar n) = N.Of n
 
 -- a set of attributes of class k, each by a test on its name; or a question that is answered no
-pub record Told (s m : List ℕ) (k : ℕ) (yes? : 𝔹) (test : List ℕ → 𝔹) (r : Option ℕ) : Type 0 where
+pub record FlowTold (s m : List ℕ) (k : ℕ) (yes? : 𝔹) (test : List ℕ → 𝔹) (r : Option ℕ) : Type 0 where
   pub asked : yes? ≡ has r
   pub bits : (o : ℕ) → r ≡ some o → (a : ℕ) → a < ivarsOf m k → holds a o ≡ test (ivarIn s m k a)
 
@@ -85,18 +85,18 @@ sureIn (Q.Set o) = some o
 sureIn Q.Undeclared = none
 
 abbrev pub allDeclared : List ℕ → List ℕ → Counts → ℕ → List (List ℕ) → 𝔹
-allDeclared s m c k l = all (λ n. has (ivarNamed (view s m c) k n)) l
+allDeclared s m c k l = all (λ n. has (ivarNamed (programView s m c) k n)) l
 
 -- what block b sets of class k's attributes
 abbrev pub SetsIs : List ℕ → List ℕ → Counts → ℕ → ℕ → Sets → Type 0
-SetsIs s m c k b r = Told s m k (allDeclared s m c k (setsOf (view s m c) b)) (λ n. any (same n) (setsOf (view s m c) b)) (setsIn r)
+SetsIs s m c k b r = FlowTold s m k (allDeclared s m c k (setsOf (programView s m c) b)) (λ n. any (same n) (setsOf (programView s m c) b)) (setsIn r)
 
 -- what the blocks of an order surely set
 abbrev pub SureIs : List ℕ → List ℕ → Counts → ℕ → List ℕ → Sure → Type 0
-SureIs s m c k blocks r = Told s m k (declared (view s m c) k blocks) (initialized (view s m c) blocks) (sureIn r)
+SureIs s m c k blocks r = FlowTold s m k (declared (programView s m c) k blocks) (initialized (programView s m c) blocks) (sureIn r)
 
 abbrev pub Surely : List ℕ → List ℕ → Counts → ℕ → List ℕ → ℕ → Sure → Type 0
 Surely s m c k w n r = SureIs s m c k (outOf w n) r
 
-abbrev pub Analyzed : List ℕ → List ℕ → Counts → ℕ → ℕ → Sure → Type 0
-Analyzed s m c k b r = SureIs s m c k (reversePostOrder (view s m c) b) r
+abbrev pub FlowAnalyzed : List ℕ → List ℕ → Counts → ℕ → ℕ → Sure → Type 0
+FlowAnalyzed s m c k b r = SureIs s m c k (reversePostOrder (programView s m c) b) r

@@ -1,2 +1,3 @@
+pub mod firsts
 pub mod Walks
 pub mod Flows

@@ -9,7 +9,7 @@ use Rattle.rules.specs.Actions.{choose}
 use Rattle.rules.specs.Lists.{any, has}
 use Rattle.rules.specs.Program.{successors, returnedBy}
 use Rattle.rules.specs.Constructors.{Walk, endOf, walk, reversePostOrder}
-use Rattle.program.specs.View.{view}
+use Rattle.program.specs.View.{programView}
 use Rattle.program.specs.declared.Counts.{Counts}
 use Rattle.program.specs.declared.Op.{Op}
 use Rattle.program.specs.declared.Op.the-variants as O
@@ -47,12 +47,12 @@ returning Open = false
 
 -- how block b ends, for any script
 pub record Ended (m : List ℕ) (c : Counts) (b : ℕ) (r : Ends) : Type 0 where
-  pub onward : (s : List ℕ) → successors (endOf (view s m c) b) ≡ targets r
-  pub leaves : (s : List ℕ) → has (returnedBy (endOf (view s m c) b)) ≡ returning r
+  pub onward : (s : List ℕ) → successors (endOf (programView s m c) b) ≡ targets r
+  pub leaves : (s : List ℕ) → has (returnedBy (endOf (programView s m c) b)) ≡ returning r
 
 -- the blocks that terminators name are there
-pub record Inside (m : List ℕ) (c : Counts) : Type 0 where
-  pub inside : (s : List ℕ) (b t : ℕ) → b < c .blocks → any (eqb t) (successors (endOf (view s m c) b)) ≡ true → t < c .blocks
+pub record WalkInside (m : List ℕ) (c : Counts) : Type 0 where
+  pub inside : (s : List ℕ) (b t : ℕ) → b < c .blocks → any (eqb t) (successors (endOf (programView s m c) b)) ≡ true → t < c .blocks
 
 -- ---- the walk's state
 
@@ -73,7 +73,7 @@ outOf w (suc n) = getD w (1024 + n) 0 ∷ outOf w n
 abbrev pub Marks : List ℕ → ℕ → List ℕ → Type 0
 Marks w k v = (b : ℕ) → b < k → any (eqb b) v ≡ marked w b
 
-pub record Good (k : ℕ) (w : List ℕ) (n : ℕ) : Type 0 where
+pub record WalkGood (k : ℕ) (w : List ℕ) (n : ℕ) : Type 0 where
   pub len : work ≤ length w
   pub few : k ≤ 1024
   pub room : n + unseen w k ≤ k
@@ -84,22 +84,22 @@ pub record Same (k : ℕ) (w : List ℕ) (n : ℕ) (v : Walk) : Type 0 where
   pub order : outOf w n ≡ v .order
 
 abbrev pub walkOf : List ℕ → Counts → ℕ → List ℕ → ℕ → Walk → Walk
-walkOf m c b s f v = walk (view s m c) f b v
+walkOf m c b s f v = walk (programView s m c) f b v
 
 abbrev pub visitOf : List ℕ → Counts → ℕ → List ℕ → ℕ → Walk → Walk
-visitOf m c b s f v = choose (any (eqb b) (v .visited)) (λ _. v) (λ _. walk (view s m c) f b v)
+visitOf m c b s f v = choose (any (eqb b) (v .visited)) (λ _. v) (λ _. walk (programView s m c) f b v)
 
 -- F, for any script and any number from the blocks not yet visited up, was done
-pub record Did (F : List ℕ → ℕ → Walk → Walk) (k : ℕ) (w : List ℕ) (n : ℕ) (w' : List ℕ) (r : ℕ) : Type 0 where
+pub record WalkDid (F : List ℕ → ℕ → Walk → Walk) (k : ℕ) (w : List ℕ) (n : ℕ) (w' : List ℕ) (r : ℕ) : Type 0 where
   pub is : (s : List ℕ) (f : ℕ) → unseen w k ≤ f → (v : List ℕ) → Marks w k v → Same k w' r (F s f (record { visited = v; order = outOf w n }))
   pub fewer : unseen w' k ≤ unseen w k
   pub room : r + unseen w' k ≤ n + unseen w k
-  pub good : Good k w' r
+  pub good : WalkGood k w' r
   pub len-same : length w' ≡ length w
 
 -- the blocks that b leads to
 pub record Walked (m : List ℕ) (c : Counts) (b : ℕ) (w : List ℕ) (n : ℕ) : Type 0 where
-  pub order : (s : List ℕ) → outOf w n ≡ reversePostOrder (view s m c) b
+  pub order : (s : List ℕ) → outOf w n ≡ reversePostOrder (programView s m c) b
   pub inside : (i : ℕ) → i < n → getD w (1024 + i) 0 < c .blocks
   pub few : n ≤ c .blocks
   pub len : work ≤ length w

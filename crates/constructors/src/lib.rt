@@ -1,19 +1,21 @@
 // The attributes that a constructor surely sets.
+pub mod firsts;
+
+use ids::BlockId;
+use ids::ClassId;
+use ids::InsnId;
 use program::Counts;
 use program::Name;
 use program::Op;
-use sets::BlockId;
-use sets::ClassId;
-use sets::InsnId;
 ghost use mathlib.Core.Path.{_≡_};
 ghost use lib.Dec.{eqb};
 ghost use Rattle.rules.specs.Lists.{any};
 ghost use Prim.Native.Nat.{ℕ, _+_, _*_, _≤_, _<_};
 ghost use lib.ListN.{length, getD, set};
-ghost use Rattle.program.specs.View.{Ready};
-ghost use Rattle.index.specs.Chains.{Index};
-ghost use Rattle.constructors.specs.Walks.{work, endsFrom, targets, returning, Ended, Inside, Good, Did, visitOf, walkOf, Walked};
-ghost use Rattle.constructors.specs.Flows.{Placed, Before, NamedIs, setName, SetsIs, Surely, Analyzed};
+ghost use Rattle.program.specs.View.{ProgramReady};
+ghost use Rattle.chains.specs.Chains.{Index};
+ghost use Rattle.constructors.specs.Walks.{work, endsFrom, targets, returning, Ended, WalkInside, WalkGood, WalkDid, visitOf, walkOf, Walked};
+ghost use Rattle.constructors.specs.Flows.{FlowPlaced, Before, NamedIs, setName, SetsIs, Surely, FlowAnalyzed};
 
 // The work memory: whether a block was visited, the blocks left behind, and what is set at the end of each.
 const ORDER: usize = 1024;
@@ -53,21 +55,21 @@ fn ends_from(op: Op) -> Ends
 }
 
 // How block b ends: by its last instruction; `last` is the number of instructions until there is one.
-fn end_of(m: &[usize], c: Counts, x: &[usize], b: BlockId) -> Ends
-    requires { ⌜ Ready (now m) c ⌝ }
-    requires { ⌜ Index (now m) c (now x) ⌝ }
-    requires { ⌜ b .0 < c .blocks ⌝ }
-    ensures { λ r. ⌜ Ended (now (m .entry)) c (b .0) r ⌝ }
+fn end_of(program: &[usize], counts: Counts, chains: &[usize], b: BlockId) -> Ends
+    requires { ⌜ ProgramReady (now program) counts ⌝ }
+    requires { ⌜ Index (now program) counts (now chains) ⌝ }
+    requires { ⌜ b .0 < counts .blocks ⌝ }
+    ensures { λ r. ⌜ Ended (now (program .entry)) counts (b .0) r ⌝ }
 {
-    let n = c.insns;
+    let n = counts.insns;
     let mut last = InsnId(n as u32);
-    let mut h = index::first_insn(x, b);
+    let mut h = chains::first_insn(chains, b);
     while (h.0 as usize) < n {
         last = h;
-        h = index::next_insn(x, h);
+        h = chains::next_insn(chains, h);
     }
     if (last.0 as usize) < n {
-        let row = program::read_insn(m, c, last);
+        let row = program::read_insn(program, counts, last);
         let op = row.op;
         return ends_from(op);
     }
@@ -75,69 +77,89 @@ fn end_of(m: &[usize], c: Counts, x: &[usize], b: BlockId) -> Ends
 }
 
 // Block b is left behind.
-fn push(w: &mut [usize], n: usize, b: BlockId) -> usize
-    requires { ⌜ (work ≤ length (now w)) × (n < 1024) ⌝ }
-    ensures { λ r. ⌜ (r ≡ n + 1) × (now (w .exit) ≡ set (now (w .entry)) (1024 + n) (b .0)) ⌝ }
+fn push(scratch: &mut [usize], n: usize, b: BlockId) -> usize
+    requires { ⌜ (work ≤ length (now scratch)) × (n < 1024) ⌝ }
+    ensures { λ r. ⌜ (r ≡ n + 1) × (now (scratch .exit) ≡ set (now (scratch .entry)) (1024 + n) (b .0)) ⌝ }
 {
-    w[ORDER + n] = b.0 as usize;
+    scratch[ORDER + n] = b.0 as usize;
     n + 1
 }
 
 // Visits block b unless it was visited.
-fn visit(m: &[usize], c: Counts, x: &[usize], w: &mut [usize], n: usize, b: BlockId) -> usize
-    requires { ⌜ Ready (now m) c ⌝ }
-    requires { ⌜ Index (now m) c (now x) ⌝ }
-    requires { ⌜ Inside (now m) c ⌝ }
-    requires { ⌜ Good (c .blocks) (now w) n ⌝ }
-    requires { ⌜ b .0 < c .blocks ⌝ }
-    ensures { λ r. ⌜ Did (visitOf (now (m .entry)) c (b .0)) (c .blocks) (now (w .entry)) n (now (w .exit)) r ⌝ }
+fn visit(
+    program: &[usize],
+    counts: Counts,
+    chains: &[usize],
+    scratch: &mut [usize],
+    n: usize,
+    b: BlockId,
+) -> usize
+    requires { ⌜ ProgramReady (now program) counts ⌝ }
+    requires { ⌜ Index (now program) counts (now chains) ⌝ }
+    requires { ⌜ WalkInside (now program) counts ⌝ }
+    requires { ⌜ WalkGood (counts .blocks) (now scratch) n ⌝ }
+    requires { ⌜ b .0 < counts .blocks ⌝ }
+    ensures { λ r. ⌜ WalkDid (visitOf (now (program .entry)) counts (b .0)) (counts .blocks) (now (scratch .entry)) n (now (scratch .exit)) r ⌝ }
 {
     let at = b.0 as usize;
-    if w[at] == 0 {
-        walk(m, c, x, w, n, b)
+    if scratch[at] == 0 {
+        walk(program, counts, chains, scratch, n, b)
     } else {
         n
     }
 }
 
 // Visits block b, which was not visited, and what it leads to; then leaves it behind.
-fn walk(m: &[usize], c: Counts, x: &[usize], w: &mut [usize], n: usize, b: BlockId) -> usize
-    requires { ⌜ Ready (now m) c ⌝ }
-    requires { ⌜ Index (now m) c (now x) ⌝ }
-    requires { ⌜ Inside (now m) c ⌝ }
-    requires { ⌜ Good (c .blocks) (now w) n ⌝ }
-    requires { ⌜ b .0 < c .blocks ⌝ }
-    requires { ⌜ getD (now w) (b .0) 0 ≡ 0 ⌝ }
-    ensures { λ r. ⌜ Did (walkOf (now (m .entry)) c (b .0)) (c .blocks) (now (w .entry)) n (now (w .exit)) r ⌝ }
+fn walk(
+    program: &[usize],
+    counts: Counts,
+    chains: &[usize],
+    scratch: &mut [usize],
+    n: usize,
+    b: BlockId,
+) -> usize
+    requires { ⌜ ProgramReady (now program) counts ⌝ }
+    requires { ⌜ Index (now program) counts (now chains) ⌝ }
+    requires { ⌜ WalkInside (now program) counts ⌝ }
+    requires { ⌜ WalkGood (counts .blocks) (now scratch) n ⌝ }
+    requires { ⌜ b .0 < counts .blocks ⌝ }
+    requires { ⌜ getD (now scratch) (b .0) 0 ≡ 0 ⌝ }
+    ensures { λ r. ⌜ WalkDid (walkOf (now (program .entry)) counts (b .0)) (counts .blocks) (now (scratch .entry)) n (now (scratch .exit)) r ⌝ }
 {
     let at = b.0 as usize;
-    w[at] = 1;
-    let e = end_of(m, c, x, b);
+    scratch[at] = 1;
+    let e = end_of(program, counts, chains, b);
     match e {
-        Ends::Return => push(w, n, b),
+        Ends::Return => push(scratch, n, b),
         Ends::Jump(t) => {
-            let k = visit(m, c, x, w, n, t);
-            push(w, k, b)
+            let k = visit(program, counts, chains, scratch, n, t);
+            push(scratch, k, b)
         }
         Ends::IfTrue(t, u) => {
-            let n1 = visit(m, c, x, w, n, t);
-            let n2 = visit(m, c, x, w, n1, u);
-            push(w, n2, b)
+            let n1 = visit(program, counts, chains, scratch, n, t);
+            let n2 = visit(program, counts, chains, scratch, n1, u);
+            push(scratch, n2, b)
         }
-        Ends::Open => push(w, n, b),
+        Ends::Open => push(scratch, n, b),
     }
 }
 
 // The blocks that a block leads to, in post-order; how many there are.
-pub fn walk_from(m: &[usize], c: Counts, x: &[usize], w: &mut [usize], b: BlockId) -> usize
-    requires { ⌜ Ready (now m) c ⌝ }
-    requires { ⌜ Index (now m) c (now x) ⌝ }
-    requires { ⌜ Inside (now m) c ⌝ }
-    requires { ⌜ (work ≤ length (now w)) × (b .0 < c .blocks) ⌝ }
-    ensures { λ r. ⌜ Walked (now (m .entry)) c (b .0) (now (w .exit)) r ⌝ }
+pub fn walk_from(
+    program: &[usize],
+    counts: Counts,
+    chains: &[usize],
+    scratch: &mut [usize],
+    b: BlockId,
+) -> usize
+    requires { ⌜ ProgramReady (now program) counts ⌝ }
+    requires { ⌜ Index (now program) counts (now chains) ⌝ }
+    requires { ⌜ WalkInside (now program) counts ⌝ }
+    requires { ⌜ (work ≤ length (now scratch)) × (b .0 < counts .blocks) ⌝ }
+    ensures { λ r. ⌜ Walked (now (program .entry)) counts (b .0) (now (scratch .exit)) r ⌝ }
 {
-    index::fill(w, 0, ORDER, 0);
-    walk(m, c, x, w, 0, b)
+    chains::fill(scratch, 0, ORDER, 0);
+    walk(program, counts, chains, scratch, 0, b)
 }
 
 // ---- what is set before a block
@@ -166,22 +188,30 @@ fn returns(e: Ends) -> bool
 }
 
 // The attributes that are set at the end of all blocks done, from place i of the order on, that lead to block b; none where there is no such block.
-fn before(m: &[usize], c: Counts, x: &[usize], w: &[usize], n: usize, i: usize, b: BlockId) -> usize
-    requires { ⌜ Ready (now m) c ⌝ }
-    requires { ⌜ Index (now m) c (now x) ⌝ }
-    requires { ⌜ Placed (c .blocks) (now w) n ⌝ }
-    requires { ⌜ (work ≤ length (now w)) × (i ≤ n) ⌝ }
-    ensures { λ r. ⌜ Before (now (m .entry)) c (now (w .entry)) n i (b .0) r ⌝ }
+fn before(
+    program: &[usize],
+    counts: Counts,
+    chains: &[usize],
+    scratch: &[usize],
+    n: usize,
+    i: usize,
+    b: BlockId,
+) -> usize
+    requires { ⌜ ProgramReady (now program) counts ⌝ }
+    requires { ⌜ Index (now program) counts (now chains) ⌝ }
+    requires { ⌜ FlowPlaced (counts .blocks) (now scratch) n ⌝ }
+    requires { ⌜ (work ≤ length (now scratch)) × (i ≤ n) ⌝ }
+    ensures { λ r. ⌜ Before (now (program .entry)) counts (now (scratch .entry)) n i (b .0) r ⌝ }
 {
     let mut q = n;
     let mut bits = FULL;
     let mut met = 0;
     while i < q {
         q -= 1;
-        let d = w[ORDER + q];
-        let e = end_of(m, c, x, BlockId(d as u32));
+        let d = scratch[ORDER + q];
+        let e = end_of(program, counts, chains, BlockId(d as u32));
         if leads(e, b) {
-            let y = w[OUTS + q];
+            let y = scratch[OUTS + q];
             bits = y & bits;
             met = 1;
         }
@@ -200,13 +230,13 @@ pub struct Places {
     pub found: usize,
 }
 
-fn named(s: &[u8], m: &[usize], c: Counts, k: ClassId, name: Name) -> Places
-    requires { ⌜ Ready (now m) c ⌝ }
-    requires { ⌜ k .0 < c .classes ⌝ }
-    ensures { λ r. ⌜ NamedIs (now (s .entry)) (now (m .entry)) c (k .0) name r ⌝ }
+fn named(script: &[u8], program: &[usize], counts: Counts, k: ClassId, name: Name) -> Places
+    requires { ⌜ ProgramReady (now program) counts ⌝ }
+    requires { ⌜ k .0 < counts .classes ⌝ }
+    ensures { λ r. ⌜ NamedIs (now (script .entry)) (now (program .entry)) counts (k .0) name r ⌝ }
 {
     let class = k.0 as usize;
-    let n = m[program::CLASSES + 4 * class + 2];
+    let n = program[program::CLASSES + 4 * class + 2];
     let start = name.start;
     let len = name.len;
     let mut bits = 0;
@@ -214,7 +244,7 @@ fn named(s: &[u8], m: &[usize], c: Counts, k: ClassId, name: Name) -> Places
     let mut a = 0;
     while a < n {
         let at = program::IVARS + 128 * class + 2 * a;
-        let same = words::same_name(s, m[at], m[at + 1], start, len);
+        let same = lexer::same_name(script, program[at], program[at + 1], start, len);
         let bit = 1usize << a;
         a += 1;
         if same {
@@ -256,23 +286,30 @@ pub enum Sets {
     Undeclared,
 }
 
-fn sets_of(s: &[u8], m: &[usize], c: Counts, x: &[usize], k: ClassId, b: BlockId) -> Sets
-    requires { ⌜ Ready (now m) c ⌝ }
-    requires { ⌜ Index (now m) c (now x) ⌝ }
-    requires { ⌜ (k .0 < c .classes) × (b .0 < c .blocks) ⌝ }
-    ensures { λ r. ⌜ SetsIs (now (s .entry)) (now (m .entry)) c (k .0) (b .0) r ⌝ }
+fn sets_of(
+    script: &[u8],
+    program: &[usize],
+    counts: Counts,
+    chains: &[usize],
+    k: ClassId,
+    b: BlockId,
+) -> Sets
+    requires { ⌜ ProgramReady (now program) counts ⌝ }
+    requires { ⌜ Index (now program) counts (now chains) ⌝ }
+    requires { ⌜ (k .0 < counts .classes) × (b .0 < counts .blocks) ⌝ }
+    ensures { λ r. ⌜ SetsIs (now (script .entry)) (now (program .entry)) counts (k .0) (b .0) r ⌝ }
 {
-    let n = c.insns;
+    let n = counts.insns;
     let mut bits = 0;
-    let mut h = index::first_insn(x, b);
+    let mut h = chains::first_insn(chains, b);
     while (h.0 as usize) < n {
-        let row = program::read_insn(m, c, h);
+        let row = program::read_insn(program, counts, h);
         let op = row.op;
         let t = set_name(op);
-        h = index::next_insn(x, h);
+        h = chains::next_insn(chains, h);
         match t {
             SetName::Of(name) => {
-                let p = named(s, m, c, k, name);
+                let p = named(script, program, counts, k, name);
                 if p.found == 0 {
                     return Sets::Undeclared;
                 }
@@ -294,37 +331,37 @@ pub enum Sure {
 
 // One pass over the n blocks of the order, the last left behind first.
 fn surely(
-    s: &[u8],
-    m: &[usize],
-    c: Counts,
-    x: &[usize],
-    w: &mut [usize],
+    script: &[u8],
+    program: &[usize],
+    counts: Counts,
+    chains: &[usize],
+    scratch: &mut [usize],
     n: usize,
     k: ClassId,
 ) -> Sure
-    requires { ⌜ Ready (now m) c ⌝ }
-    requires { ⌜ Index (now m) c (now x) ⌝ }
-    requires { ⌜ Placed (c .blocks) (now w) n ⌝ }
-    requires { ⌜ (work ≤ length (now w)) × (k .0 < c .classes) ⌝ }
-    ensures { λ r. ⌜ Surely (now (s .entry)) (now (m .entry)) c (k .0) (now (w .entry)) n r ⌝ }
+    requires { ⌜ ProgramReady (now program) counts ⌝ }
+    requires { ⌜ Index (now program) counts (now chains) ⌝ }
+    requires { ⌜ FlowPlaced (counts .blocks) (now scratch) n ⌝ }
+    requires { ⌜ (work ≤ length (now scratch)) × (k .0 < counts .classes) ⌝ }
+    ensures { λ r. ⌜ Surely (now (script .entry)) (now (program .entry)) counts (k .0) (now (scratch .entry)) n r ⌝ }
 {
     let mut res = FULL;
     let mut i = n;
     while 0 < i {
         i -= 1;
-        let d = w[ORDER + i];
+        let d = scratch[ORDER + i];
         let b = BlockId(d as u32);
-        let ins = before(m, c, x, w, n, i + 1, b);
-        let e = end_of(m, c, x, b);
+        let ins = before(program, counts, chains, scratch, n, i + 1, b);
+        let e = end_of(program, counts, chains, b);
         let back = returns(e);
-        let t = sets_of(s, m, c, x, k, b);
+        let t = sets_of(script, program, counts, chains, k, b);
         match t {
             Sets::Undeclared => {
                 return Sure::Undeclared;
             }
             Sets::Bits(o) => {
                 let out = o | ins;
-                w[OUTS + i] = out;
+                scratch[OUTS + i] = out;
                 if back {
                     res = out & res;
                 }
@@ -336,20 +373,20 @@ fn surely(
 
 // The attributes of class k that its constructor, whose entry is block b, surely sets; question 13.
 pub fn analyze_ctor(
-    s: &[u8],
-    m: &[usize],
-    c: Counts,
-    x: &[usize],
-    w: &mut [usize],
+    script: &[u8],
+    program: &[usize],
+    counts: Counts,
+    chains: &[usize],
+    scratch: &mut [usize],
     k: ClassId,
     b: BlockId,
 ) -> Sure
-    requires { ⌜ Ready (now m) c ⌝ }
-    requires { ⌜ Index (now m) c (now x) ⌝ }
-    requires { ⌜ Inside (now m) c ⌝ }
-    requires { ⌜ (work ≤ length (now w)) × ((k .0 < c .classes) × (b .0 < c .blocks)) ⌝ }
-    ensures { λ r. ⌜ Analyzed (now (s .entry)) (now (m .entry)) c (k .0) (b .0) r ⌝ }
+    requires { ⌜ ProgramReady (now program) counts ⌝ }
+    requires { ⌜ Index (now program) counts (now chains) ⌝ }
+    requires { ⌜ WalkInside (now program) counts ⌝ }
+    requires { ⌜ (work ≤ length (now scratch)) × ((k .0 < counts .classes) × (b .0 < counts .blocks)) ⌝ }
+    ensures { λ r. ⌜ FlowAnalyzed (now (script .entry)) (now (program .entry)) counts (k .0) (b .0) r ⌝ }
 {
-    let n = walk_from(m, c, x, w, b);
-    surely(s, m, c, x, w, n, k)
+    let n = walk_from(program, counts, chains, scratch, b);
+    surely(script, program, counts, chains, scratch, n, k)
 }

@@ -2,7 +2,7 @@
 use mathlib.Core.Option.{Option, none, some}
 use mathlib.Core.Path.{_≡_}
 use Prim.Native.Nat.{ℕ}
-use Rattle.call.specs.Call.{Lent, Left}
+use Rattle.call.specs.Call.{Lent, CallLeft}
 
 -- no refusal has the number 0
 abbrev pub byteOf : Option ℕ → ℕ
@@ -10,6 +10,6 @@ byteOf none = 0
 byteOf (some n) = n
 
 -- the byte r and the memory m are what a call leaves
-pub record Gives (x : Left) (r : ℕ) (m : Lent) : Type 0 where
+pub record Gives (x : CallLeft) (r : ℕ) (m : Lent) : Type 0 where
   pub byte : r ≡ byteOf (x .number)
   pub memory : m ≡ x .lent

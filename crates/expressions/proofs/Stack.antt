@@ -4,17 +4,17 @@ use mathlib.Core.List.{List, [], _∷_, _++_, map}
 use Prim.Native.Nat.{ℕ, _+_, _-_, _*_, _≤_, _<_}
 use native.Mathlib.Omega.{arith}
 use lib.ListN.{getD}
-use Rattle.env.specs.Memory.{entry, vars}
-use Rattle.env.proofs.Entries.{made-move}
+use Rattle.variables.specs.Memory.{entry, vars}
+use Rattle.variables.proofs.Entries.{made-move}
 use Rattle.program.specs.Rows.{opndsIn, opndOf}
 use Rattle.program.specs.declared.Opnd.{Opnd}
 use Rattle.program.proofs.Areas.{opnds-same, opnds-add}
-use Rattle.parser.specs.Cursor.{stackAt, parserOf, waiting, stackCur, In, Step}
-use Rattle.parser.specs.Promises.{Stacks}
-use Rattle.parser.specs.declared.Cur.{Cur}
+use Rattle.cursor.specs.Cursor.{stackAt, parserOf, waiting, stackCur, In, CursorStep}
+use Rattle.cursor.specs.Promises.{Stacks}
+use Rattle.cursor.specs.declared.Cursor.{Cursor}
 
 -- the height of the stack is no part of the rules' state
-pub height-free : (s m w : List ℕ) (c : Cur) (n : ℕ) → parserOf s m w (stackCur n c) ≡ parserOf s m w c
+pub height-free : (s m w : List ℕ) (c : Cursor) (n : ℕ) → parserOf s m w (stackCur n c) ≡ parserOf s m w c
 unfolding parserOf
 height-free s m w c n = refl
 
@@ -27,7 +27,7 @@ map-snoc : (l : List Opnd) (v : Opnd) → map opndOf (l ++ v ∷ []) ≡ map opn
 map-snoc [] v = refl
 map-snoc (x ∷ l) v = ap (λ z. opndOf x ∷ z) (map-snoc l v)
 
-module _ {v : Opnd} {c : Cur} {w w' : List ℕ} {c' : Cur} (p : Stacks v c w w' c') where
+module _ {v : Opnd} {c : Cursor} {w w' : List ℕ} {c' : Cursor} (p : Stacks v c w w' c') where
   low : (i : ℕ) → i < stackAt + 2 * c .args → getD w' i 0 ≡ getD w i 0
   low i h = p .puts .only .below i h
 
@@ -36,10 +36,10 @@ module _ {v : Opnd} {c : Cur} {w w' : List ℕ} {c' : Cur} (p : Stacks v c w w' 
   entry-low i h = rw (low i (omega arith), low (16384 + i) (omega arith))
 
   pub stacks-args : c' .args ≡ c .args + 1
-  stacks-args = ap (λ (d : Cur). d .args) (p .cur)
+  stacks-args = ap (λ (d : Cursor). d .args) (p .cur)
 
   pub stacks-at : c' .at ≡ c .at
-  stacks-at = ap (λ (d : Cur). d .at) (p .cur)
+  stacks-at = ap (λ (d : Cursor). d .at) (p .cur)
 
   -- one argument more
   pub stacks-more : (k : ℕ) → k ≤ c .args → waiting w' k (c' .args - k) ≡ waiting w k (c .args - k) ++ opndOf v ∷ []
@@ -76,7 +76,7 @@ module _ {v : Opnd} {c : Cur} {w w' : List ℕ} {c' : Cur} (p : Stacks v c w w' 
           block = h .block;
         })
 
-    pub stacks-step : Step 0 c w (stackCur (c .args) c') w'
+    pub stacks-step : CursorStep 0 c w (stackCur (c .args) c') w'
     stacks-step =
         rw (p .cur)
         (record {
@@ -96,7 +96,7 @@ module _ {v : Opnd} {c : Cur} {w w' : List ℕ} {c' : Cur} (p : Stacks v c w w' 
         })
 
 -- the height set back to what it was
-pub step-height : {k : ℕ} {c c' : Cur} {w w' : List ℕ} → Step k c w c' w' → Step k c w (stackCur (c .args) c') w'
+pub step-height : {k : ℕ} {c c' : Cursor} {w w' : List ℕ} → CursorStep k c w c' w' → CursorStep k c w (stackCur (c .args) c') w'
 step-height a =
     record {
       on = a .on;
@@ -115,7 +115,7 @@ step-height a =
     }
 
 -- a step from a higher stack, with the height set back
-pub step-from : {k : ℕ} (n : ℕ) {c c' : Cur} {w w' : List ℕ} → n ≤ c .args → Step k c w c' w' → Step k (stackCur n c) w (stackCur n c') w'
+pub step-from : {k : ℕ} (n : ℕ) {c c' : Cursor} {w w' : List ℕ} → n ≤ c .args → CursorStep k c w c' w' → CursorStep k (stackCur n c) w (stackCur n c') w'
 step-from n l a =
     record {
       on = a .on;

@@ -13,36 +13,37 @@ use Rattle.kinds.specs.declared.Arith.the-variants.{Add, Sub, Mul, Less}
 use Rattle.rules.specs.Actions.{answered, Turn, again, ends, loop, if_then_else_, give}
 use Rattle.rules.specs.Program as P
 use Rattle.rules.specs.Words.{is}
-use Rattle.rules.specs.Reading.{Parser, Reads, pass, expect, expectIdent, matchToken, turns, push, Operator, operator, onWith, parseArg, parseArgs, parseCall, parseMember, parseRight, parseSuffix, send}
-use Rattle.words.specs.Lexed.{textOf, wordIn, Glances}
-use Rattle.words.specs.declared.Lexed.{Lexed}
-use Rattle.words.specs.declared.Lexed.the-variants as Seen
-use Rattle.words.specs.declared.Glimpse.{Glimpse}
-use Rattle.words.specs.declared.Glimpse.the-variants as Glimpse
-use Rattle.words.specs.declared.Word.{Word}
-use Rattle.words.proofs.Lexes.{signed, unsigned, unseen}
+use Rattle.rules.specs.Reading.{Parser, Reads, pass, expect, expectIdent, matchToken, turns, push, Operator, operator, onWith, parseArg, parseArgs, parseCall, parseMember, parseRight, parseSuffix}
+use Rattle.rules.specs.Reading.{send}
+use Rattle.lexer.specs.Lexed.{textOf, wordIn, Glances}
+use Rattle.lexer.specs.declared.Lexed.{Lexed}
+use Rattle.lexer.specs.declared.Lexed.the-variants as Seen
+use Rattle.lexer.specs.declared.Glimpse.{Glimpse}
+use Rattle.lexer.specs.declared.Glimpse.the-variants as Glimpse
+use Rattle.lexer.specs.declared.Word.{Word}
+use Rattle.lexer.proofs.Lexes.{signed, unsigned, unseen}
 use Rattle.program.specs.Rows.{opndsIn, opndOf, opIn, given, nameIn}
 use Rattle.program.specs.Tab.{tab}
 use Rattle.program.specs.declared.Name.{Name}
 use Rattle.program.specs.declared.Opnd.{Opnd}
 use Rattle.program.specs.declared.Op.the-variants.{Compute}
 use Rattle.program.specs.declared.Given.the-variants.{Two}
-use Rattle.parser.specs.Cursor.{size, parserOf, waiting, moveCur, stackCur, In, Step}
-use Rattle.parser.specs.Steps.{calls, readsAttr, weigh, suffixOf}
-use Rattle.parser.specs.Promises.{Out, Did, Adds, Stacks, Sees, Idents, Expects, Matches, Spelt, parsedOf}
-use Rattle.parser.specs.declared.Cur.{Cur}
-use Rattle.parser.specs.declared.Parsed.{Parsed}
-use Rattle.parser.specs.declared.Parsed.the-variants.{Done, Refused}
-use Rattle.parser.specs.declared.Moved.{Moved}
-use Rattle.parser.specs.declared.Moved.the-variants as Moved
-use Rattle.parser.specs.declared.Ident.{Ident}
-use Rattle.parser.specs.declared.Ident.the-variants as Ident
-use Rattle.parser.specs.declared.Matched.{Matched}
-use Rattle.parser.specs.declared.Matched.the-variants as Matched
-use Rattle.parser.specs.declared.Suffix.{Suffix}
-use Rattle.parser.specs.declared.Suffix.the-variants as Suffix
-use Rattle.parser.proofs.Laws.{step-none, step-less, step-trans, Went, got, gave, refuses, arrives, ends-as, added-did}
-use Rattle.parser.proofs.Wording.{is-yes, is-no, spelt-open, spelt-close, spelt-comma, spelt-plus, spelt-minus, spelt-times, spelt-less, spelt-dot, word-read, peek-found, peek-none, glanced}
+use Rattle.cursor.specs.Cursor.{size, parserOf, waiting, moveCur, stackCur, In, CursorStep}
+use Rattle.cursor.specs.Steps.{calls, readsAttr, weigh, suffixOf}
+use Rattle.cursor.specs.Promises.{Out, CursorDid, CursorAdds, Stacks, Sees, Idents, Expects, CursorMatches, Spelt, parsedOf}
+use Rattle.cursor.specs.declared.Cursor.{Cursor}
+use Rattle.cursor.specs.declared.Parsed.{Parsed}
+use Rattle.cursor.specs.declared.Parsed.the-variants.{Done, Refused}
+use Rattle.cursor.specs.declared.Moved.{Moved}
+use Rattle.cursor.specs.declared.Moved.the-variants as Moved
+use Rattle.cursor.specs.declared.Ident.{Ident}
+use Rattle.cursor.specs.declared.Ident.the-variants as Ident
+use Rattle.cursor.specs.declared.Matched.{Matched}
+use Rattle.cursor.specs.declared.Matched.the-variants as Matched
+use Rattle.cursor.specs.declared.Suffix.{Suffix}
+use Rattle.cursor.specs.declared.Suffix.the-variants as Suffix
+use Rattle.cursor.proofs.Laws.{step-none, step-less, step-trans, Acted, got, gave, refuses, arrives, ends-as, added-did}
+use Rattle.cursor.proofs.Wording.{is-yes, is-no, spelt-open, spelt-close, spelt-comma, spelt-plus, spelt-minus, spelt-times, spelt-less, spelt-dot, word-read, peek-found, peek-none, glanced}
 use Rattle.expressions.specs.Readers.{againOf, Agains, takenOf, ArgDid, argsOf, ArgsDid, suffixedOf, SuffixDid}
 use Rattle.expressions.specs.declared.ArgTurn.{ArgTurn}
 use Rattle.expressions.specs.declared.ArgTurn.the-variants as ArgTurn
@@ -55,13 +56,13 @@ use Rattle.expressions.proofs.Stack.{height-free, waiting-same, stacks-
 use Rattle.expressions.proofs.Ways.{ident-went, match-went, match-not, match-gave, expect-went, expect-gave, suffix-low, operator-passed, call-passed, member-passed}
 
 -- the arguments of a call, taken off the stack
-pub taken-here : {f : Reads (List P.Opnd)} {s m w m1 w1 : List ℕ} {c c1 : Cur} {t : Args} {n : ℕ} → ArgsDid f s m w c m1 w1 t → t ≡ Args.Done c1 n → In s m1 w1 c1
+pub taken-here : {f : Reads (List P.Opnd)} {s m w m1 w1 : List ℕ} {c c1 : Cursor} {t : Args} {n : ℕ} → ArgsDid f s m w c m1 w1 t → t ≡ Args.Done c1 n → In s m1 w1 c1
 taken-here {w1 = w1} {c = c} d e = got (d .did) (ap (argsOf w1 (c .args)) e) .here
 
 module _ (L : P.Limits) (s : List ℕ) (E : ℕ → Reads P.Opnd) where
   -- ---- one argument
 
-  module _ {m w : List ℕ} {c : Cur} {r : Lexed} (see : Sees s c r) where
+  module _ {m w : List ℕ} {c : Cursor} {r : Lexed} (see : Sees s c r) where
     pub arg-none : {m' w' : List ℕ} {n : ℕ} → r ≡ Seen.Refused n → ArgDid L s E m w c m' w' (ArgTurn.Refused n)
     unfolding parseArg
     arg-none e = record { is = λ k l. rw (← peek-none see m w e); ok = tt }
@@ -75,14 +76,14 @@ module _ (L : P.Limits) (s : List ℕ) (E : ℕ → Reads P.Opnd) where
             ok = record { here = h; step = step-height (step-none c w); more = omega arith };
           }
 
-      module _ (no : x .kind ≡ 41 → ⊥) {m1 w1 : List ℕ} {p : Parsed} (d : Did (E 0) 1 s m w c m1 w1 (parsedOf p)) where
+      module _ (no : x .kind ≡ 41 → ⊥) {m1 w1 : List ℕ} {p : Parsed} (d : CursorDid (E 0) 1 s m w c m1 w1 (parsedOf p)) where
         pub arg-no1 : {n : ℕ} → p ≡ Refused n → ArgDid L s E m w c m1 w1 (ArgTurn.Refused n)
         unfolding parseArg
         arg-no1 f =
             record { is = λ j l. rw (← peek-found see m w e, is-no x (word-read see e) ")" spelt-close no, ← gave d (ap parsedOf f)); ok = tt }
 
-        module _ (low : 2 * c .args < c .at) {c1 : Cur} {v : Opnd} (f : p ≡ Done c1 v) where
-          at-arg : Went (E 0) 1 s m w c m1 w1 (opndOf v) c1
+        module _ (low : 2 * c .args < c .at) {c1 : Cursor} {v : Opnd} (f : p ≡ Done c1 v) where
+          at-arg : Acted (E 0) 1 s m w c m1 w1 (opndOf v) c1
           at-arg = got d (ap parsedOf f)
 
           room : 2 * (c1 .args + 1) ≤ c1 .at
@@ -91,7 +92,7 @@ module _ (L : P.Limits) (s : List ℕ) (E : ℕ → Reads P.Opnd) where
           pub arg-room : (size ≤ length w1) × (c1 .args < 8192)
           arg-room = (at-arg .here .ready .scratch, omega (arith, room, at-arg .here .ready .inside, at-arg .here .ready .script))
 
-          module _ {c2 : Cur} {w2 : List ℕ} (st : Stacks v c1 w1 w2 c2) where
+          module _ {c2 : Cursor} {w2 : List ℕ} (st : Stacks v c1 w1 w2 c2) where
             pub arg-here : In s m1 w2 c2
             arg-here = stacks-in st (at-arg .here) room
 
@@ -101,10 +102,10 @@ module _ (L : P.Limits) (s : List ℕ) (E : ℕ → Reads P.Opnd) where
                 stacks-more st k (omega arith)
                 ∙ ap (λ z. z ++ opndOf v ∷ []) (ap (λ n. waiting w1 k (n - k)) a ∙ waiting-same w w1 k (c .args - k) (c .args) (omega arith) (at-arg .step .stack))
 
-            arg-step : Step 1 c w (stackCur (c .args) c2) w2
+            arg-step : CursorStep 1 c w (stackCur (c .args) c2) w2
             arg-step = rw (at-arg .step .args) at (step-trans (at-arg .step) (stacks-step st (at-arg .here)))
 
-            module _ {q : Matched} (y : Matches s 44 c2 q) where
+            module _ {q : Matched} (y : CursorMatches s 44 c2 q) where
               pub arg-no2 : {n : ℕ} → q ≡ Matched.Refused n → ArgDid L s E m w c m1 w2 (ArgTurn.Refused n)
               unfolding parseArg
               arg-no2 g =
@@ -136,7 +137,7 @@ module _ (L : P.Limits) (s : List ℕ) (E : ℕ → Reads P.Opnd) where
                     ok = record { here = arg-here; step = step-less (omega arith) arg-step; more = omega (arith, stacks-args st, at-arg .step .args) };
                   }
 
-              pub arg-more : {c3 : Cur} → q ≡ Matched.Yes c3 → ArgDid L s E m w c m1 w2 (ArgTurn.Again c3)
+              pub arg-more : {c3 : Cursor} → q ≡ Matched.Yes c3 → ArgDid L s E m w c m1 w2 (ArgTurn.Again c3)
               unfolding parseArg
               arg-more {c3 = c3} g =
                   let b = match-went arg-here "," y spelt-comma g in
@@ -162,16 +163,16 @@ module _ (L : P.Limits) (s : List ℕ) (E : ℕ → Reads P.Opnd) where
   unfolding waiting opndsIn tab
   none-wait w k = let e : k - k ≡ 0 = omega arith in rw e
 
-  pub record ArgsInv (m₀ w₀ : List ℕ) (c₀ : Cur) (m w : List ℕ) (c : Cur) : Type 0 where
+  pub record ArgsInv (m₀ w₀ : List ℕ) (c₀ : Cursor) (m w : List ℕ) (c : Cursor) : Type 0 where
     pub loops : Loops (parseArg L s E) s [] (parserOf s m₀ w₀ c₀) (waiting w (c₀ .args) (c .args - c₀ .args)) (parserOf s m w c) (c .at)
     pub here : In s m w c
-    pub step : Step 0 c₀ w₀ (stackCur (c₀ .args) c) w
+    pub step : CursorStep 0 c₀ w₀ (stackCur (c₀ .args) c) w
     pub more : c₀ .args ≤ c .args
     pub room : 2 * c .args < c .at
     pub long-m : length m ≡ length m₀
     pub long-w : length w ≡ length w₀
 
-  pub args-start : {m w : List ℕ} {c : Cur} → In s m w c → 2 * c .args < c .at → ArgsInv m w c m w c
+  pub args-start : {m w : List ℕ} {c : Cursor} → In s m w c → 2 * c .args < c .at → ArgsInv m w c m w c
   args-start {m = m} {w = w} {c = c} h l =
       record {
         loops = rw (none-wait w (c .args)) (loops-start (parseArg L s E) s [] (parserOf s m w c) (c .at));
@@ -183,8 +184,8 @@ module _ (L : P.Limits) (s : List ℕ) (E : ℕ → Reads P.Opnd) where
         long-w = refl;
       }
 
-  module _ {m₀ w₀ m w m1 w1 : List ℕ} {c₀ c : Cur} {r : ArgTurn} (i : ArgsInv m₀ w₀ c₀ m w c) (d : ArgDid L s E m w c m1 w1 r) where
-    module _ {c1 : Cur} (e : r ≡ ArgTurn.Again c1) where
+  module _ {m₀ w₀ m w m1 w1 : List ℕ} {c₀ c : Cursor} {r : ArgTurn} (i : ArgsInv m₀ w₀ c₀ m w c) (d : ArgDid L s E m w c m1 w1 r) where
+    module _ {c1 : Cursor} (e : r ≡ ArgTurn.Again c1) where
       gone : ArgDid L s E m w c m1 w1 (ArgTurn.Again c1)
       gone = rw e at d
 
@@ -213,7 +214,7 @@ module _ (L : P.Limits) (s : List ℕ) (E : ℕ → Reads P.Opnd) where
           few = λ c' n f. let z : _≡_ {A = ℕ} 0 1 = cc in absurd (omega arith);
         }
 
-    module _ {c1 : Cur} (e : r ≡ ArgTurn.Ends c1) where
+    module _ {c1 : Cursor} (e : r ≡ ArgTurn.Ends c1) where
       ended : ArgDid L s E m w c m1 w1 (ArgTurn.Ends c1)
       ended = rw e at d
 
@@ -232,8 +233,8 @@ module _ (L : P.Limits) (s : List ℕ) (E : ℕ → Reads P.Opnd) where
               few = λ c' n g. let z : _≡_ {A = ℕ} 0 1 = cc in absurd (omega arith);
             }
 
-        module _ {c2 : Cur} (f : q ≡ Moved.On c2) where
-          at-close : Went (expect s ")") 1 s m1 w1 c1 m1 w1 tt c2
+        module _ {c2 : Cursor} (f : q ≡ Moved.On c2) where
+          at-close : Acted (expect s ")") 1 s m1 w1 c1 m1 w1 tt c2
           at-close = expect-went args-here ")" y spelt-close f
 
           pub args-high : c₀ .args ≤ c2 .args
@@ -254,7 +255,7 @@ module _ (L : P.Limits) (s : List ℕ) (E : ℕ → Reads P.Opnd) where
                 block = h .block;
               }
 
-          whole : Step 1 c₀ w₀ (stackCur (c₀ .args) c2) w1
+          whole : CursorStep 1 c₀ w₀ (stackCur (c₀ .args) c2) w1
           whole =
               step-less (omega arith)
               (step-trans (step-trans (i .step) (step-from (c₀ .args) (i .more) (ended .ok .step)))
@@ -273,19 +274,19 @@ module _ (L : P.Limits) (s : List ℕ) (E : ℕ → Reads P.Opnd) where
                 few = λ c' n k.
                     let z : n ≡ c2 .args - c₀ .args = cc in
                     let y : c' ≡ stackCur (c₀ .args) c2 = cc in
-                    let u : c' .args ≡ c₀ .args = ap (λ (d : Cur). d .args) y in
+                    let u : c' .args ≡ c₀ .args = ap (λ (d : Cursor). d .args) y in
                     omega (arith, args-high, at-close .here .ready .args, at-close .here .ready .inside, at-close .here .ready .script);
               })
 
   -- ---- calls
 
-  module _ {m w m1 w1 : List ℕ} {c : Cur} {t : Args} (v : P.Opnd) (d : ArgsDid (parseArgs L s E) s m w c m1 w1 t) where
-    pub call-no : {n : ℕ} → t ≡ Args.Refused n → Did (parseCall L s E v) 1 s m w c m1 w1 (parsedOf (Refused n))
+  module _ {m w m1 w1 : List ℕ} {c : Cursor} {t : Args} (v : P.Opnd) (d : ArgsDid (parseArgs L s E) s m w c m1 w1 t) where
+    pub call-no : {n : ℕ} → t ≡ Args.Refused n → CursorDid (parseCall L s E v) 1 s m w c m1 w1 (parsedOf (Refused n))
     unfolding parseCall
     call-no e = refuses (rw (← gave (d .did) (ap (argsOf w1 (c .args)) e)))
 
-    module _ {c1 : Cur} {n : ℕ} (e : t ≡ Args.Done c1 n) where
-      at-args : Went (parseArgs L s E) 1 s m w c m1 w1 (waiting w1 (c .args) n) c1
+    module _ {c1 : Cursor} {n : ℕ} (e : t ≡ Args.Done c1 n) where
+      at-args : Acted (parseArgs L s E) 1 s m w c m1 w1 (waiting w1 (c .args) n) c1
       at-args = got (d .did) (ap (argsOf w1 (c .args)) e)
 
       pub call-here : In s m1 w1 c1
@@ -294,7 +295,7 @@ module _ (L : P.Limits) (s : List ℕ) (E : ℕ → Reads P.Opnd) where
       pub call-room : (size ≤ length w1) × (c1 .args + n ≤ 8192)
       call-room = (call-here .ready .scratch, d .few c1 n e)
 
-      pub call-yes : {m2 : List ℕ} {o : Out P.Opnd} → ((z : List ℕ) → Adds z w1 (calls L v (waiting w1 (c1 .args) n)) m1 c1 m2 o) → Did (parseCall L s E v) 1 s m w c m2 w1 o
+      pub call-yes : {m2 : List ℕ} {o : Out P.Opnd} → ((z : List ℕ) → CursorAdds z w1 (calls L v (waiting w1 (c1 .args) n)) m1 c1 m2 o) → CursorDid (parseCall L s E v) 1 s m w c m2 w1 o
       unfolding parseCall calls
       call-yes a =
           ends-as (at-args .step) (omega arith) (added-did (a s) call-here)
@@ -302,21 +303,21 @@ module _ (L : P.Limits) (s : List ℕ) (E : ℕ → Reads P.Opnd) where
 
   -- ---- members
 
-  module _ {m w : List ℕ} {c : Cur} {i : Ident} (v : P.Opnd) (h : In s m w c) (x : Idents s c i) {c1 : Cur} {n : Name} (e : i ≡ Ident.Found c1 n) {q : Matched} (y : Matches s 40 c1 q) where
-    at-name : Went (expectIdent s) 1 s m w c m w (nameIn s n) c1
+  module _ {m w : List ℕ} {c : Cursor} {i : Ident} (v : P.Opnd) (h : In s m w c) (x : Idents s c i) {c1 : Cursor} {n : Name} (e : i ≡ Ident.Found c1 n) {q : Matched} (y : CursorMatches s 40 c1 q) where
+    at-name : Acted (expectIdent s) 1 s m w c m w (nameIn s n) c1
     at-name = ident-went h x e
 
-    pub member-no2 : {m' w' : List ℕ} {k : ℕ} → q ≡ Matched.Refused k → Did (parseMember L s E v) 1 s m w c m' w' (parsedOf (Refused k))
+    pub member-no2 : {m' w' : List ℕ} {k : ℕ} → q ≡ Matched.Refused k → CursorDid (parseMember L s E v) 1 s m w c m' w' (parsedOf (Refused k))
     unfolding parseMember
     member-no2 f = refuses (rw (← at-name .is, ← match-gave (at-name .here) "(" y spelt-open f))
 
-    pub member-read : {m1 : List ℕ} {o : Out P.Opnd} → q ≡ Matched.Not → ((u : List ℕ) → Adds s u (readsAttr L v (nameIn s n)) m c1 m1 o) → Did (parseMember L s E v) 1 s m w c m1 w o
+    pub member-read : {m1 : List ℕ} {o : Out P.Opnd} → q ≡ Matched.Not → ((u : List ℕ) → CursorAdds s u (readsAttr L v (nameIn s n)) m c1 m1 o) → CursorDid (parseMember L s E v) 1 s m w c m1 w o
     unfolding parseMember readsAttr
     member-read f a =
         ends-as (at-name .step) (omega arith) (added-did (a w) (at-name .here)) (rw (← at-name .is, ← match-not (at-name .here) "(" y spelt-open f))
 
-    module _ {c2 : Cur} (f : q ≡ Matched.Yes c2) where
-      at-open : Went (matchToken s "(") 1 s m w c1 m w true c2
+    module _ {c2 : Cursor} (f : q ≡ Matched.Yes c2) where
+      at-open : Acted (matchToken s "(") 1 s m w c1 m w true c2
       at-open = match-went (at-name .here) "(" y spelt-open f
 
       pub open-args : In s m w c2
@@ -326,12 +327,12 @@ module _ (L : P.Limits) (s : List ℕ) (E : ℕ → Reads P.Opnd) where
       open-room = omega (arith, at-open .step .args, at-open .step .on, at-name .here .ready .args)
 
       module _ {m1 w1 : List ℕ} {t : Args} (d : ArgsDid (parseArgs L s E) s m w c2 m1 w1 t) where
-        pub member-no3 : {k : ℕ} → t ≡ Args.Refused k → Did (parseMember L s E v) 1 s m w c m1 w1 (parsedOf (Refused k))
+        pub member-no3 : {k : ℕ} → t ≡ Args.Refused k → CursorDid (parseMember L s E v) 1 s m w c m1 w1 (parsedOf (Refused k))
         unfolding parseMember
         member-no3 g = refuses (rw (← at-name .is, ← at-open .is, ← gave (d .did) (ap (argsOf w1 (c2 .args)) g)))
 
-        pub member-send : {c3 : Cur} {k : ℕ} → t ≡ Args.Done c3 k → {m2 : List ℕ} {o : Out P.Opnd}
-            → Did (send L s E v (nameIn s n) (waiting w1 (c3 .args) k)) 0 s m1 w1 c3 m2 w1 o → Did (parseMember L s E v) 1 s m w c m2 w1 o
+        pub member-send : {c3 : Cursor} {k : ℕ} → t ≡ Args.Done c3 k → {m2 : List ℕ} {o : Out P.Opnd}
+            → CursorDid (send L s E v (nameIn s n) (waiting w1 (c3 .args) k)) 0 s m1 w1 c3 m2 w1 o → CursorDid (parseMember L s E v) 1 s m w c m2 w1 o
         unfolding parseMember
         member-send {c3 = c3} {k = k} g a =
             let b = got (d .did) (ap (argsOf w1 (c2 .args)) g) in
@@ -340,14 +341,14 @@ module _ (L : P.Limits) (s : List ℕ) (E : ℕ → Reads P.Opnd) where
 
   -- ---- operators
 
-  module _ {m w m1 w1 : List ℕ} {c : Cur} {p : Parsed} (v : Opnd) (o : Arith) (right : ℕ) (d : Did (E right) 1 s m w c m1 w1 (parsedOf p)) where
-    pub right-no : {n : ℕ} → p ≡ Refused n → Did (parseRight L s E (operator o 0 right) (opndOf v)) 1 s m w c m1 w1 (parsedOf (Refused n))
+  module _ {m w m1 w1 : List ℕ} {c : Cursor} {p : Parsed} (v : Opnd) (o : Arith) (right : ℕ) (d : CursorDid (E right) 1 s m w c m1 w1 (parsedOf p)) where
+    pub right-no : {n : ℕ} → p ≡ Refused n → CursorDid (parseRight L s E (operator o 0 right) (opndOf v)) 1 s m w c m1 w1 (parsedOf (Refused n))
     unfolding parseRight
     right-no e = refuses (rw (← gave d (ap parsedOf e)))
 
-    pub right-yes : {c1 : Cur} {x : Opnd} {m2 : List ℕ} {a : Out P.Opnd} → p ≡ Done c1 x
-        → ((z u : List ℕ) → Adds z u (push L (opIn z (Compute o) (map opndOf (given (Two v x))))) m1 c1 m2 a)
-        → Did (parseRight L s E (operator o 0 right) (opndOf v)) 1 s m w c m2 w1 a
+    pub right-yes : {c1 : Cursor} {x : Opnd} {m2 : List ℕ} {a : Out P.Opnd} → p ≡ Done c1 x
+        → ((z u : List ℕ) → CursorAdds z u (push L (opIn z (Compute o) (map opndOf (given (Two v x))))) m1 c1 m2 a)
+        → CursorDid (parseRight L s E (operator o 0 right) (opndOf v)) 1 s m w c m2 w1 a
     unfolding parseRight
     right-yes e f = let b = got d (ap parsedOf e) in ends-as (b .step) (omega arith) (added-did (f s w1) (b .here)) (rw (← b .is))
 
@@ -396,7 +397,7 @@ module _ (L : P.Limits) (s : List ℕ) (E : ℕ → Reads P.Opnd) where
     table false false false false false true r = refl
     table false false false false false false r = refl
 
-    module _ {c : Cur} {r : Lexed} {x : Word} (see : Sees s c r) (e : r ≡ Seen.Found x) where
+    module _ {c : Cursor} {r : Lexed} {x : Word} (see : Sees s c r) (e : r ≡ Seen.Found x) where
       by : (k : ℕ) (t : String) → Spelt k t → is (wordIn s x) t ≡ eqb (x .kind) k
       by k t sp = rw (word-read see e .kind) (sp (textOf s x))
 
@@ -408,7 +409,7 @@ module _ (L : P.Limits) (s : List ℕ) (E : ℕ → Reads P.Opnd) where
           (sym (by 40 "(" spelt-open)) (sym (by 46 "." spelt-dot))
           ∙ rw (← peek-found see m w e))
 
-  module _ {m w : List ℕ} {c : Cur} {g : Glimpse} (prec : ℕ) (v : Opnd) (l : Glances s (c .at) g) where
+  module _ {m w : List ℕ} {c : Cursor} {g : Glimpse} (prec : ℕ) (v : Opnd) (l : Glances s (c .at) g) where
     pub suffix-none : {m' w' : List ℕ} {n : ℕ} → g ≡ Glimpse.Refused n → SuffixDid (parseSuffix L s E prec (opndOf v)) v s m w c m' w' (Suffixed.Refused n)
     unfolding parseSuffix
     suffix-none e =
@@ -440,7 +441,7 @@ module _ (L : P.Limits) (s : List ℕ) (E : ℕ → Reads P.Opnd) where
       pub suffix-ends : q ≡ Suffix.Ends → SuffixDid (parseSuffix L s E prec (opndOf v)) v s m w c m w Suffixed.Ends
       suffix-ends f = ends-here h (rw f at sign-is)
 
-      on-ok : {m1 w1 : List ℕ} {c' : Cur} (f : Reads P.Opnd) (p : Parsed) → Went (pass s) 1 s m w c m w tt c' → Did f 1 s m w c' m1 w1 (parsedOf p)
+      on-ok : {m1 w1 : List ℕ} {c' : Cursor} (f : Reads P.Opnd) (p : Parsed) → Acted (pass s) 1 s m w c m w tt c' → CursorDid f 1 s m w c' m1 w1 (parsedOf p)
           → onWith L s E f (parserOf s m w c) ≡ parseSuffix L s E prec (opndOf v) (parserOf s m w c)
           → SuffixDid (parseSuffix L s E prec (opndOf v)) v s m w c m1 w1 (againOf p)
       on-ok f (Done c2 v2) a d g =
@@ -454,41 +455,41 @@ module _ (L : P.Limits) (s : List ℕ) (E : ℕ → Reads P.Opnd) where
             further = λ c' v' k. let z : _≡_ {A = ℕ} 0 1 = cc in absurd (omega arith);
           }
 
-      module _ {c' : Cur} (j : c' ≡ moveCur n c) where
+      module _ {c' : Cursor} (j : c' ≡ moveCur n c) where
         module _ {m1 w1 : List ℕ} {p : Parsed} {g' : Suffixed} (b : Agains p g') where
-          pub suffix-operator : {o : Arith} {right : ℕ} → q ≡ Suffix.Operator o right → Did (parseRight L s E (operator o 0 right) (opndOf v)) 1 s m w c' m1 w1 (parsedOf p)
+          pub suffix-operator : {o : Arith} {right : ℕ} → q ≡ Suffix.Operator o right → CursorDid (parseRight L s E (operator o 0 right) (opndOf v)) 1 s m w c' m1 w1 (parsedOf p)
               → SuffixDid (parseSuffix L s E prec (opndOf v)) v s m w c m1 w1 g'
           suffix-operator f d =
               let a = operator-passed prec h l e t f j in
               rw (b .is) (on-ok _ p a d (rw f at sign-is))
 
-          pub suffix-call : q ≡ Suffix.Call → Did (parseCall L s E (opndOf v)) 1 s m w c' m1 w1 (parsedOf p) → SuffixDid (parseSuffix L s E prec (opndOf v)) v s m w c m1 w1 g'
+          pub suffix-call : q ≡ Suffix.Call → CursorDid (parseCall L s E (opndOf v)) 1 s m w c' m1 w1 (parsedOf p) → SuffixDid (parseSuffix L s E prec (opndOf v)) v s m w c m1 w1 g'
           suffix-call f d =
               let a = call-passed prec h l e t f j in
               rw (b .is) (on-ok _ p a d (rw f at sign-is))
 
-          pub suffix-member : q ≡ Suffix.Member → Did (parseMember L s E (opndOf v)) 1 s m w c' m1 w1 (parsedOf p) → SuffixDid (parseSuffix L s E prec (opndOf v)) v s m w c m1 w1 g'
+          pub suffix-member : q ≡ Suffix.Member → CursorDid (parseMember L s E (opndOf v)) 1 s m w c' m1 w1 (parsedOf p) → SuffixDid (parseSuffix L s E prec (opndOf v)) v s m w c m1 w1 g'
           suffix-member f d =
               let a = member-passed prec h l e t f j in
               rw (b .is) (on-ok _ p a d (rw f at sign-is))
 
   -- ---- all that follows an operand
 
-  pub record SuffixInv (prec : ℕ) (m₀ w₀ : List ℕ) (c₀ : Cur) (v₀ : Opnd) (m w : List ℕ) (c : Cur) (v : Opnd) : Type 0 where
+  pub record SuffixInv (prec : ℕ) (m₀ w₀ : List ℕ) (c₀ : Cursor) (v₀ : Opnd) (m w : List ℕ) (c : Cursor) (v : Opnd) : Type 0 where
     pub loops : Loops (parseSuffix L s E prec) s (opndOf v₀) (parserOf s m₀ w₀ c₀) (opndOf v) (parserOf s m w c) (c .at)
     pub here : In s m w c
-    pub step : Step 0 c₀ w₀ c w
+    pub step : CursorStep 0 c₀ w₀ c w
     pub long-m : length m ≡ length m₀
     pub long-w : length w ≡ length w₀
 
-  pub suffixes-start : (prec : ℕ) {m w : List ℕ} {c : Cur} (v : Opnd) → In s m w c → SuffixInv prec m w c v m w c v
+  pub suffixes-start : (prec : ℕ) {m w : List ℕ} {c : Cursor} (v : Opnd) → In s m w c → SuffixInv prec m w c v m w c v
   suffixes-start prec {m = m} {w = w} {c = c} v h =
       record { loops = loops-start (parseSuffix L s E prec) s (opndOf v) (parserOf s m w c) (c .at); here = h; step = step-none c w; long-m = refl; long-w = refl }
 
-  module _ {prec : ℕ} {m₀ w₀ m w m1 w1 : List ℕ} {c₀ c : Cur} {v₀ v : Opnd} {r : Suffixed} (i : SuffixInv prec m₀ w₀ c₀ v₀ m w c v)
+  module _ {prec : ℕ} {m₀ w₀ m w m1 w1 : List ℕ} {c₀ c : Cursor} {v₀ v : Opnd} {r : Suffixed} (i : SuffixInv prec m₀ w₀ c₀ v₀ m w c v)
       (d : SuffixDid (parseSuffix L s E prec (opndOf v)) v s m w c m1 w1 r) where
-    module _ {c1 : Cur} {v1 : Opnd} (e : r ≡ Suffixed.Again c1 v1) where
-      at-next : Went (parseSuffix L s E prec (opndOf v)) 0 s m w c m1 w1 (again (opndOf v1)) c1
+    module _ {c1 : Cursor} {v1 : Opnd} (e : r ≡ Suffixed.Again c1 v1) where
+      at-next : Acted (parseSuffix L s E prec (opndOf v)) 0 s m w c m1 w1 (again (opndOf v1)) c1
       at-next = got (d .did) (ap (suffixedOf c v) e)
 
       pub suffixes-less : length s - c1 .at < length s - c .at
@@ -504,10 +505,10 @@ module _ (L : P.Limits) (s : List ℕ) (E : ℕ → Reads P.Opnd) where
             long-w = b ∙ i .long-w;
           }
 
-    pub suffixes-done : r ≡ Suffixed.Ends → Did (loop (parseSuffix L s E prec) (turns s) (opndOf v₀)) 0 s m₀ w₀ c₀ m1 w1 (parsedOf (Done c v))
+    pub suffixes-done : r ≡ Suffixed.Ends → CursorDid (loop (parseSuffix L s E prec) (turns s) (opndOf v₀)) 0 s m₀ w₀ c₀ m1 w1 (parsedOf (Done c v))
     suffixes-done e =
         let a = got (d .did) (ap (suffixedOf c v) e) in
         arrives (step-trans (i .step) (a .step)) (omega arith) (a .here) (loops-end (parseSuffix L s E prec) s (i .loops) (i .here .ready .inside) _ _ (a .is))
 
-    pub suffixes-no : {n : ℕ} → r ≡ Suffixed.Refused n → Did (loop (parseSuffix L s E prec) (turns s) (opndOf v₀)) 0 s m₀ w₀ c₀ m1 w1 (parsedOf (Refused n))
+    pub suffixes-no : {n : ℕ} → r ≡ Suffixed.Refused n → CursorDid (loop (parseSuffix L s E prec) (turns s) (opndOf v₀)) 0 s m₀ w₀ c₀ m1 w1 (parsedOf (Refused n))
     suffixes-no e = refuses (loops-stop (parseSuffix L s E prec) s (i .loops) (i .here .ready .inside) _ (gave (d .did) (ap (suffixedOf c v) e)))

@@ -7,11 +7,11 @@ use Rattle.rules.specs.Program as P
 use Rattle.rules.specs.Reading.{Reads, parseArg}
 use Rattle.program.specs.Rows.{opndOf}
 use Rattle.program.specs.declared.Opnd.{Opnd}
-use Rattle.parser.specs.Cursor.{parserOf, waiting, stackCur, In, Step}
-use Rattle.parser.specs.Promises.{Out, done, stop, outcome, Did}
-use Rattle.parser.specs.declared.Cur.{Cur}
-use Rattle.parser.specs.declared.Parsed.{Parsed}
-use Rattle.parser.specs.declared.Parsed.the-variants as Parsed
+use Rattle.cursor.specs.Cursor.{parserOf, waiting, stackCur, In, CursorStep}
+use Rattle.cursor.specs.Promises.{Out, done, stop, outcome, CursorDid}
+use Rattle.cursor.specs.declared.Cursor.{Cursor}
+use Rattle.cursor.specs.declared.Parsed.{Parsed}
+use Rattle.cursor.specs.declared.Parsed.the-variants as Parsed
 use Rattle.expressions.specs.declared.ArgTurn.{ArgTurn}
 use Rattle.expressions.specs.declared.ArgTurn.the-variants as ArgTurn
 use Rattle.expressions.specs.declared.Args.{Args}
@@ -26,7 +26,7 @@ againOf (Parsed.Refused e) = Suffixed.Refused e
 pub record Agains (p : Parsed) (r : Suffixed) : Type 0 where
   pub is : r ≡ againOf p
 
-abbrev pub takenOf : ℕ → Cur → Args
+abbrev pub takenOf : ℕ → Cursor → Args
 takenOf base c = Args.Done (stackCur base c) (c .args - base)
 
 -- ---- one argument; those of its call are the waiting ones from the k-th on
@@ -36,17 +36,17 @@ argOf w k (ArgTurn.Again c) = done (again (waiting w k (c .args - k))) c
 argOf w k (ArgTurn.Ends c) = done (ends (waiting w k (c .args - k))) c
 argOf w k (ArgTurn.Refused e) = stop e
 
-pub record ArgStep (k : ℕ) (s w : List ℕ) (c : Cur) (m' w' : List ℕ) (c' : Cur) : Type 0 where
+pub record ArgStep (k : ℕ) (s w : List ℕ) (c : Cursor) (m' w' : List ℕ) (c' : Cursor) : Type 0 where
   pub here : In s m' w' c'
-  pub step : Step k c w (stackCur (c .args) c') w'
+  pub step : CursorStep k c w (stackCur (c .args) c') w'
   pub more : c .args ≤ c' .args
 
-abbrev pub ArgOk : List ℕ → List ℕ → Cur → List ℕ → List ℕ → ArgTurn → Type 0
+abbrev pub ArgOk : List ℕ → List ℕ → Cursor → List ℕ → List ℕ → ArgTurn → Type 0
 ArgOk s w c m' w' (ArgTurn.Again c') = ArgStep 1 s w c m' w' c' × (2 * c' .args < c' .at)
 ArgOk s w c m' w' (ArgTurn.Ends c') = ArgStep 0 s w c m' w' c'
 ArgOk s w c m' w' (ArgTurn.Refused e) = Unit {0}
 
-pub record ArgDid (L : P.Limits) (s : List ℕ) (E : ℕ → Reads P.Opnd) (m w : List ℕ) (c : Cur) (m' w' : List ℕ) (r : ArgTurn) : Type 0 where
+pub record ArgDid (L : P.Limits) (s : List ℕ) (E : ℕ → Reads P.Opnd) (m w : List ℕ) (c : Cursor) (m' w' : List ℕ) (r : ArgTurn) : Type 0 where
   pub is : (k : ℕ) → k ≤ c .args → outcome s m' w' (argOf w' k r) ≡ parseArg L s E (waiting w k (c .args - k)) (parserOf s m w c)
   pub ok : ArgOk s w c m' w' r
 
@@ -56,17 +56,17 @@ abbrev pub argsOf : List ℕ → ℕ → Args → Out (List P.Opnd)
 argsOf w k (Args.Done c n) = done (waiting w k n) c
 argsOf w k (Args.Refused e) = stop e
 
-pub record ArgsDid (f : Reads (List P.Opnd)) (s m w : List ℕ) (c : Cur) (m' w' : List ℕ) (r : Args) : Type 0 where
-  pub did : Did f 1 s m w c m' w' (argsOf w' (c .args) r)
-  pub few : (c' : Cur) (n : ℕ) → r ≡ Args.Done c' n → c' .args + n ≤ 8192
+pub record ArgsDid (f : Reads (List P.Opnd)) (s m w : List ℕ) (c : Cursor) (m' w' : List ℕ) (r : Args) : Type 0 where
+  pub did : CursorDid f 1 s m w c m' w' (argsOf w' (c .args) r)
+  pub few : (c' : Cursor) (n : ℕ) → r ≡ Args.Done c' n → c' .args + n ≤ 8192
 
 -- ---- one thing behind an operand; where there is none, nothing moves
 
-abbrev pub suffixedOf : Cur → Opnd → Suffixed → Out (Turn P.Opnd P.Opnd)
+abbrev pub suffixedOf : Cursor → Opnd → Suffixed → Out (Turn P.Opnd P.Opnd)
 suffixedOf c v (Suffixed.Again c' v') = done (again (opndOf v')) c'
 suffixedOf c v Suffixed.Ends = done (ends (opndOf v)) c
 suffixedOf c v (Suffixed.Refused e) = stop e
 
-pub record SuffixDid (f : Reads (Turn P.Opnd P.Opnd)) (v : Opnd) (s m w : List ℕ) (c : Cur) (m' w' : List ℕ) (r : Suffixed) : Type 0 where
-  pub did : Did f 0 s m w c m' w' (suffixedOf c v r)
-  pub further : (c' : Cur) (v' : Opnd) → r ≡ Suffixed.Again c' v' → c .at < c' .at
+pub record SuffixDid (f : Reads (Turn P.Opnd P.Opnd)) (v : Opnd) (s m w : List ℕ) (c : Cursor) (m' w' : List ℕ) (r : Suffixed) : Type 0 where
+  pub did : CursorDid f 0 s m w c m' w' (suffixedOf c v r)
+  pub further : (c' : Cursor) (v' : Opnd) → r ≡ Suffixed.Again c' v' → c .at < c' .at

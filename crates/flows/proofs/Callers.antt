@@ -13,8 +13,8 @@ use lib.Bits.{bitOr}
 use lib.Dec.{ltb, eqb}
 use lib.ListN.{length, getD, drop, drop-of-length-le, List·getD-eq-default}
 use lib.Seq.{drop-cons, getD-drop}
-use Rattle.sets.specs.declared.InsnId.{InsnId}
-use Rattle.sets.proofs.Bits.{Either, yes, no, either}
+use Rattle.ids.specs.declared.InsnId.{InsnId}
+use Rattle.ids.proofs.Bits.{Either, yes, no, either}
 use Rattle.kinds.specs.declared.Kind.{Kind}
 use Rattle.kinds.specs.declared.Kind.the-variants.{Empty, Any, Nil, Objects}
 use Rattle.kinds.specs.declared.Joined.{Joined}
@@ -34,23 +34,23 @@ use Rattle.program.specs.declared.Opnd.{Opnd}
 use Rattle.program.specs.declared.Opnd.the-variants.{Const, Insn}
 use Rattle.program.specs.declared.Counts.{Counts}
 use Rattle.program.specs.Rows.{opndOf, opndsAt, opndsIn, opIn, opFrom}
-use Rattle.program.specs.View.{view, Ready}
+use Rattle.program.specs.View.{programView, ProgramReady}
 use Rattle.program.proofs.Areas.{given-length}
 use Rattle.program.proofs.Reading.{insn-read, operand-read}
 use Rattle.state.specs.declared.Sizes.{Sizes}
 use Rattle.state.specs.declared.NextInsn.{NextInsn}
 use Rattle.state.specs.declared.NextInsn.the-variants.{Place, Done}
-use Rattle.state.specs.View.{kindsOf, calledOf, Held}
-use Rattle.state.specs.View.{view as stateView}
+use Rattle.state.specs.View.{kindsOf, calledOf, StateHeld}
+use Rattle.state.specs.View.{stateView}
 use Rattle.state.specs.Changes.{marksFrom, Following}
-use Rattle.opnds.specs.Reads.{Inside, kindIn, Reads}
-use Rattle.opnds.proofs.Given.{kind-of}
+use Rattle.machine.specs.opnds.Reads.{OperandInside, kindIn, StateReads}
+use Rattle.machine.proofs.opnds.Given.{kind-of}
 use Rattle.flows.specs.declared.Pass.{Pass}
 use Rattle.flows.specs.declared.Tally.the-variants.{Nothing as None}
 use Rattle.flows.specs.declared.AsSet.{AsSet}
 use Rattle.flows.specs.declared.AsSet.the-variants.{Set, Other}
-use Rattle.flows.specs.Tally.{Nothing, least, takeAll, finish, unionOver, FitsAt, Fits}
-use Rattle.flows.specs.Flows.{tallyOf, Passed, Argues, ArguesAt, Sound, Known, PassedIn, asSet, joinSets, SetsFrom, ParamIs}
+use Rattle.flows.specs.Tally.{Nothing, least, takeAll, finish, unionOver, FitsAt, TallyFits}
+use Rattle.flows.specs.Flows.{tallyOf, Passed, Argues, ArguesAt, FlowsSound, FlowsKnown, PassedIn, asSet, joinSets, SetsFrom, ParamIs}
 use Rattle.flows.proofs.Whole.{union-over}
 use Rattle.flows.proofs.Sets.{sets-union}
 use Rattle.flows.proofs.Standing.{stands, stands-none}
@@ -108,14 +108,15 @@ skip-from (suc (suc (suc (suc (suc (suc (suc (suc (suc (suc zero)))))))))) x y =
 skip-from (suc (suc (suc (suc (suc (suc (suc (suc (suc (suc (suc zero))))))))))) x y = refl
 skip-from (suc (suc (suc (suc (suc (suc (suc (suc (suc (suc (suc (suc zero)))))))))))) x y = refl
 skip-from (suc (suc (suc (suc (suc (suc (suc (suc (suc (suc (suc (suc (suc zero))))))))))))) x y = refl
-skip-from (suc (suc (suc (suc (suc (suc (suc (suc (suc (suc (suc (suc (suc (suc n)))))))))))))) x y = ap boolByte (ne-eqb (suc (suc (suc (suc (suc (suc (suc (suc (suc (suc (suc (suc (suc (suc n)))))))))))))) 4 (λ e. omega arith))
+skip-from (suc (suc (suc (suc (suc (suc (suc (suc (suc (suc (suc (suc (suc (suc n)))))))))))))) x y =
+    ap boolByte (ne-eqb (suc (suc (suc (suc (suc (suc (suc (suc (suc (suc (suc (suc (suc (suc n)))))))))))))) 4 (λ e. omega arith))
 
 skip-small : (b : 𝔹) → boolByte b ≤ 1
 skip-small true = omega arith
 skip-small false = omega arith
 
 -- the words of i's row
-module _ (m : List ℕ) (c : Counts) (i n : ℕ) (r : Ready m c) (below : i < c .insns) where
+module _ (m : List ℕ) (c : Counts) (i n : ℕ) (r : ProgramReady m c) (below : i < c .insns) where
   abbrev first : ℕ
   first = getD m (0 + 6 * i + 4) 0
 
@@ -137,10 +138,10 @@ module _ (m : List ℕ) (c : Counts) (i n : ℕ) (r : Ready m c) (below : i < c 
   pub place-fits : skip + n < count → (x : ℕ) → x ≤ opndsAt + 2 * first + 2 * (skip + n) → FitsIn w64 x
   place-fits lt x le = record { fits = let a = row-range in omega arith }
 
-  argument-is : (L : Limits) (s : List ℕ) → has (about (opOf (view s m c) i) .callee) ≡ true → argument L (view s m c) n i ≡ getD given (skip + n) (P.Const Empty)
+  argument-is : (L : Limits) (s : List ℕ) → has (about (opOf (programView s m c) i) .callee) ≡ true → argument L (programView s m c) n i ≡ getD given (skip + n) (P.Const Empty)
   argument-is L s h =
       let o : Op = opFrom (getD m (0 + 6 * i) 0) (getD m (0 + 6 * i + 2) 0) (getD m (0 + 6 * i + 3) 0) in
-      let e : opOf (view s m c) i ≡ opIn s o given = ap (λ (y : P.Instruction). y .op) (insn-read i r below refl .is s) in
+      let e : opOf (programView s m c) i ≡ opIn s o given = ap (λ (y : P.Instruction). y .op) (insn-read i r below refl .is s) in
       let g : has (about (opIn s o given) .callee) ≡ true = rw e at h in
       ap (λ (y : P.Op). getD (about y .listed) n (P.Const Empty)) e
       ∙ ap (λ (y : List P.Opnd). getD y n (P.Const Empty)) (listed-is s o given g)
@@ -168,7 +169,7 @@ module _ (m : List ℕ) (c : Counts) (i n : ℕ) (r : Ready m c) (below : i < c 
     inside = let b = r .len-mem in omega arith;
   }
 
-pub fits-inside : (z : Sizes) (r : Opnd) → FitsAt (z .insns) (opndOf r) → Inside z r
+pub fits-inside : (z : Sizes) (r : Opnd) → FitsAt (z .insns) (opndOf r) → OperandInside z r
 fits-inside z (Const k) f = tt
 fits-inside z (Insn j) f = f
 
@@ -200,7 +201,7 @@ mark-is t f k i e = marked-first (getD t f []) (length (getD t f [])) k i (marks
 abbrev pub Passing : List ℕ → Counts → Sizes → List ℕ → ℕ → ℕ → Pass → Pass → ℕ → Type 0
 Passing m c z w f n x₀ x k = (y : Pass) → PassedIn m c z w f n k x y → PassedIn m c z w f n 0 x₀ y
 
-module _ {m : List ℕ} {c : Counts} {z : Sizes} (w : List ℕ) {f k : ℕ} {s : NextInsn} (q : Known m c z (calledOf z w))
+module _ {m : List ℕ} {c : Counts} {z : Sizes} (w : List ℕ) {f k : ℕ} {s : NextInsn} (q : FlowsKnown m c z (calledOf z w))
     (h : Following (calledOf z w) f (z .insns) k s) where
   next-is : {t : NextInsn} → s ≡ t → Following (calledOf z w) f (z .insns) k t
   next-is e = rw e at h
@@ -211,10 +212,10 @@ module _ {m : List ℕ} {c : Counts} {z : Sizes} (w : List ℕ) {f k : ℕ} {s :
   pub caller-falls : (i : InsnId) → s ≡ Place i → z .insns - (i .0 + 1) < z .insns - k
   caller-falls i e = let b = next-is e .ok in omega (arith, b .0, b .1)
 
-  pub caller-fits : Held z w → (i : InsnId) → s ≡ Place i → FitsIn w32 (i .0 + 1)
+  pub caller-fits : StateHeld z w → (i : InsnId) → s ≡ Place i → FitsIn w32 (i .0 + 1)
   caller-fits g i e = let b = next-is e .ok .1 in record { fits = omega arith }
 
-  pub caller-inside : (n : ℕ) (i : InsnId) {o : Opnd} → s ≡ Place i → Argues m c (i .0) n o → Inside z o
+  pub caller-inside : (n : ℕ) (i : InsnId) {o : Opnd} → s ≡ Place i → Argues m c (i .0) n o → OperandInside z o
   caller-inside n i {o} e a =
       fits-inside z o (rw (a .is P.limits (q .script) (q .sound .calls f (i .0) (mark-is (calledOf z w) f k (i .0) (next-is e .is)))) (q .sound .listed (i .0) n))
 
@@ -225,9 +226,10 @@ module _ {m : List ℕ} {c : Counts} {z : Sizes} (w : List ℕ) {f k : ℕ} {s :
       → Passing m c z w f n x₀ x k → Passing m c z w f n x₀ x' (i .0 + 1)
   caller-more n x₀ x i {o} {x'} e a p g y r = g y (record {
     passed = λ L u so.
-        let b : opndOf o ≡ argument L (view u m c) n (i .0) = a .is L u (so .calls f (i .0) (mark-is (calledOf z w) f k (i .0) (next-is e .is))) in
+        let b : opndOf o ≡ argument L (programView u m c) n (i .0) = a .is L u (so .calls f (i .0) (mark-is (calledOf z w) f k (i .0) (next-is e .is))) in
         let t : marksFrom (calledOf z w) f k ≡ i .0 ∷ marksFrom (calledOf z w) f (i .0 + 1) = next-is e .is ∙ ap (λ (j : ℕ). i .0 ∷ marksFrom (calledOf z w) f j) (sym (add-one (i .0))) in
-        rw t (passed-append (kindsOf z w) (argument L (view u m c) n (i .0) ∷ []) (map (argument L (view u m c) n) (marksFrom (calledOf z w) f (i .0 + 1))) x x' y (rw b at p) (r .passed L u so));
+        rw t
+        (passed-append (kindsOf z w) (argument L (programView u m c) n (i .0) ∷ []) (map (argument L (programView u m c) n) (marksFrom (calledOf z w) f (i .0 + 1))) x x' y (rw b at p) (r .passed L u so));
   })
 
 pub callers-start : (m : List ℕ) (c : Counts) (z : Sizes) (w : List ℕ) (f n : ℕ) (x : Pass) → Passing m c z w f n x x 0
@@ -250,7 +252,7 @@ all-callers : (t : List (List 𝔹)) (L : Limits) (p : Program) (s : State) (f :
 unfolding marksFrom
 all-callers t L p s f e = rw (sym e)
 
-arguments-fit : (L : Limits) (p : Program) (z : Sizes) (t : List (List 𝔹)) (n : ℕ) (l : List ℕ) → Sound p (z .insns) t → Fits (z .insns) (map (argument L p n) l)
+arguments-fit : (L : Limits) (p : Program) (z : Sizes) (t : List (List 𝔹)) (n : ℕ) (l : List ℕ) → FlowsSound p (z .insns) t → TallyFits (z .insns) (map (argument L p n) l)
 arguments-fit L p z t n [] so = tt
 arguments-fit L p z t n (i ∷ l) so = (so .listed i n, arguments-fit L p z t n l so)
 
@@ -274,7 +276,7 @@ finish-same ks n a (Rattle.flows.specs.Tally.Many j) = refl
 
 -- two passes over the same operands come to the union of their set
 pub two-passes : (ks : List Kind) (n : ℕ) (l : List P.Opnd) {x y : Pass} {r : Joined} → Passed ks l (record { bound = n; least = n; tally = None }) x
-    → Passed ks l (record { bound = x .least; least = x .least; tally = None }) y → r ≡ finish [] n (x .least) (tallyOf (y .tally)) → Fits n l
+    → Passed ks l (record { bound = x .least; least = x .least; tally = None }) y → r ≡ finish [] n (x .least) (tallyOf (y .tally)) → TallyFits n l
     → r ≡ unionAll Empty (map (kindIn ks) (opndSet l))
 unfolding unionOver
 two-passes ks n l {x} {y} {r} px py e f =
@@ -285,12 +287,12 @@ two-passes ks n l {x} {y} {r} px py e f =
 
 -- the union of the arguments, in the rule's words
 param-union : (m : List ℕ) (c : Counts) (z : Sizes) (w : List ℕ) (f n : ℕ) {r : Joined}
-    → ((L : Limits) (u : List ℕ) → Sound (view u m c) (z .insns) (calledOf z w)
-    → r ≡ unionAll Empty (map (kindIn (kindsOf z w)) (opndSet (map (argument L (view u m c) n) (marksFrom (calledOf z w) f 0)))))
-    → (i : ℕ) → Reads z (ParamIs m c z (calledOf z w) i f n) (λ L p. rule L p i (Param n)) w r
+    → ((L : Limits) (u : List ℕ) → FlowsSound (programView u m c) (z .insns) (calledOf z w)
+    → r ≡ unionAll Empty (map (kindIn (kindsOf z w)) (opndSet (map (argument L (programView u m c) n) (marksFrom (calledOf z w) f 0)))))
+    → (i : ℕ) → StateReads z (ParamIs m c z (calledOf z w) i f n) (λ L p. rule L p i (Param n)) w r
 param-union m c z w f n {r} h i = record {
   is = λ L p v g q.
-      let u = view (g .script) m c in
+      let u = programView (g .script) m c in
       let s = stateView z v w q in
       let l = map (argument L u n) (marksFrom (calledOf z w) f 0) in
       let k : r ≡ unionAll Empty (map (kindOf s) (opndSet l)) = h L (g .script) (g .sound) ∙ ap (unionAll Empty) (kinds-of s (opndSet l)) in
@@ -302,22 +304,22 @@ pub param-kind : (m : List ℕ) (c : Counts) (z : Sizes) (w : List ℕ) (f n : �
     → PassedIn m c z w f n 0 (record { bound = z .insns; least = z .insns; tally = None }) x
     → PassedIn m c z w f n 0 (record { bound = x .least; least = x .least; tally = None }) y
     → r ≡ finish [] (z .insns) (x .least) (tallyOf (y .tally))
-    → (i : ℕ) → Reads z (ParamIs m c z (calledOf z w) i f n) (λ L p. rule L p i (Param n)) w r
+    → (i : ℕ) → StateReads z (ParamIs m c z (calledOf z w) i f n) (λ L p. rule L p i (Param n)) w r
 param-kind m c z w f n px py e =
     param-union m c z w f n (λ L u so.
-    let l = map (argument L (view u m c) n) (marksFrom (calledOf z w) f 0) in
-    two-passes (kindsOf z w) (z .insns) l (px .passed L u so) (py .passed L u so) e (arguments-fit L (view u m c) z (calledOf z w) n (marksFrom (calledOf z w) f 0) so))
+    let l = map (argument L (programView u m c) n) (marksFrom (calledOf z w) f 0) in
+    two-passes (kindsOf z w) (z .insns) l (px .passed L u so) (py .passed L u so) e (arguments-fit L (programView u m c) z (calledOf z w) n (marksFrom (calledOf z w) f 0) so))
 
 -- where the first pass finds no Any, a second would take the same
 pub param-once : (m : List ℕ) (c : Counts) (z : Sizes) (w : List ℕ) (f n : ℕ) {x : Pass} {r : Joined}
     → PassedIn m c z w f n 0 (record { bound = z .insns; least = z .insns; tally = None }) x → x .least ≡ z .insns → r ≡ finish [] (z .insns) (x .least) (tallyOf (x .tally))
-    → (i : ℕ) → Reads z (ParamIs m c z (calledOf z w) i f n) (λ L p. rule L p i (Param n)) w r
+    → (i : ℕ) → StateReads z (ParamIs m c z (calledOf z w) i f n) (λ L p. rule L p i (Param n)) w r
 param-once m c z w f n {x} px e =
     param-kind m c z w f n px (subst (λ (a : ℕ). PassedIn m c z w f n 0 (record { bound = a; least = a; tally = None }) x) (sym e) px)
 
 pub param-set : (m : List ℕ) (c : Counts) (z : Sizes) (w : List ℕ) (f n : ℕ) {x : AsSet} {s : ℕ} → SetsFrom m c z w f n 0 false 0 x → x ≡ Set s → 0 < s
-    → (i : ℕ) → Reads z (ParamIs m c z (calledOf z w) i f n) (λ L p. rule L p i (Param n)) w (Of (Objects s))
+    → (i : ℕ) → StateReads z (ParamIs m c z (calledOf z w) i f n) (λ L p. rule L p i (Param n)) w (Of (Objects s))
 param-set m c z w f n {s = s} h e lt =
     param-union m c z w f n (λ L u so.
-    let l = map (argument L (view u m c) n) (marksFrom (calledOf z w) f 0) in
-    sets-union (kindsOf z w) (z .insns) s l (arguments-fit L (view u m c) z (calledOf z w) n (marksFrom (calledOf z w) f 0) so) (sym (h .passed L u so) ∙ e) lt)
+    let l = map (argument L (programView u m c) n) (marksFrom (calledOf z w) f 0) in
+    sets-union (kindsOf z w) (z .insns) s l (arguments-fit L (programView u m c) z (calledOf z w) n (marksFrom (calledOf z w) f 0) so) (sym (h .passed L u so) ∙ e) lt)

@@ -9,9 +9,9 @@ use mir.Syntax.{w32, w64}
 use mir.Val.{Fits}
 use lib.Bits.{bitOr, or-self, or-zero-r}
 use lib.ListN.{length, getD, List·getD-eq-default}
-use Rattle.sets.specs.Sets.{membersFrom}
-use Rattle.sets.proofs.Bits.{or-assoc}
-use Rattle.sets.proofs.Walk.{no-members}
+use Rattle.ids.specs.Sets.{membersFrom}
+use Rattle.ids.proofs.Bits.{or-assoc}
+use Rattle.ids.proofs.Walk.{no-members}
 use Rattle.kinds.specs.declared.Kind.{Kind}
 use Rattle.kinds.specs.declared.Kind.the-variants.{Empty}
 use Rattle.kinds.specs.Kinds.{kindFrom, isSet}
@@ -22,19 +22,19 @@ use Rattle.rules.specs.Machine.{marked, argument}
 use Rattle.program.specs.declared.Opnd.{Opnd}
 use Rattle.program.specs.declared.Counts.{Counts}
 use Rattle.program.specs.Rows.{opndOf}
-use Rattle.program.specs.View.{view}
+use Rattle.program.specs.View.{programView}
 use Rattle.program.proofs.Forms.{opnd-const}
-use Rattle.tables.specs.Bits.{RowWord, LowestBit}
-use Rattle.tables.proofs.Listed.{listed-length, rows-row}
-use Rattle.tables.proofs.Words.{from, from-end, from-at, from-row}
+use Rattle.memory.specs.tables.Bits.{RowWord, LowestBit}
+use Rattle.memory.proofs.tables.Listed.{listed-length, rows-row}
+use Rattle.memory.proofs.tables.Words.{from, from-end, from-at, from-row}
 use Rattle.state.specs.declared.Sizes.{Sizes}
-use Rattle.state.specs.View.{kindsOf, calledOf, Held}
+use Rattle.state.specs.View.{kindsOf, calledOf, StateHeld}
 use Rattle.state.specs.Changes.{marksFrom}
-use Rattle.opnds.specs.Reads.{Inside, kindIn}
+use Rattle.machine.specs.opnds.Reads.{OperandInside, kindIn}
 use Rattle.flows.specs.declared.Words.{Words}
 use Rattle.flows.specs.declared.AsSet.{AsSet}
 use Rattle.flows.specs.declared.AsSet.the-variants.{Set, Other}
-use Rattle.flows.specs.Flows.{Argues, operandOf, Sound, Known, asSet, joinSets, SetsFrom}
+use Rattle.flows.specs.Flows.{Argues, operandOf, FlowsSound, FlowsKnown, asSet, joinSets, SetsFrom}
 use Rattle.flows.proofs.Callers.{fits-inside, join-step, join-none}
 
 -- ---- an operand that was joined
@@ -101,7 +101,7 @@ in-below row i e = elim (decLt i (length row)) [
 module _ (m : List ℕ) (c : Counts) (z : Sizes) (w : List ℕ) (f n : ℕ) where
   -- the union of s with the arguments of the callers in l
   pub record SetsOver (b : 𝔹) (s : ℕ) (l : List ℕ) (r : AsSet) : Type 0 where
-    pub passed : (L : Limits) (u : List ℕ) → Sound (view u m c) (z .insns) (calledOf z w) → r ≡ joinSets (kindsOf z w) b s (map (argument L (view u m c) n) l)
+    pub passed : (L : Limits) (u : List ℕ) → FlowsSound (programView u m c) (z .insns) (calledOf z w) → r ≡ joinSets (kindsOf z w) b s (map (argument L (programView u m c) n) l)
 
   -- what is left are the callers in l, and o came last
   pub record Left (b : 𝔹) (s : ℕ) (o : Words) (l : List ℕ) : Type 0 where
@@ -155,7 +155,8 @@ module _ (m : List ℕ) (c : Counts) (z : Sizes) (w : List ℕ) (f n : ℕ) wher
     inner-done e lt = record {
       left =
           let t : membersFrom 64 (k * 64) v ++ marksFrom (calledOf z w) f (k * 64 + 64) ≡ marksFrom (calledOf z w) f ((k + 1) * 64) =
-          ap₂ (λ (x : ℕ) (y : ℕ). membersFrom 64 (k * 64) x ++ marksFrom (calledOf z w) f y) e (omega arith) ∙ ap (λ (l : List ℕ). l ++ marksFrom (calledOf z w) f ((k + 1) * 64)) (no-members 64 (k * 64)) in
+          ap₂ (λ (x : ℕ) (y : ℕ). membersFrom 64 (k * 64) x ++ marksFrom (calledOf z w) f y) e (omega arith) ∙ ap (λ (l : List ℕ). l ++ marksFrom (calledOf z w) f ((k + 1) * 64))
+          (no-members 64 (k * 64)) in
           rw t at (g .left);
       few = omega arith;
     }
@@ -176,11 +177,11 @@ module _ (m : List ℕ) (c : Counts) (z : Sizes) (w : List ℕ) (f n : ℕ) wher
       pub caller-inner : f < z .functions → k * 64 + i < z .insns
       caller-inner lt = let e = row-length z w f lt in omega (arith, in-below (getD (calledOf z w) f []) (k * 64 + i) caller-marked)
 
-      pub caller-argues : Known m c z (calledOf z w) → {a : Opnd} → Argues m c (k * 64 + i) n a → Inside z a
+      pub caller-argues : FlowsKnown m c z (calledOf z w) → {a : Opnd} → Argues m c (k * 64 + i) n a → OperandInside z a
       caller-argues q {a} d = fits-inside z a (rw (d .is P.limits (q .script) (q .sound .calls f (k * 64 + i) caller-marked)) (q .sound .listed (k * 64 + i) n))
 
       module _ (x : Words) {a : Opnd} (d : Argues m c (k * 64 + i) n a) (ex : operandOf x ≡ a) where
-        argued : (L : Limits) (u : List ℕ) → Sound (view u m c) (z .insns) (calledOf z w) → opndOf (operandOf x) ≡ argument L (view u m c) n (k * 64 + i)
+        argued : (L : Limits) (u : List ℕ) → FlowsSound (programView u m c) (z .insns) (calledOf z w) → opndOf (operandOf x) ≡ argument L (programView u m c) n (k * 64 + i)
         argued L u so = ap opndOf ex ∙ d .is L u (so .calls f (k * 64 + i) caller-marked)
 
         -- the rest of the list
@@ -188,9 +189,9 @@ module _ (m : List ℕ) (c : Counts) (z : Sizes) (w : List ℕ) (f n : ℕ) wher
         rest = membersFrom 64 (k * 64) v' ++ marksFrom (calledOf z w) f (k * 64 + 64)
 
         abbrev args : Limits → List ℕ → List ℕ → List P.Opnd
-        args L u l = map (argument L (view u m c) n) l
+        args L u l = map (argument L (programView u m c) n) l
 
-        step : (L : Limits) (u : List ℕ) → Sound (view u m c) (z .insns) (calledOf z w)
+        step : (L : Limits) (u : List ℕ) → FlowsSound (programView u m c) (z .insns) (calledOf z w)
             → joinSets (kindsOf z w) b s (args L u ((k * 64 + i) ∷ rest)) ≡ joinSets (kindsOf z w) b s (opndOf (operandOf x) ∷ args L u rest)
         step L u so = ap (λ (y : P.Opnd). joinSets (kindsOf z w) b s (y ∷ args L u rest)) (sym (argued L u so))
 
@@ -234,7 +235,7 @@ module _ (m : List ℕ) (c : Counts) (z : Sizes) (w : List ℕ) (f n : ℕ) wher
 
 -- ---- numbers
 
-module _ {z : Sizes} {w : List ℕ} (h : Held z w) (k : ℕ) where
+module _ {z : Sizes} {w : List ℕ} (h : StateHeld z w) (k : ℕ) where
   pub word-below : k * 64 < z .insns → k < 32
   word-below lt = let e = h .insns in omega arith
 
@@ -253,8 +254,8 @@ module _ {z : Sizes} {w : List ℕ} (h : Held z w) (k : ℕ) where
 pub word-some : {v : ℕ} → (v ≡ 0 → ⊥) → 0 < v
 word-some h = omega arith
 
-pub caller-within : {m : List ℕ} {c : Counts} {z : Sizes} {t : List (List 𝔹)} → Known m c z t → {i : ℕ} → i < z .insns → i < c .insns
+pub caller-within : {m : List ℕ} {c : Counts} {z : Sizes} {t : List (List 𝔹)} → FlowsKnown m c z t → {i : ℕ} → i < z .insns → i < c .insns
 caller-within q lt = let e = q .sizes in omega arith
 
-pub words-in : (z : Sizes) {a b : Opnd} → a ≡ b → Inside z b → Inside z a
+pub words-in : (z : Sizes) {a b : Opnd} → a ≡ b → OperandInside z b → OperandInside z a
 words-in z e h = rw e h

@@ -9,7 +9,7 @@ use borrow.Author.Tests.{lt-ltb, le-ltb, ltb-true, ltb-false, eqb-true, eqb-fals
 use lib.Dec.{eqb, ltb}
 use lib.IntN.{ℤ, pos, negsuc}
 use lib.Signed.{ltZ}
-use Rattle.sets.proofs.Bits.{Either, yes, no, either}
+use Rattle.ids.proofs.Bits.{Either, yes, no, either}
 use Rattle.numbers.specs.Numbers.{sameℤ}
 use Rattle.kinds.specs.declared.Kind.{Kind}
 use Rattle.kinds.specs.Kinds.{tagOf, numberOf, sameOf}

@@ -7,7 +7,7 @@ use native.Mathlib.Omega.{arith}
 use borrow.Author.Tests.{ltb-true, ltb-false}
 use lib.Dec.{eqb, ltb}
 use lib.Bits.{bitOr}
-use Rattle.sets.proofs.Bits.{Either, yes, no, either}
+use Rattle.ids.proofs.Bits.{Either, yes, no, either}
 use Rattle.kinds.specs.declared.Kind.{Kind}
 use Rattle.kinds.specs.declared.Kind.the-variants.{Empty, Any}
 use Rattle.kinds.specs.declared.Joined.{Joined}
@@ -18,7 +18,7 @@ use Rattle.kinds.proofs.Lub.{lub-comm, lub-assoc, lub-idem, lub-mix, lub-full}
 use Rattle.kinds.proofs.Laws.{union-yes, union-no, union-comm, union-plain, lub-plain}
 use Rattle.rules.specs.Program.{Opnd, Const, Insn, sameOpnd, opndBefore}
 use Rattle.rules.specs.Machine.{insertOpnd, opndSet}
-use Rattle.opnds.specs.Reads.{kindIn}
+use Rattle.machine.specs.opnds.Reads.{kindIn}
 use Rattle.flows.specs.Tally.{Tally, Nothing, One, Many, lower, least, before, solid, add, take, takeAll}
 use Rattle.flows.proofs.Order.{same-is, same-self, same-turn}
 

@@ -7,7 +7,7 @@ use native.Mathlib.Omega.{arith}
 use borrow.Author.Tests.{lt-ltb, le-ltb}
 use lib.Dec.{ltb}
 use lib.Bits.{bitOr, or-zero-l, or-zero-r, or-comm, or-self}
-use Rattle.sets.proofs.Bits.{or-assoc, Either, yes, no, either}
+use Rattle.ids.proofs.Bits.{or-assoc, Either, yes, no, either}
 use Rattle.kinds.specs.declared.Kind.{Kind}
 use Rattle.kinds.specs.declared.Kind.the-variants.{Empty, Nil, Num, Truth, Fun, Class, Int, Bool, Objects, Any}
 use Rattle.kinds.specs.declared.Joined.{Joined}
@@ -19,10 +19,10 @@ use Rattle.kinds.proofs.Laws.{union-plain, union-sets, lub-plain}
 use Rattle.kinds.proofs.Steps.{empty-is}
 use Rattle.rules.specs.Program.{Opnd, Const, Insn, sameOpnd}
 use Rattle.rules.specs.Machine.{opndSet}
-use Rattle.opnds.specs.Reads.{kindIn}
+use Rattle.machine.specs.opnds.Reads.{kindIn}
 use Rattle.flows.specs.declared.AsSet.{AsSet}
 use Rattle.flows.specs.declared.AsSet.the-variants.{Set, Other}
-use Rattle.flows.specs.Tally.{Tally, Nothing, One, Many, lower, least, before, solid, add, take, takeAll, close, finish, unionOver, FitsAt, Fits}
+use Rattle.flows.specs.Tally.{Tally, Nothing, One, Many, lower, least, before, solid, add, take, takeAll, close, finish, unionOver, FitsAt, TallyFits}
 use Rattle.flows.specs.Flows.{asSet, joinSets}
 use Rattle.flows.proofs.Order.{same-is}
 use Rattle.flows.proofs.Whole.{union-over}
@@ -172,7 +172,7 @@ module _ (ks : List Kind) where
   holds-close (One w j) true s r e lt h = rw (sym e, h .4) (ap Of (sym (set-is j (sym (h .3)))))
   holds-close (Many m) true s r e lt h = rw (sym e) (sym (h .1 ∙ ap Of (h .3)))
 
-  sets-take : (n : ℕ) (b : 𝔹) (s r : ℕ) (t : Tally) (l : List Opnd) → Fits n l → joinSets ks b s l ≡ Set r → Holds t b s → 0 < r → Of (Objects r) ≡ close ks (takeAll ks n t l)
+  sets-take : (n : ℕ) (b : 𝔹) (s r : ℕ) (t : Tally) (l : List Opnd) → TallyFits n l → joinSets ks b s l ≡ Set r → Holds t b s → 0 < r → Of (Objects r) ≡ close ks (takeAll ks n t l)
   unfolding takeAll joinSets
   sets-take n b s r t [] f e h lt = holds-close t b s r (cc) lt h
   sets-take n b s r t (o ∷ l) f e h lt = go (asSet (kind o)) refl e (λ d a x i j. sets-take n d a r x l (f .1) i j lt)
@@ -182,7 +182,7 @@ module _ (ks : List Kind) where
       go (Set u) p g ih = ih (b || isSet (kind o)) (bitOr s u) (take ks n t o) g (take-holds n b s u t o (f .0) p h)
       go Other p g ih = never g
 
-  pub sets-union : (n s : ℕ) (l : List Opnd) → Fits n l → joinSets ks false 0 l ≡ Set s → 0 < s → Of (Objects s) ≡ unionAll Empty (map kind (opndSet l))
+  pub sets-union : (n s : ℕ) (l : List Opnd) → TallyFits n l → joinSets ks false 0 l ≡ Set s → 0 < s → Of (Objects s) ≡ unionAll Empty (map kind (opndSet l))
   unfolding unionOver
   sets-union n s l f e lt =
       let a : least ks n l ≡ n = sets-least n false 0 s l e in

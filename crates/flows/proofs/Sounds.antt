@@ -7,17 +7,18 @@ use native.Mathlib.Omega.{arith}
 use borrow.Author.Tests.{ltb-true, ltb-false, leb-true, ne-eqb}
 use lib.Dec.{eqb, ltb, leb}
 use lib.ListN.{length, getD, List·getD-eq-default}
-use Rattle.sets.proofs.Bits.{Either, yes, no, either}
+use Rattle.ids.proofs.Bits.{Either, yes, no, either}
 use Rattle.kinds.specs.declared.Kind.{Kind}
 use Rattle.kinds.specs.declared.Kind.the-variants.{Empty}
 use Rattle.kinds.specs.Kinds.{tagOf, fitsOf, isAny}
 use Rattle.rules.specs.Lists.{has, all, toList}
 use Rattle.rules.specs.Values.{functionIn, classIn}
-use Rattle.rules.specs.Program.{Limits, Opnd, Const, Insn, Callee, Static, Dynamic, Terminator, Op, Ends, Send, Compute, Phi, Param, SelfParam, New, GetIvar, SetIvar, Program, Instruction, about, opOf, blockOf, functionOf}
+use Rattle.rules.specs.Program.{Limits, Opnd, Const, Insn, Callee, Static, Dynamic, Terminator, Op, Ends, Send, Compute, Phi, Param, SelfParam, New, GetIvar, SetIvar, Program, Instruction, about}
+use Rattle.rules.specs.Program.{opOf, blockOf, functionOf}
 use Rattle.rules.specs.Machine.{marked}
 use Rattle.rules.specs.Finished.{Finished, isFunction, isClass, goodConstant, goodOpnd, goodOp, goodInstruction}
 use Rattle.flows.specs.Tally.{FitsAt}
-use Rattle.flows.specs.Flows.{Sound}
+use Rattle.flows.specs.Flows.{FlowsSound}
 
 and-l : (a b : 𝔹) → (a && b) ≡ true → a ≡ true
 and-l true b h = refl
@@ -86,5 +87,5 @@ listed-fits L p r i k = go (either (ltb i (length (p .instructions))))
     go (no h) = beyond p (length (p .instructions)) i k (ltb-false i (length (p .instructions)) h)
 
 pub sound-of : (L : Limits) (p : Program) (t : List (List 𝔹)) → Finished L p → ((f i : ℕ) → marked t f i ≡ true → has (about (opOf p i) .callee) ≡ true)
-    → Sound p (length (p .instructions)) t
+    → FlowsSound p (length (p .instructions)) t
 sound-of L p t r c = record { calls = c; listed = listed-fits L p r }

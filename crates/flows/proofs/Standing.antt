@@ -16,8 +16,8 @@ use Rattle.program.specs.declared.Opnd.the-variants.{Const}
 use Rattle.program.specs.Rows.{opndOf, opndFrom, opndAt}
 use Rattle.program.proofs.Forms.{opnd-insn, opnd-const}
 use Rattle.state.specs.declared.Sizes.{Sizes}
-use Rattle.opnds.specs.Reads.{Inside, kindIn}
-use Rattle.opnds.proofs.Given.{inside-at, const-read, insn-read}
+use Rattle.machine.specs.opnds.Reads.{OperandInside, kindIn}
+use Rattle.machine.proofs.opnds.Given.{inside-at, const-read, insn-read}
 use Rattle.flows.specs.declared.Words.{Words}
 use Rattle.flows.specs.declared.AsSet.the-variants.{Set, Other}
 use Rattle.flows.specs.Flows.{Argues, standing, ArguesAt, asSet}
@@ -52,7 +52,7 @@ module _ (m : List ℕ) {at : ℕ} where
 -- ---- the kind of an operand in words
 
 module _ {t : ℕ} (x : ℕ) where
-  pub words-inside : (z : Sizes) → Inside z (opndFrom t x) → t ≡ 10 → x % 2 ^ 32 < z .insns
+  pub words-inside : (z : Sizes) → OperandInside z (opndFrom t x) → t ≡ 10 → x % 2 ^ 32 < z .insns
   words-inside z g e = inside-at z (record { 0 = x % 2 ^ 32 }) g (sym (opnd-insn x e))
 
   pub words-insn : (ks : List Kind) {k : Kind} → t ≡ 10 → k ≡ getD ks (x % 2 ^ 32) Empty → k ≡ kindIn ks (opndOf (opndFrom t x))

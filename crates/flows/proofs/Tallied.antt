@@ -6,7 +6,7 @@ use Prim.Native.Nat.{ℕ, _≤_, _<_}
 use borrow.Author.Tests.{lt-ltb, le-ltb}
 use lib.Dec.{ltb}
 use lib.ListN.{getD}
-use Rattle.sets.specs.declared.InsnId.{InsnId}
+use Rattle.ids.specs.declared.InsnId.{InsnId}
 use Rattle.kinds.specs.declared.Kind.{Kind}
 use Rattle.kinds.specs.declared.Kind.the-variants.{Empty, Any}
 use Rattle.kinds.specs.declared.Joined.{Joined}
@@ -18,23 +18,17 @@ use Rattle.rules.specs.Program.{sameOpnd}
 use Rattle.program.specs.declared.Opnd.{Opnd}
 use Rattle.program.specs.declared.Opnd.the-variants.{Const, Insn}
 use Rattle.program.specs.Rows.{opndOf}
-use Rattle.opnds.specs.Reads.{kindIn}
+use Rattle.machine.specs.opnds.Reads.{kindIn}
 use Rattle.flows.specs.declared.Tally.{Tally as Told}
 use Rattle.flows.specs.declared.Tally.the-variants.{Nothing as None, One as Single, Many as Several}
 use Rattle.flows.specs.declared.Pass.{Pass}
 use Rattle.flows.specs.Tally.{Tally, Nothing, One, Many, lower, least, before, solid, add, take, takeAll, close, finish}
-use Rattle.flows.specs.Flows.{tallyOf, Adds, Passed}
-
-pub before-const : (a : ℕ) {o : Opnd} (k : Kind) → o ≡ Const k → true ≡ before [] a (opndOf o)
-before-const a k e = rw e
+use Rattle.flows.specs.Flows.{tallyOf, TallyAdds, Passed}
 
 pub before-insn : (a : ℕ) {o : Opnd} (i : InsnId) → o ≡ Insn i → ltb (i .0) a ≡ before [] a (opndOf o)
 before-insn a i e = rw e
 
 module _ (ks : List Kind) (a : ℕ) {o : Opnd} where
-  pub lower-const : (k : Kind) → o ≡ Const k → a ≡ lower ks a (opndOf o)
-  lower-const k e = rw e
-
   pub lower-yes : (i : InsnId) {k : Kind} {t : 𝔹} → o ≡ Insn i → k ≡ getD ks (i .0) Empty → t ≡ isAny k → t ≡ true → i .0 < a → i .0 ≡ lower ks a (opndOf o)
   lower-yes i e h g y lt = let z : isAny (getD ks (i .0) Empty) ≡ true = ap isAny (sym h) ∙ sym g ∙ y in rw (e, z, lt-ltb (i .0) a lt)
 
@@ -45,17 +39,17 @@ module _ (ks : List Kind) (a : ℕ) {o : Opnd} where
   lower-not i e h g y = let z : isAny (getD ks (i .0) Empty) ≡ false = ap isAny (sym h) ∙ sym g ∙ y in rw (e, z)
 
 module _ {t : Told} (k : Kind) (o : Opnd) where
-  pub add-first : t ≡ None → Adds t k o (Single o k)
+  pub add-first : t ≡ None → TallyAdds t k o (Single o k)
   add-first e = record { is = λ ks h. rw e (ap (One (opndOf o)) h) }
 
-  pub add-same : {w : Opnd} {j : Kind} {b : 𝔹} → t ≡ Single w j → b ≡ sameOpnd (opndOf o) (opndOf w) → b ≡ true → Adds t k o (Single w j)
+  pub add-same : {w : Opnd} {j : Kind} {b : 𝔹} → t ≡ Single w j → b ≡ sameOpnd (opndOf o) (opndOf w) → b ≡ true → TallyAdds t k o (Single w j)
   add-same e h g = record { is = λ ks x. rw (e, sym h ∙ g) }
 
   pub add-other : {w : Opnd} {j : Kind} {b : 𝔹} {r : Joined} → t ≡ Single w j → b ≡ sameOpnd (opndOf o) (opndOf w) → b ≡ false → r ≡ unionOf j k
-      → Adds t k o (Several r)
+      → TallyAdds t k o (Several r)
   add-other {w} {j} e h g u = record { is = λ ks x. rw (e, sym h ∙ g) (ap Many (u ∙ ap (unionOf j) x)) }
 
-  pub add-more : {j r : Joined} → t ≡ Several j → r ≡ joinOf j k → Adds t k o (Several r)
+  pub add-more : {j r : Joined} → t ≡ Several j → r ≡ joinOf j k → TallyAdds t k o (Several r)
   add-more {j} e u = record { is = λ ks x. rw e (ap Many (u ∙ ap (joinOf j) x)) }
 
 -- ---- take
@@ -86,7 +80,7 @@ module _ (ks : List Kind) (a : ℕ) (t : Told) (o : Opnd) {b : 𝔹} (eb : b ≡
         go true = rw (ap isEmpty (sym ek) ∙ sym ex ∙ h, ap isAny (sym ek) ∙ sym ey ∙ g)
         go false = refl
 
-    pub take-it : {r : Told} {y : 𝔹} → y ≡ isAny k → b ≡ true → x ≡ false → y ≡ false → Adds t k o r
+    pub take-it : {r : Told} {y : 𝔹} → y ≡ isAny k → b ≡ true → x ≡ false → y ≡ false → TallyAdds t k o r
         → tallyOf r ≡ take ks a (tallyOf t) (opndOf o)
     unfolding take
     take-it ey hb h g f = rw (before-any ks a (opndOf o) ∙ sym eb ∙ hb, ap isEmpty (sym ek) ∙ sym ex ∙ h, ap isAny (sym ek) ∙ sym ey ∙ g) (f .is ks ek)
@@ -128,9 +122,6 @@ close-none e = rw e
 
 pub close-one : {t : Told} {o : Opnd} {k : Kind} → t ≡ Single o k → Of k ≡ close [] (tallyOf t)
 close-one e = rw e
-
-pub close-many : {t : Told} {j : Joined} → t ≡ Several j → j ≡ close [] (tallyOf t)
-close-many e = rw e
 
 pub finish-any : (n a : ℕ) (t : Told) {j r : Joined} → j ≡ close [] (tallyOf t) → a < n → r ≡ joinOf j Any → r ≡ finish [] n a (tallyOf t)
 finish-any n a t e lt h = rw (lt-ltb a n lt, h, e)

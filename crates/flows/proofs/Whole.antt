@@ -6,7 +6,7 @@ use Prim.Native.Nat.{ℕ, _<_, _≤_}
 use native.Mathlib.Omega.{arith}
 use borrow.Author.Tests.{lt-ltb, le-ltb, ltb-true, ltb-false}
 use lib.Dec.{ltb}
-use Rattle.sets.proofs.Bits.{Either, yes, no, either}
+use Rattle.ids.proofs.Bits.{Either, yes, no, either}
 use Rattle.kinds.specs.declared.Kind.{Kind}
 use Rattle.kinds.specs.declared.Kind.the-variants.{Empty, Any}
 use Rattle.kinds.specs.declared.Joined.{Joined}
@@ -17,28 +17,24 @@ use Rattle.kinds.proofs.Laws.{union-any-r, union-empty-l, union-empty-r, all-co
 use Rattle.kinds.proofs.Steps.{any-is, empty-is}
 use Rattle.rules.specs.Program.{Opnd, Const, Insn, sameOpnd, opndBefore}
 use Rattle.rules.specs.Machine.{insertOpnd, opndSet}
-use Rattle.opnds.specs.Reads.{kindIn}
-use Rattle.flows.specs.Tally.{Tally, Nothing, One, Many, lower, least, before, solid, add, take, takeAll, close, finish, unionOver, Fits}
+use Rattle.machine.specs.opnds.Reads.{kindIn}
+use Rattle.flows.specs.Tally.{Tally, Nothing, One, Many, lower, least, before, solid, add, take, takeAll, close, finish, unionOver, TallyFits}
 use Rattle.flows.proofs.Order.{After, Rises, before-other, set-rises}
 use Rattle.flows.proofs.Passes.{least-set, take-set}
-
-then-then : (j : Joined) (f g : Kind → Joined) → andThen (andThen j f) g ≡ andThen j (λ u. andThen (f u) g)
-then-then (Of u) f g = refl
-then-then (Refused n) f g = refl
 
 -- ---- operands in range
 
 module _ (n : ℕ) where
-  insert-fits : (v : Opnd) (l : List Opnd) → Fits n (v ∷ l) → Fits n (insertOpnd v l)
+  insert-fits : (v : Opnd) (l : List Opnd) → TallyFits n (v ∷ l) → TallyFits n (insertOpnd v l)
   insert-fits v [] f = f
   insert-fits v (w ∷ l) f = go (sameOpnd v w) (opndBefore v w) (insert-fits v l (f .0, f .1 .1))
     where
-      go : (x y : 𝔹) → Fits n (insertOpnd v l) → Fits n (elim x [ true ↦ w ∷ l | false ↦ elim y [ true ↦ v ∷ w ∷ l | false ↦ w ∷ insertOpnd v l ] ])
+      go : (x y : 𝔹) → TallyFits n (insertOpnd v l) → TallyFits n (elim x [ true ↦ w ∷ l | false ↦ elim y [ true ↦ v ∷ w ∷ l | false ↦ w ∷ insertOpnd v l ] ])
       go true y ih = f .1
       go false true ih = f
       go false false ih = (f .1 .0, ih)
 
-  set-fits : (l : List Opnd) → Fits n l → Fits n (opndSet l)
+  set-fits : (l : List Opnd) → TallyFits n l → TallyFits n (opndSet l)
   set-fits [] f = tt
   set-fits (v ∷ l) f = insert-fits v (opndSet l) (f .0, set-fits l (f .1))
 
@@ -155,18 +151,18 @@ module _ (ks : List Kind) where
     lower-none (Const k) h = refl
     lower-none (Insn j) h = rw h
 
-    before-least : (o : Opnd) (l : List Opnd) → Fits n (o ∷ l) → After o l → before ks (least ks n l) o ≡ true
+    before-least : (o : Opnd) (l : List Opnd) → TallyFits n (o ∷ l) → After o l → before ks (least ks n l) o ≡ true
     before-least (Const k) l f g = refl
     before-least (Insn i) l f g = lt-ltb i (least ks n l) (least-high i n l g (f .0))
 
-    both-any : (t : Tally) (o : Opnd) (l : List Opnd) → Fits n (o ∷ l) → After o l → isAny (kind o) ≡ true → both t (o ∷ l) ≡ joinOf (close ks t) Any
+    both-any : (t : Tally) (o : Opnd) (l : List Opnd) → TallyFits n (o ∷ l) → After o l → isAny (kind o) ≡ true → both t (o ∷ l) ≡ joinOf (close ks t) Any
     unfolding least takeAll
     both-any t (Const k) l f g h = let z = f .0 in cc
     both-any t (Insn i) l f g h =
         let e : lower ks n (Insn i) ≡ i = rw (h, lt-ltb i n (f .0)) in
         rw (e, least-same i l g, take-past i t (Insn i) (le-ltb i i (omega arith)), takeAll-past i t l g, lt-ltb i n (f .0))
 
-    both-is : (l : List Opnd) (t : Tally) → Rises l → Fits n l → Past t l → both t l ≡ rest t l
+    both-is : (l : List Opnd) (t : Tally) → Rises l → TallyFits n l → Past t l → both t l ≡ rest t l
     unfolding least takeAll unionAll
     both-is [] t r f p = rw (le-ltb n n (omega arith)) (sym (go (close ks t)))
       where
@@ -185,7 +181,7 @@ module _ (ks : List Kind) where
             ∙ ih (add ks t o) (past-add t o l p (r .0)) ∙ sym (rest-add t o l p)
 
     -- the passes over operands as they come
-    pub union-over : (l : List Opnd) → Fits n l → unionOver ks n l ≡ unionAll Empty (map kind (opndSet l))
+    pub union-over : (l : List Opnd) → TallyFits n l → unionOver ks n l ≡ unionAll Empty (map kind (opndSet l))
     unfolding unionOver
     union-over l f =
         ap (λ (a : ℕ). finish ks n a (takeAll ks a Nothing l)) (sym (least-set ks n l))

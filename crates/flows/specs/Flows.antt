@@ -18,7 +18,7 @@ use Rattle.program.specs.declared.Opnd.{Opnd}
 use Rattle.program.specs.declared.Opnd.the-variants.{Const}
 use Rattle.program.specs.declared.Counts.{Counts}
 use Rattle.program.specs.Rows.{opndOf, opndFrom, opndAt}
-use Rattle.program.specs.View.{view, Ready}
+use Rattle.program.specs.View.{programView, ProgramReady}
 use Rattle.state.specs.declared.Sizes.{Sizes}
 use Rattle.state.specs.View.{Attrs, kindsOf, calledOf}
 use Rattle.state.specs.Changes.{marksFrom}
@@ -28,7 +28,7 @@ use Rattle.flows.specs.declared.Pass.{Pass}
 use Rattle.flows.specs.declared.Words.{Words}
 use Rattle.flows.specs.declared.AsSet.{AsSet}
 use Rattle.flows.specs.declared.AsSet.the-variants.{Set, Other}
-use Rattle.opnds.specs.Reads.{kindIn}
+use Rattle.machine.specs.opnds.Reads.{kindIn}
 use Rattle.flows.specs.Tally.{Tally, Nothing, One, Many, add, least, takeAll, FitsAt}
 
 abbrev pub tallyOf : Told → Tally
@@ -37,7 +37,7 @@ tallyOf (Single o k) = One (opndOf o) k
 tallyOf (Several j) = Many j
 
 -- r is t with one operand more, whose kind is k
-pub record Adds (t : Told) (k : Kind) (o : Opnd) (r : Told) : Type 0 where
+pub record TallyAdds (t : Told) (k : Kind) (o : Opnd) (r : Told) : Type 0 where
   pub is : (ks : List Kind) → k ≡ kindIn ks (opndOf o) → tallyOf r ≡ add ks (tallyOf t) (opndOf o)
 
 -- a pass over a list of operands leads from x to y
@@ -48,7 +48,7 @@ pub record Passed (ks : List Kind) (l : List P.Opnd) (x y : Pass) : Type 0 where
 
 -- r is the argument that i has for place n, if i is a call
 pub record Argues (m : List ℕ) (c : Counts) (i n : ℕ) (r : Opnd) : Type 0 where
-  pub is : (L : Limits) (s : List ℕ) → has (about (opOf (view s m c) i) .callee) ≡ true → opndOf r ≡ argumentOf L (view s m c) n i
+  pub is : (L : Limits) (s : List ℕ) → has (about (opOf (programView s m c) i) .callee) ≡ true → opndOf r ≡ argumentOf L (programView s m c) n i
 
 -- the operand that stands at a word, Empty for 0
 unfoldable pub standing : List ℕ → ℕ → Opnd
@@ -67,20 +67,20 @@ abbrev pub operandOf : Words → Opnd
 operandOf x = opndFrom (x .tag) (x .bits)
 
 -- the callers are calls, and no argument is Any or a result beyond the program's
-pub record Sound (p : Program) (n : ℕ) (t : List (List 𝔹)) : Type 0 where
+pub record FlowsSound (p : Program) (n : ℕ) (t : List (List 𝔹)) : Type 0 where
   pub calls : (f i : ℕ) → marked t f i ≡ true → has (about (opOf p i) .callee) ≡ true
   pub listed : (i k : ℕ) → FitsAt n (getD (about (opOf p i) .listed) k (P.Const Empty))
 
-pub record Known (m : List ℕ) (c : Counts) (z : Sizes) (t : List (List 𝔹)) : Type 0 where
+pub record FlowsKnown (m : List ℕ) (c : Counts) (z : Sizes) (t : List (List 𝔹)) : Type 0 where
   pub script : List ℕ
-  pub ready : Ready m c
+  pub ready : ProgramReady m c
   pub sizes : z .insns ≡ c .insns
-  pub sound : Sound (view script m c) (z .insns) t
+  pub sound : FlowsSound (programView script m c) (z .insns) t
 
 -- the arguments for place n of the callers of f that are not below k
 pub record PassedIn (m : List ℕ) (c : Counts) (z : Sizes) (w : List ℕ) (f n k : ℕ) (x y : Pass) : Type 0 where
-  pub passed : (L : Limits) (s : List ℕ) → Sound (view s m c) (z .insns) (calledOf z w)
-      → Passed (kindsOf z w) (map (argumentOf L (view s m c) n) (marksFrom (calledOf z w) f k)) x y
+  pub passed : (L : Limits) (s : List ℕ) → FlowsSound (programView s m c) (z .insns) (calledOf z w)
+      → Passed (kindsOf z w) (map (argumentOf L (programView s m c) n) (marksFrom (calledOf z w) f k)) x y
 
 -- a kind as the set of its classes, unless it is a name or Any
 abbrev pub asSet : Kind → AsSet
@@ -93,13 +93,13 @@ joinSets ks b s (o ∷ l) = elim (asSet (kindIn ks o)) [ Set t ↦ joinSets ks (
 
 -- of the arguments for place n of the callers of f that are not below k
 pub record SetsFrom (m : List ℕ) (c : Counts) (z : Sizes) (w : List ℕ) (f n k : ℕ) (b : 𝔹) (s : ℕ) (r : AsSet) : Type 0 where
-  pub passed : (L : Limits) (u : List ℕ) → Sound (view u m c) (z .insns) (calledOf z w)
-      → r ≡ joinSets (kindsOf z w) b s (map (argumentOf L (view u m c) n) (marksFrom (calledOf z w) f k))
+  pub passed : (L : Limits) (u : List ℕ) → FlowsSound (programView u m c) (z .insns) (calledOf z w)
+      → r ≡ joinSets (kindsOf z w) b s (map (argumentOf L (programView u m c) n) (marksFrom (calledOf z w) f k))
 
 -- instruction i is the Param with place n of function f
 pub record ParamIs (m : List ℕ) (c : Counts) (z : Sizes) (t : List (List 𝔹)) (i f n : ℕ) (p : Program) (v : Attrs) : Type 0 where
   pub script : List ℕ
-  pub program : p ≡ view script m c
-  pub sound : Sound (view script m c) (z .insns) t
-  pub function : functionOf (view script m c) i ≡ f
-  pub op : opOf (view script m c) i ≡ Param n
+  pub program : p ≡ programView script m c
+  pub sound : FlowsSound (programView script m c) (z .insns) t
+  pub function : functionOf (programView script m c) i ≡ f
+  pub op : opOf (programView script m c) i ≡ Param n

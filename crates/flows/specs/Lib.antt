@@ -1,2 +1,3 @@
+pub mod returning
 pub mod Tally
 pub mod Flows

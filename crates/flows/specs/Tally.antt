@@ -11,7 +11,7 @@ use Rattle.kinds.specs.declared.Joined.the-variants.{Of}
 use Rattle.kinds.specs.Kinds.{isEmpty, isAny}
 use Rattle.kinds.specs.Union.{unionOf, joinOf}
 use Rattle.rules.specs.Program.{Opnd, Const, Insn, sameOpnd}
-use Rattle.opnds.specs.Reads.{kindIn}
+use Rattle.machine.specs.opnds.Reads.{kindIn}
 
 -- what was met so far: no operand, one operand and its kind, or the union of several
 pub data Tally : Type 0 where
@@ -66,6 +66,6 @@ abbrev pub FitsAt : ℕ → Opnd → Type 0
 FitsAt n (Const k) = isAny k ≡ false
 FitsAt n (Insn j) = j < n
 
-abbrev pub Fits : ℕ → List Opnd → Type 0
-Fits n [] = Unit {0}
-Fits n (o ∷ l) = FitsAt n o × Fits n l
+abbrev pub TallyFits : ℕ → List Opnd → Type 0
+TallyFits n [] = Unit {0}
+TallyFits n (o ∷ l) = FitsAt n o × TallyFits n l

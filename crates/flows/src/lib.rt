@@ -1,10 +1,12 @@
 // The union of a set of operands in the reference's order, by one or two passes over the operands as they come; and what has flowed to a Param.
+pub mod returning;
+
+use ids::FunId;
+use ids::InsnId;
 use kinds::Joined;
 use kinds::Kind;
 use program::Counts;
 use program::Opnd;
-use sets::FunId;
-use sets::InsnId;
 use state::NextInsn;
 use state::Sizes;
 ghost use mathlib.Core.Bool.{true, false};
@@ -15,11 +17,11 @@ ghost use lib.ListN.{length, getD};
 ghost use Rattle.rules.specs.Program.{Param};
 ghost use Rattle.rules.specs.Machine.{rule};
 ghost use Rattle.program.specs.Rows.{opndOf};
-ghost use Rattle.program.specs.View.{Ready};
-ghost use Rattle.state.specs.View.{kindsOf, calledOf, Held};
-ghost use Rattle.opnds.specs.Reads.{Inside, kindIn, Reads};
+ghost use Rattle.program.specs.View.{ProgramReady};
+ghost use Rattle.state.specs.View.{kindsOf, calledOf, StateHeld};
+ghost use Rattle.machine.specs.opnds.Reads.{OperandInside, kindIn, StateReads};
 ghost use Rattle.flows.specs.Tally.{lower, before, take as taken, close, finish};
-ghost use Rattle.flows.specs.Flows.{tallyOf, Adds, Passed, Argues, standing, ArguesAt, wordsOf, operandOf, Known, PassedIn, asSet, SetsFrom, ParamIs};
+ghost use Rattle.flows.specs.Flows.{tallyOf, TallyAdds, Passed, Argues, standing, ArguesAt, wordsOf, operandOf, FlowsKnown, PassedIn, asSet, SetsFrom, ParamIs};
 
 // What was met so far: no operand, one operand and its kind, or the union of several.
 pub enum Tally {
@@ -56,15 +58,15 @@ fn before(a: usize, o: Opnd) -> bool
     }
 }
 
-fn lower(m: &[usize], z: Sizes, a: usize, o: Opnd) -> usize
-    requires { ⌜ Held z (now m) ⌝ }
-    requires { ⌜ Inside z o ⌝ }
-    ensures { λ r. ⌜ r ≡ lower (kindsOf z (now (m .entry))) a (opndOf o) ⌝ }
+fn lower(state: &[usize], sizes: Sizes, a: usize, o: Opnd) -> usize
+    requires { ⌜ StateHeld sizes (now state) ⌝ }
+    requires { ⌜ OperandInside sizes o ⌝ }
+    ensures { λ r. ⌜ r ≡ lower (kindsOf sizes (now (state .entry))) a (opndOf o) ⌝ }
 {
     match o {
         Opnd::Const(_) => a,
         Opnd::Insn(i) => {
-            let k = state::kind_at(m, z, i);
+            let k = state::kind_at(state, sizes, i);
             let j = i.0 as usize;
             if k.is_any() {
                 if j < a {
@@ -77,7 +79,7 @@ fn lower(m: &[usize], z: Sizes, a: usize, o: Opnd) -> usize
 }
 
 fn add(t: Tally, k: Kind, o: Opnd) -> Tally
-    ensures { λ r. ⌜ Adds t k o r ⌝ }
+    ensures { λ r. ⌜ TallyAdds t k o r ⌝ }
 {
     match t {
         Tally::Nothing => Tally::One(o, k),
@@ -91,13 +93,13 @@ fn add(t: Tally, k: Kind, o: Opnd) -> Tally
     }
 }
 
-fn take(m: &[usize], z: Sizes, a: usize, t: Tally, o: Opnd) -> Tally
-    requires { ⌜ Held z (now m) ⌝ }
-    requires { ⌜ Inside z o ⌝ }
-    ensures { λ r. ⌜ tallyOf r ≡ taken (kindsOf z (now (m .entry))) a (tallyOf t) (opndOf o) ⌝ }
+fn take(state: &[usize], sizes: Sizes, a: usize, t: Tally, o: Opnd) -> Tally
+    requires { ⌜ StateHeld sizes (now state) ⌝ }
+    requires { ⌜ OperandInside sizes o ⌝ }
+    ensures { λ r. ⌜ tallyOf r ≡ taken (kindsOf sizes (now (state .entry))) a (tallyOf t) (opndOf o) ⌝ }
 {
     if before(a, o) {
-        let k = opnds::kind_of(m, z, o);
+        let k = machine::opnds::kind_of(state, sizes, o);
         if k.is_empty() {
             return t;
         }
@@ -110,31 +112,31 @@ fn take(m: &[usize], z: Sizes, a: usize, t: Tally, o: Opnd) -> Tally
 }
 
 // One operand in a pass.
-pub fn pass_one(m: &[usize], z: Sizes, x: Pass, o: Opnd) -> Pass
-    requires { ⌜ Held z (now m) ⌝ }
-    requires { ⌜ Inside z o ⌝ }
-    ensures { λ r. ⌜ Passed (kindsOf z (now (m .entry))) (opndOf o ∷ []) x r ⌝ }
+pub fn pass_one(state: &[usize], sizes: Sizes, x: Pass, o: Opnd) -> Pass
+    requires { ⌜ StateHeld sizes (now state) ⌝ }
+    requires { ⌜ OperandInside sizes o ⌝ }
+    ensures { λ r. ⌜ Passed (kindsOf sizes (now (state .entry))) (opndOf o ∷ []) x r ⌝ }
 {
     let t = x.tally;
     let b = x.bound;
     let a = x.least;
     Pass {
         bound: b,
-        least: lower(m, z, a, o),
-        tally: take(m, z, b, t, o),
+        least: lower(state, sizes, a, o),
+        tally: take(state, sizes, b, t, o),
     }
 }
 
 // Where the argument that call i has for place n stands among the operands; 0 where it has none.
-pub fn argument_at(p: &[usize], c: Counts, i: InsnId, n: usize) -> usize
-    requires { ⌜ Ready (now p) c ⌝ }
-    requires { ⌜ i .0 < c .insns ⌝ }
-    ensures { λ r. ⌜ ArguesAt (now (p .entry)) c (i .0) n r ⌝ }
+pub fn argument_at(program: &[usize], counts: Counts, i: InsnId, n: usize) -> usize
+    requires { ⌜ ProgramReady (now program) counts ⌝ }
+    requires { ⌜ i .0 < counts .insns ⌝ }
+    ensures { λ r. ⌜ ArguesAt (now (program .entry)) counts (i .0) n r ⌝ }
 {
     let at = program::INSNS + 6 * (i.0 as usize);
-    let skip = (p[at] == 4) as usize;
-    let first = p[at + 4];
-    let count = p[at + 5];
+    let skip = (program[at] == 4) as usize;
+    let first = program[at + 4];
+    let count = program[at + 5];
     if n < count {
         let j = skip + n;
         if j < count {
@@ -145,66 +147,66 @@ pub fn argument_at(p: &[usize], c: Counts, i: InsnId, n: usize) -> usize
 }
 
 // The argument that call i has for place n; Empty where it has none.
-pub fn argument(p: &[usize], c: Counts, i: InsnId, n: usize) -> Opnd
-    requires { ⌜ Ready (now p) c ⌝ }
-    requires { ⌜ i .0 < c .insns ⌝ }
-    ensures { λ r. ⌜ Argues (now (p .entry)) c (i .0) n r ⌝ }
+pub fn argument(program: &[usize], counts: Counts, i: InsnId, n: usize) -> Opnd
+    requires { ⌜ ProgramReady (now program) counts ⌝ }
+    requires { ⌜ i .0 < counts .insns ⌝ }
+    ensures { λ r. ⌜ Argues (now (program .entry)) counts (i .0) n r ⌝ }
 {
-    let at = argument_at(p, c, i, n);
+    let at = argument_at(program, counts, i, n);
     if at == 0 {
         return Opnd::Const(Kind::Empty);
     }
-    program::read_opnd(p, at)
+    program::read_opnd(program, at)
 }
 
 // The kind of instruction i, in words: they are read faster than the kind is made.
-pub fn insn_words(m: &[usize], z: Sizes, i: InsnId) -> Words
-    requires { ⌜ Held z (now m) ⌝ }
-    requires { ⌜ i .0 < z .insns ⌝ }
-    ensures { λ r. ⌜ wordsOf r ≡ getD (kindsOf z (now (m .entry))) (i .0) Kind.Empty ⌝ }
+pub fn insn_words(state: &[usize], sizes: Sizes, i: InsnId) -> Words
+    requires { ⌜ StateHeld sizes (now state) ⌝ }
+    requires { ⌜ i .0 < sizes .insns ⌝ }
+    ensures { λ r. ⌜ wordsOf r ≡ getD (kindsOf sizes (now (state .entry))) (i .0) Kind.Empty ⌝ }
 {
     let at = i.0 as usize;
     Words {
-        tag: m[at],
-        bits: m[state::BITS + at],
+        tag: state[at],
+        bits: state[state::BITS + at],
     }
 }
 
 // The operand that stands at a word, in words; Empty for 0.
-fn standing_words(p: &[usize], at: usize) -> Words
-    requires { ⌜ at + 1 < length (now p) ⌝ }
-    ensures { λ r. ⌜ operandOf r ≡ standing (now (p .entry)) at ⌝ }
+fn standing_words(program: &[usize], at: usize) -> Words
+    requires { ⌜ at + 1 < length (now program) ⌝ }
+    ensures { λ r. ⌜ operandOf r ≡ standing (now (program .entry)) at ⌝ }
 {
     if at == 0 {
         return Words { tag: 0, bits: 0 };
     }
     Words {
-        tag: p[at],
-        bits: p[at + 1],
+        tag: program[at],
+        bits: program[at + 1],
     }
 }
 
 // The kind of an operand, both in words.
-fn words_of(m: &[usize], z: Sizes, o: Words) -> Words
-    requires { ⌜ Held z (now m) ⌝ }
-    requires { ⌜ Inside z (operandOf o) ⌝ }
-    ensures { λ r. ⌜ wordsOf r ≡ kindIn (kindsOf z (now (m .entry))) (opndOf (operandOf o)) ⌝ }
+fn words_of(state: &[usize], sizes: Sizes, o: Words) -> Words
+    requires { ⌜ StateHeld sizes (now state) ⌝ }
+    requires { ⌜ OperandInside sizes (operandOf o) ⌝ }
+    ensures { λ r. ⌜ wordsOf r ≡ kindIn (kindsOf sizes (now (state .entry))) (opndOf (operandOf o)) ⌝ }
 {
     if o.tag == 10 {
-        return insn_words(m, z, InsnId((o.bits % 4294967296) as u32));
+        return insn_words(state, sizes, InsnId((o.bits % 4294967296) as u32));
     }
     o
 }
 
 // The kind of the operand that stands at a word, in words.
-pub fn opnd_words(p: &[usize], m: &[usize], z: Sizes, at: usize) -> Words
-    requires { ⌜ at + 1 < length (now p) ⌝ }
-    requires { ⌜ Held z (now m) ⌝ }
-    requires { ⌜ Inside z (standing (now p) at) ⌝ }
-    ensures { λ r. ⌜ wordsOf r ≡ kindIn (kindsOf z (now (m .entry))) (opndOf (standing (now (p .entry)) at)) ⌝ }
+pub fn opnd_words(program: &[usize], state: &[usize], sizes: Sizes, at: usize) -> Words
+    requires { ⌜ at + 1 < length (now program) ⌝ }
+    requires { ⌜ StateHeld sizes (now state) ⌝ }
+    requires { ⌜ OperandInside sizes (standing (now program) at) ⌝ }
+    ensures { λ r. ⌜ wordsOf r ≡ kindIn (kindsOf sizes (now (state .entry))) (opndOf (standing (now (program .entry)) at)) ⌝ }
 {
-    let o = standing_words(p, at);
-    words_of(m, z, o)
+    let o = standing_words(program, at);
+    words_of(state, sizes, o)
 }
 
 fn same_words(a: Words, b: Words) -> bool
@@ -215,26 +217,26 @@ fn same_words(a: Words, b: Words) -> bool
 
 // The arguments for place n of the callers of f, in a pass.
 fn pass_callers(
-    p: &[usize],
-    c: Counts,
-    m: &[usize],
-    z: Sizes,
+    program: &[usize],
+    counts: Counts,
+    state: &[usize],
+    sizes: Sizes,
     f: FunId,
     n: usize,
     start: Pass,
 ) -> Pass
-    requires { ⌜ Held z (now m) ⌝ }
-    requires { ⌜ Known (now p) c z (calledOf z (now m)) ⌝ }
-    requires { ⌜ f .0 < z .functions ⌝ }
-    ensures { λ r. ⌜ PassedIn (now (p .entry)) c z (now (m .entry)) (f .0) n 0 start r ⌝ }
+    requires { ⌜ StateHeld sizes (now state) ⌝ }
+    requires { ⌜ FlowsKnown (now program) counts sizes (calledOf sizes (now state)) ⌝ }
+    requires { ⌜ f .0 < sizes .functions ⌝ }
+    ensures { λ r. ⌜ PassedIn (now (program .entry)) counts sizes (now (state .entry)) (f .0) n 0 start r ⌝ }
 {
     let mut x = start;
     let mut from = InsnId(0);
     loop {
-        match state::next_caller(m, z, f, from) {
+        match state::next_caller(state, sizes, f, from) {
             NextInsn::Place(i) => {
-                let o = argument(p, c, i, n);
-                x = pass_one(m, z, x, o);
+                let o = argument(program, counts, i, n);
+                x = pass_one(state, sizes, x, o);
                 from = InsnId(i.0 + 1);
             }
             NextInsn::Done => {
@@ -277,25 +279,32 @@ pub fn as_set(k: Words) -> AsSet
 
 // The union of the kinds of the arguments for place n of the callers of f, if none is a name or Any and one is a set; 0 where none is a set. An operand
 // that came just before adds nothing.
-fn join_sets(p: &[usize], c: Counts, m: &[usize], z: Sizes, f: FunId, n: usize) -> AsSet
-    requires { ⌜ Held z (now m) ⌝ }
-    requires { ⌜ Known (now p) c z (calledOf z (now m)) ⌝ }
-    requires { ⌜ f .0 < z .functions ⌝ }
-    ensures { λ r. ⌜ SetsFrom (now (p .entry)) c z (now (m .entry)) (f .0) n 0 false 0 r ⌝ }
+fn join_sets(
+    program: &[usize],
+    counts: Counts,
+    state: &[usize],
+    sizes: Sizes,
+    f: FunId,
+    n: usize,
+) -> AsSet
+    requires { ⌜ StateHeld sizes (now state) ⌝ }
+    requires { ⌜ FlowsKnown (now program) counts sizes (calledOf sizes (now state)) ⌝ }
+    requires { ⌜ f .0 < sizes .functions ⌝ }
+    ensures { λ r. ⌜ SetsFrom (now (program .entry)) counts sizes (now (state .entry)) (f .0) n 0 false 0 r ⌝ }
 {
     let mut met = false;
     let mut s = 0;
     let mut last = Words { tag: 0, bits: 0 };
     let mut k = 0;
-    while k * 64 < z.insns {
-        let mut left = state::caller_word(m, z, f, k);
+    while k * 64 < sizes.insns {
+        let mut left = state::caller_word(state, sizes, f, k);
         while left != 0 {
-            let b = tables::lowest_bit(left);
+            let b = memory::tables::lowest_bit(left);
             let i = InsnId((k * 64 + b.place) as u32);
-            let at = argument_at(p, c, i, n);
-            let o = standing_words(p, at);
+            let at = argument_at(program, counts, i, n);
+            let o = standing_words(program, at);
             if !same_words(o, last) {
-                let x = words_of(m, z, o);
+                let x = words_of(state, sizes, o);
                 match as_set(x) {
                     AsSet::Set(t) => {
                         met = met | (x.tag == 8);
@@ -338,35 +347,42 @@ pub fn finish_pass(n: usize, a: usize, t: Tally) -> Joined
 }
 
 // The kind of a Param of function f with place n, whatever the kinds.
-fn param_by_passes(p: &[usize], c: Counts, m: &[usize], z: Sizes, f: FunId, n: usize) -> Joined
-    requires { ⌜ Held z (now m) ⌝ }
-    requires { ⌜ Known (now p) c z (calledOf z (now m)) ⌝ }
-    requires { ⌜ f .0 < z .functions ⌝ }
-    ensures { λ r. ⌜ ((i : ℕ) → Reads z (ParamIs (now (p .entry)) c z (calledOf z (now (m .entry))) i (f .0) n) (λ L p. rule L p i (Param n)) (now (m .entry)) r) ⌝ }
+fn param_by_passes(
+    program: &[usize],
+    counts: Counts,
+    state: &[usize],
+    sizes: Sizes,
+    f: FunId,
+    n: usize,
+) -> Joined
+    requires { ⌜ StateHeld sizes (now state) ⌝ }
+    requires { ⌜ FlowsKnown (now program) counts sizes (calledOf sizes (now state)) ⌝ }
+    requires { ⌜ f .0 < sizes .functions ⌝ }
+    ensures { λ r. ⌜ ((i : ℕ) → StateReads sizes (ParamIs (now (program .entry)) counts sizes (calledOf sizes (now (state .entry))) i (f .0) n) (λ L program. rule L program i (Param n)) (now (state .entry)) r) ⌝ }
 {
     let first = pass_callers(
-        p,
-        c,
-        m,
-        z,
+        program,
+        counts,
+        state,
+        sizes,
         f,
         n,
         Pass {
-            bound: z.insns,
-            least: z.insns,
+            bound: sizes.insns,
+            least: sizes.insns,
             tally: Tally::Nothing,
         },
     );
     let a = first.least;
-    if a == z.insns {
+    if a == sizes.insns {
         let all = first.tally;
-        return finish_pass(z.insns, a, all);
+        return finish_pass(sizes.insns, a, all);
     }
     let both = pass_callers(
-        p,
-        c,
-        m,
-        z,
+        program,
+        counts,
+        state,
+        sizes,
         f,
         n,
         Pass {
@@ -376,23 +392,30 @@ fn param_by_passes(p: &[usize], c: Counts, m: &[usize], z: Sizes, f: FunId, n: u
         },
     );
     let t = both.tally;
-    finish_pass(z.insns, a, t)
+    finish_pass(sizes.insns, a, t)
 }
 
 // The same; classes are joined at once, since their order means nothing.
-pub fn param(p: &[usize], c: Counts, m: &[usize], z: Sizes, f: FunId, n: usize) -> Joined
-    requires { ⌜ Held z (now m) ⌝ }
-    requires { ⌜ Known (now p) c z (calledOf z (now m)) ⌝ }
-    requires { ⌜ f .0 < z .functions ⌝ }
-    ensures { λ r. ⌜ ((i : ℕ) → Reads z (ParamIs (now (p .entry)) c z (calledOf z (now (m .entry))) i (f .0) n) (λ L p. rule L p i (Param n)) (now (m .entry)) r) ⌝ }
+pub fn param(
+    program: &[usize],
+    counts: Counts,
+    state: &[usize],
+    sizes: Sizes,
+    f: FunId,
+    n: usize,
+) -> Joined
+    requires { ⌜ StateHeld sizes (now state) ⌝ }
+    requires { ⌜ FlowsKnown (now program) counts sizes (calledOf sizes (now state)) ⌝ }
+    requires { ⌜ f .0 < sizes .functions ⌝ }
+    ensures { λ r. ⌜ ((i : ℕ) → StateReads sizes (ParamIs (now (program .entry)) counts sizes (calledOf sizes (now (state .entry))) i (f .0) n) (λ L program. rule L program i (Param n)) (now (state .entry)) r) ⌝ }
 {
-    match join_sets(p, c, m, z, f, n) {
+    match join_sets(program, counts, state, sizes, f, n) {
         AsSet::Set(s) => {
             if 0 < s {
                 return Joined::Of(Kind::Objects(s));
             }
-            param_by_passes(p, c, m, z, f, n)
+            param_by_passes(program, counts, state, sizes, f, n)
         }
-        AsSet::Other => param_by_passes(p, c, m, z, f, n),
+        AsSet::Other => param_by_passes(program, counts, state, sizes, f, n),
     }
 }

@@ -18,9 +18,10 @@ use Rattle.answer.specs.Record.{Record, Legal, Shaped, usersFrom, recordOf}
 use Rattle.answer.specs.Image.{listed, imageOf, functionsIn, blocksIn, instructionsIn, startIn, userIn, usersIn, callsIn}
 use Rattle.answer.proofs.Image.{functions-is, blocks-is, instructions-is, count-is, live-is, tag-is, payload-is, users-is, calls-is}
 use Rattle.answer.proofs.Answered.{answer-published}
-use Rattle.frames.specs.declared.Cursor.{Cursor}
-use Rattle.frames.specs.declared.Cursor.the-variants.{Totals}
-use Rattle.frames.specs.Text.{blockFrame, kindFrame, useFrames, callerFrames, recordText, lineOf, totalsLine, blockLine, kindLine, useLine, callerLine, useLines, callerLines, fromKind, fromBlock, restOf, Run, ended, piece}
+use Rattle.frames.specs.declared.NextFrame.{NextFrame}
+use Rattle.frames.specs.declared.NextFrame.the-variants.{Totals}
+use Rattle.frames.specs.Text.{blockFrame, kindFrame, useFrames, callerFrames, recordText, lineOf, totalsLine, blockLine, kindLine, useLine, callerLine, useLines, callerLines, fromKind}
+use Rattle.frames.specs.Text.{fromBlock, restOf, Run, ended, piece}
 use Rattle.frames.proofs.Steps.{uses-all, callers-all}
 
 -- ---- lists
@@ -129,7 +130,7 @@ image-frames p s sh ok = image-text (recordOf p s) ok ∙ record-frames p s sh
 
 -- ---- pieces
 
-pub run-text : {a : List ℕ} {c : Cursor} {ts : List (List ℕ)} → Run a c ts → concat ts ≡ restOf a c
+pub run-text : {a : List ℕ} {c : NextFrame} {ts : List (List ℕ)} → Run a c ts → concat ts ≡ restOf a c
 run-text ended = refl
 run-text (piece p rest) = rw (run-text rest) (sym (p .text))
 

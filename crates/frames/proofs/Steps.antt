@@ -12,26 +12,27 @@ use lib.Seq.{take-at, drop-at, drop-drop, take-all, length-take-le, take-append-
 use borrow.Rule.Slice.PartMut.{midOf, putMid}
 use mir.Val.{boolByte}
 use borrow.Author.Tests.{lt-ltb, le-ltb, ne-eqb}
-use Rattle.sets.specs.declared.BlockId.{BlockId}
-use Rattle.sets.specs.declared.FunId.{FunId}
-use Rattle.sets.specs.declared.InsnId.{InsnId}
+use Rattle.ids.specs.declared.BlockId.{BlockId}
+use Rattle.ids.specs.declared.FunId.{FunId}
+use Rattle.ids.specs.declared.InsnId.{InsnId}
 use Rattle.kinds.proofs.Same.{bit-of}
 use Rattle.rules.specs.Lists.{concat}
 use Rattle.answer.specs.Layout.{functionsMost, blocksMost, instructionsMost, usesMost}
 use Rattle.answer.specs.Image.{listed, functionsIn, blocksIn, instructionsIn, countIn, liveIn, tagIn, payloadIn, startIn, userIn, wordIn, bitsIn}
-use Rattle.frames.specs.declared.Cursor.{Cursor}
-use Rattle.frames.specs.declared.Cursor.the-variants.{Totals, Block, Instruction, Use, Caller, Done}
-use Rattle.frames.specs.Text.{lineOf, totalsLine, blockLine, kindLine, useLine, callerLine, useLines, callerLines, fromCaller, fromUse, fromKind, fromBlock, restOf, moreOf, leftOf, lineMost, Wrote, Piece}
+use Rattle.frames.specs.declared.NextFrame.{NextFrame}
+use Rattle.frames.specs.declared.NextFrame.the-variants.{Totals, Block, Instruction, Use, Caller, Done}
+use Rattle.frames.specs.Text.{lineOf, totalsLine, blockLine, kindLine, useLine, callerLine, useLines, callerLines, fromCaller, fromUse, fromKind, fromBlock, restOf, moreOf, leftOf, lineMost}
+use Rattle.frames.specs.Text.{Wrote, Piece}
 
 -- ---- pieces
 
-pub wrote-piece : {a t d d' : List ℕ} {c c' : Cursor} {n : ℕ} → restOf a c ≡ t ++ restOf a c' → leftOf c' < leftOf c → Wrote t d n d' → Piece a c d c' n d'
+pub wrote-piece : {a t d d' : List ℕ} {c c' : NextFrame} {n : ℕ} → restOf a c ≡ t ++ restOf a c' → leftOf c' < leftOf c → Wrote t d n d' → Piece a c d c' n d'
 wrote-piece {a} {t} {d} {d'} {c} {c'} {n} e lt w =
     let x : take n d' ≡ t = rw (w .is) (take-at t (drop (length t) d) n (sym (w .len))) in
     let y : drop n d' ≡ drop n d = ap (drop n) (w .is) ∙ drop-at t (drop (length t) d) n (sym (w .len)) ∙ ap (λ (k : ℕ). drop k d) (sym (w .len)) in
     record { text = rw x e; kept = y; fits = w .fits; count = w .count; onward = λ _. lt }
 
-pub no-piece : {a d : List ℕ} {c c' : Cursor} → restOf a c ≡ restOf a c' → leftOf c' < leftOf c → Piece a c d c' 0 d
+pub no-piece : {a d : List ℕ} {c c' : NextFrame} → restOf a c ≡ restOf a c' → leftOf c' < leftOf c → Piece a c d c' 0 d
 no-piece e lt = record { text = e; kept = refl; fits = omega arith; count = refl; onward = λ _. lt }
 
 pub done-piece : (a d : List ℕ) → Piece a Done d Done 0 d
@@ -211,13 +212,13 @@ module _ {a : List ℕ} {f : FunId} {i : InsnId} {q : ℕ} (fs : (q ≡ function
 
 -- ---- step and write_from
 
-pub at-cursor : {a d d' : List ℕ} {c c₁ c' : Cursor} {n : ℕ} → c ≡ c₁ → Piece a c₁ d c' n d' → Piece a c d c' n d'
+pub at-cursor : {a d d' : List ℕ} {c c₁ c' : NextFrame} {n : ℕ} → c ≡ c₁ → Piece a c₁ d c' n d' → Piece a c d c' n d'
 at-cursor e p = rw e p
 
-pub at-done : {a d : List ℕ} {c : Cursor} → c ≡ Done → Piece a c d Done 0 d
+pub at-done : {a d : List ℕ} {c : NextFrame} → c ≡ Done → Piece a c d Done 0 d
 at-done {a} {d} e = rw e (done-piece a d)
 
-done-left : (c : Cursor) → moreOf c ≡ false → leftOf c ≡ 0
+done-left : (c : NextFrame) → moreOf c ≡ false → leftOf c ≡ 0
 done-left Totals e = let z : _≡_ {A = ℕ} 0 1 = cc in absurd (omega arith)
 done-left (Block b) e = let z : _≡_ {A = ℕ} 0 1 = cc in absurd (omega arith)
 done-left (Instruction i) e = let z : _≡_ {A = ℕ} 0 1 = cc in absurd (omega arith)
@@ -225,7 +226,7 @@ done-left (Use i j) e = let z : _≡_ {A = ℕ} 0 1 = cc in absurd (omega arith)
 done-left (Caller f i) e = let z : _≡_ {A = ℕ} 0 1 = cc in absurd (omega arith)
 done-left Done e = refl
 
-more-left : (c : Cursor) → moreOf c ≡ true → 0 < leftOf c
+more-left : (c : NextFrame) → moreOf c ≡ true → 0 < leftOf c
 more-left Totals e = omega arith
 more-left (Block b) e = omega arith
 more-left (Instruction i) e = omega arith
@@ -244,7 +245,7 @@ put-tail at d u =
     rw (e, append-nil)
 
 -- at the loop's head: what stands, with what is left, is the whole
-pub record Filling (a : List ℕ) (from : Cursor) (d out : List ℕ) (c : Cursor) (at : ℕ) : Type 0 where
+pub record Filling (a : List ℕ) (from : NextFrame) (d out : List ℕ) (c : NextFrame) (at : ℕ) : Type 0 where
   pub wide : lineMost ≤ length d
   pub len-same : length out ≡ length d
   pub room : at ≤ length d
@@ -253,14 +254,14 @@ pub record Filling (a : List ℕ) (from : Cursor) (d out : List ℕ) (c : Cursor
   pub falls : leftOf c ≤ leftOf from
   pub first : leftOf c ≡ leftOf from → at ≡ 0
 
-pub filling-start : (a d : List ℕ) (from : Cursor) → lineMost ≤ length d → Filling a from d d from 0
+pub filling-start : (a d : List ℕ) (from : NextFrame) → lineMost ≤ length d → Filling a from d d from 0
 filling-start a d from h = record { wide = h; len-same = refl; room = omega arith; text = refl; kept = refl; falls = omega arith; first = λ e. refl }
 
-module _ {a : List ℕ} {from : Cursor} {d out : List ℕ} {c : Cursor} {at : ℕ} (g : Filling a from d out c at) where
-  pub filling-less : {b : 𝔹} {u u' : List ℕ} {c' : Cursor} {n : ℕ} → b ≡ moreOf c → b ≡ true → Piece a c u c' n u' → leftOf c' < leftOf c
+module _ {a : List ℕ} {from : NextFrame} {d out : List ℕ} {c : NextFrame} {at : ℕ} (g : Filling a from d out c at) where
+  pub filling-less : {b : 𝔹} {u u' : List ℕ} {c' : NextFrame} {n : ℕ} → b ≡ moreOf c → b ≡ true → Piece a c u c' n u' → leftOf c' < leftOf c
   filling-less e t p = p .onward (sym e ∙ t)
 
-  pub filling-more : {b : 𝔹} {u : List ℕ} {c' : Cursor} {n : ℕ} → b ≡ moreOf c → b ≡ true → Piece a c (midOf at (length out - at) out) c' n u
+  pub filling-more : {b : 𝔹} {u : List ℕ} {c' : NextFrame} {n : ℕ} → b ≡ moreOf c → b ≡ true → Piece a c (midOf at (length out - at) out) c' n u
       → length u ≡ length (midOf at (length out - at) out) → Filling a from d (putMid at (length out - at) out u) c' (at + n)
   filling-more {b} {u} {c'} {n} e t p l =
       let less : leftOf c' < leftOf c = filling-less e t p in

@@ -12,8 +12,8 @@ use Rattle.rules.specs.Frames.{field, line, eachAt, pairs}
 use Rattle.answer.specs.Layout.{functionsMost, blocksMost, instructionsMost, usesMost}
 use Rattle.answer.specs.Record.{Record}
 use Rattle.answer.specs.Image.{listed, functionsIn, blocksIn, instructionsIn, countIn, liveIn, tagIn, payloadIn, startIn, userIn, callsIn}
-use Rattle.frames.specs.declared.Cursor.{Cursor}
-use Rattle.frames.specs.declared.Cursor.the-variants.{Totals, Block, Instruction, Use, Caller, Done}
+use Rattle.frames.specs.declared.NextFrame.{NextFrame}
+use Rattle.frames.specs.declared.NextFrame.the-variants.{Totals, Block, Instruction, Use, Caller, Done}
 
 -- ---- the frames of a record: 02 of a block, 03 of an instruction's kind, 04 of its uses, 05 of a function's callers
 
@@ -95,7 +95,7 @@ module _ (a : List ℕ) where
   fromBlock b = concat (listed blockLine b (blocksIn a - b)) ++ fromKind 0
 
   -- the frames that are left at a cursor; at the first one, all
-  abbrev pub restOf : Cursor → List ℕ
+  abbrev pub restOf : NextFrame → List ℕ
   restOf Totals = totalsLine ++ fromBlock 0
   restOf (Block b) = fromBlock (b .0)
   restOf (Instruction i) = fromKind (i .0)
@@ -103,7 +103,7 @@ module _ (a : List ℕ) where
   restOf (Caller f n) = fromCaller (f .0) (n .0)
   restOf Done = []
 
-abbrev pub moreOf : Cursor → 𝔹
+abbrev pub moreOf : NextFrame → 𝔹
 moreOf Totals = true
 moreOf (Block b) = true
 moreOf (Instruction i) = true
@@ -116,7 +116,7 @@ abbrev pub round : ℕ
 round = (instructionsMost + 1) * (usesMost + 1)
 
 -- a number that falls with each step of a cursor
-abbrev pub leftOf : Cursor → ℕ
+abbrev pub leftOf : NextFrame → ℕ
 leftOf Totals = 5 * round
 leftOf (Block b) = 4 * round + (blocksMost - b .0)
 leftOf (Instruction i) = 3 * round + (instructionsMost - i .0)
@@ -140,7 +140,7 @@ pub record Wrote (t d : List ℕ) (n : ℕ) (d' : List ℕ) : Type 0 where
 -- the n bytes at the start are what was left at cursor c up to what is left at c', and the rest is as it was.
 -- Free: how far a piece goes, n and with it c', of which 01 says nothing. What holds of it: whole frames are written, within the buffer, and as long as frames
 -- are left a piece goes on
-pub record Piece (a : List ℕ) (c : Cursor) (d : List ℕ) (c' : Cursor) (n : ℕ) (d' : List ℕ) : Type 0 where
+pub record Piece (a : List ℕ) (c : NextFrame) (d : List ℕ) (c' : NextFrame) (n : ℕ) (d' : List ℕ) : Type 0 where
   pub text : restOf a c ≡ take n d' ++ restOf a c'
   pub kept : drop n d' ≡ drop n d
   pub fits : n ≤ length d'
@@ -148,6 +148,6 @@ pub record Piece (a : List ℕ) (c : Cursor) (d : List ℕ) (c' : Cursor) (n : �
   pub onward : moreOf c ≡ true → leftOf c' < leftOf c
 
 -- texts written one after the other, from a cursor to the end
-pub data Run (a : List ℕ) : Cursor → List (List ℕ) → Type 0 where
+pub data Run (a : List ℕ) : NextFrame → List (List ℕ) → Type 0 where
   ended : Run a Done []
-  piece : {c c' : Cursor} {d d' : List ℕ} {n : ℕ} {ts : List (List ℕ)} → Piece a c d c' n d' → Run a c' ts → Run a c (take n d' ∷ ts)
+  piece : {c c' : NextFrame} {d d' : List ℕ} {n : ℕ} {ts : List (List ℕ)} → Piece a c d c' n d' → Run a c' ts → Run a c (take n d' ∷ ts)

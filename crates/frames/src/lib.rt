@@ -1,7 +1,7 @@
 // The frames of an answer as text, written piece by piece from the answer memory.
-use sets::BlockId;
-use sets::FunId;
-use sets::InsnId;
+use ids::BlockId;
+use ids::FunId;
+use ids::InsnId;
 ghost use mathlib.Core.Path.{_≡_};
 ghost use mathlib.Core.List.{[]};
 ghost use Prim.Native.Nat.{_+_, _≤_, _<_};
@@ -15,7 +15,7 @@ ghost use Rattle.frames.specs.Text.{lineOf, roomFor, lineMost, moreOf, W
 pub const LINE_MOST: usize = 32;
 
 // The next frame to write: the totals; a block's; an instruction's kind; its use at a place of the users' table; a function's from a caller on.
-pub enum Cursor {
+pub enum NextFrame {
     Totals,
     Block(BlockId),
     Instruction(InsnId),
@@ -26,7 +26,7 @@ pub enum Cursor {
 
 // How far the writing came: the next frame, and the bytes written.
 pub struct Reach {
-    pub next: Cursor,
+    pub next: NextFrame,
     pub len: usize,
 }
 
@@ -85,7 +85,7 @@ pub fn write_refusal(n: u8, out: &mut [u8]) -> usize
 fn step_totals(answer: &[usize], out: &mut [u8]) -> Reach
     requires { ⌜ length (now answer) ≡ answerLen ⌝ }
     requires { ⌜ lineMost ≤ length (now out) ⌝ }
-    ensures { λ r. ⌜ Piece (now (answer .entry)) Cursor.Totals (now (out .entry)) (r .next) (r .len) (now (out .exit)) ⌝ }
+    ensures { λ r. ⌜ Piece (now (answer .entry)) NextFrame.Totals (now (out .entry)) (r .next) (r .len) (now (out .exit)) ⌝ }
 {
     let f = answer::functions(answer);
     let b = answer::blocks(answer);
@@ -93,7 +93,7 @@ fn step_totals(answer: &[usize], out: &mut [u8]) -> Reach
     let count = answer::count(answer);
     let len = write_line(&[1, 1, 1, 2, 8], &[1, f, b, i, count], out);
     Reach {
-        next: Cursor::Block(BlockId(0)),
+        next: NextFrame::Block(BlockId(0)),
         len,
     }
 }
@@ -101,19 +101,19 @@ fn step_totals(answer: &[usize], out: &mut [u8]) -> Reach
 fn step_block(answer: &[usize], b: BlockId, out: &mut [u8]) -> Reach
     requires { ⌜ length (now answer) ≡ answerLen ⌝ }
     requires { ⌜ lineMost ≤ length (now out) ⌝ }
-    ensures { λ r. ⌜ Piece (now (answer .entry)) (Cursor.Block b) (now (out .entry)) (r .next) (r .len) (now (out .exit)) ⌝ }
+    ensures { λ r. ⌜ Piece (now (answer .entry)) (NextFrame.Block b) (now (out .entry)) (r .next) (r .len) (now (out .exit)) ⌝ }
 {
     let n = b.0 as usize;
     if answer::blocks(answer) <= n {
         return Reach {
-            next: Cursor::Instruction(InsnId(0)),
+            next: NextFrame::Instruction(InsnId(0)),
             len: 0,
         };
     }
     let live = answer::live(answer, b) as usize;
     let len = write_line(&[1, 1, 1], &[2, n, live], out);
     Reach {
-        next: Cursor::Block(BlockId(b.0 + 1)),
+        next: NextFrame::Block(BlockId(b.0 + 1)),
         len,
     }
 }
@@ -121,12 +121,12 @@ fn step_block(answer: &[usize], b: BlockId, out: &mut [u8]) -> Reach
 fn step_instruction(answer: &[usize], i: InsnId, out: &mut [u8]) -> Reach
     requires { ⌜ length (now answer) ≡ answerLen ⌝ }
     requires { ⌜ lineMost ≤ length (now out) ⌝ }
-    ensures { λ r. ⌜ Piece (now (answer .entry)) (Cursor.Instruction i) (now (out .entry)) (r .next) (r .len) (now (out .exit)) ⌝ }
+    ensures { λ r. ⌜ Piece (now (answer .entry)) (NextFrame.Instruction i) (now (out .entry)) (r .next) (r .len) (now (out .exit)) ⌝ }
 {
     let n = i.0 as usize;
     if answer::instructions(answer) <= n {
         return Reach {
-            next: Cursor::Use(InsnId(0), answer::users_start(answer, InsnId(0))),
+            next: NextFrame::Use(InsnId(0), answer::users_start(answer, InsnId(0))),
             len: 0,
         };
     }
@@ -134,7 +134,7 @@ fn step_instruction(answer: &[usize], i: InsnId, out: &mut [u8]) -> Reach
     let payload = answer::payload(answer, i);
     let len = write_line(&[1, 2, 1, 8], &[3, n, tag, payload], out);
     Reach {
-        next: Cursor::Instruction(InsnId(i.0 + 1)),
+        next: NextFrame::Instruction(InsnId(i.0 + 1)),
         len,
     }
 }
@@ -142,26 +142,26 @@ fn step_instruction(answer: &[usize], i: InsnId, out: &mut [u8]) -> Reach
 fn step_use(answer: &[usize], i: InsnId, j: usize, out: &mut [u8]) -> Reach
     requires { ⌜ length (now answer) ≡ answerLen ⌝ }
     requires { ⌜ lineMost ≤ length (now out) ⌝ }
-    ensures { λ r. ⌜ Piece (now (answer .entry)) (Cursor.Use i j) (now (out .entry)) (r .next) (r .len) (now (out .exit)) ⌝ }
+    ensures { λ r. ⌜ Piece (now (answer .entry)) (NextFrame.Use i j) (now (out .entry)) (r .next) (r .len) (now (out .exit)) ⌝ }
 {
     let n = i.0 as usize;
     if answer::instructions(answer) <= n {
         return Reach {
-            next: Cursor::Caller(FunId(0), InsnId(0)),
+            next: NextFrame::Caller(FunId(0), InsnId(0)),
             len: 0,
         };
     }
     let end = answer::users_end(answer, i);
     if end <= j {
         return Reach {
-            next: Cursor::Use(InsnId(i.0 + 1), end),
+            next: NextFrame::Use(InsnId(i.0 + 1), end),
             len: 0,
         };
     }
     let user = answer::user(answer, j);
     let len = write_line(&[1, 2, 2], &[4, n, user.0 as usize], out);
     Reach {
-        next: Cursor::Use(i, j + 1),
+        next: NextFrame::Use(i, j + 1),
         len,
     }
 }
@@ -169,19 +169,19 @@ fn step_use(answer: &[usize], i: InsnId, j: usize, out: &mut [u8]) -> Reach
 fn step_caller(answer: &[usize], f: FunId, i: InsnId, out: &mut [u8]) -> Reach
     requires { ⌜ length (now answer) ≡ answerLen ⌝ }
     requires { ⌜ lineMost ≤ length (now out) ⌝ }
-    ensures { λ r. ⌜ Piece (now (answer .entry)) (Cursor.Caller f i) (now (out .entry)) (r .next) (r .len) (now (out .exit)) ⌝ }
+    ensures { λ r. ⌜ Piece (now (answer .entry)) (NextFrame.Caller f i) (now (out .entry)) (r .next) (r .len) (now (out .exit)) ⌝ }
 {
     let g = f.0 as usize;
     if answer::functions(answer) <= g {
         return Reach {
-            next: Cursor::Done,
+            next: NextFrame::Done,
             len: 0,
         };
     }
     let n = i.0 as usize;
     if answer::instructions(answer) <= n {
         return Reach {
-            next: Cursor::Caller(FunId(f.0 + 1), InsnId(0)),
+            next: NextFrame::Caller(FunId(f.0 + 1), InsnId(0)),
             len: 0,
         };
     }
@@ -189,58 +189,58 @@ fn step_caller(answer: &[usize], f: FunId, i: InsnId, out: &mut [u8]) -> Reach
     if bits == 0 {
         // None in the rest of the word.
         return Reach {
-            next: Cursor::Caller(f, InsnId((i.0 / 64 + 1) * 64)),
+            next: NextFrame::Caller(f, InsnId((i.0 / 64 + 1) * 64)),
             len: 0,
         };
     }
     if bits % 2 == 0 {
         return Reach {
-            next: Cursor::Caller(f, InsnId(i.0 + 1)),
+            next: NextFrame::Caller(f, InsnId(i.0 + 1)),
             len: 0,
         };
     }
     let len = write_line(&[1, 1, 2], &[5, g, n], out);
     Reach {
-        next: Cursor::Caller(f, InsnId(i.0 + 1)),
+        next: NextFrame::Caller(f, InsnId(i.0 + 1)),
         len,
     }
 }
 
 // At most one line.
-fn step(answer: &[usize], at: Cursor, out: &mut [u8]) -> Reach
+fn step(answer: &[usize], at: NextFrame, out: &mut [u8]) -> Reach
     requires { ⌜ length (now answer) ≡ answerLen ⌝ }
     requires { ⌜ lineMost ≤ length (now out) ⌝ }
     ensures { λ r. ⌜ Piece (now (answer .entry)) at (now (out .entry)) (r .next) (r .len) (now (out .exit)) ⌝ }
 {
     match at {
-        Cursor::Totals => step_totals(answer, out),
-        Cursor::Block(b) => step_block(answer, b, out),
-        Cursor::Instruction(i) => step_instruction(answer, i, out),
-        Cursor::Use(i, j) => step_use(answer, i, j, out),
-        Cursor::Caller(f, i) => step_caller(answer, f, i, out),
-        Cursor::Done => Reach {
-            next: Cursor::Done,
+        NextFrame::Totals => step_totals(answer, out),
+        NextFrame::Block(b) => step_block(answer, b, out),
+        NextFrame::Instruction(i) => step_instruction(answer, i, out),
+        NextFrame::Use(i, j) => step_use(answer, i, j, out),
+        NextFrame::Caller(f, i) => step_caller(answer, f, i, out),
+        NextFrame::Done => Reach {
+            next: NextFrame::Done,
             len: 0,
         },
     }
 }
 
 // Whether a frame may be left.
-pub fn more(at: Cursor) -> bool
+pub fn more(at: NextFrame) -> bool
     ensures { λ r. ⌜ r ≡ moreOf at ⌝ }
 {
     match at {
-        Cursor::Totals => true,
-        Cursor::Block(_) => true,
-        Cursor::Instruction(_) => true,
-        Cursor::Use(_, _) => true,
-        Cursor::Caller(_, _) => true,
-        Cursor::Done => false,
+        NextFrame::Totals => true,
+        NextFrame::Block(_) => true,
+        NextFrame::Instruction(_) => true,
+        NextFrame::Use(_, _) => true,
+        NextFrame::Caller(_, _) => true,
+        NextFrame::Done => false,
     }
 }
 
 // Writes the frames from a cursor on, as far as the buffer has room for a line.
-pub fn write_from(answer: &[usize], from: Cursor, out: &mut [u8]) -> Reach
+pub fn write_from(answer: &[usize], from: NextFrame, out: &mut [u8]) -> Reach
     requires { ⌜ length (now answer) ≡ answerLen ⌝ }
     requires { ⌜ lineMost ≤ length (now out) ⌝ }
     ensures { λ r. ⌜ Piece (now (answer .entry)) from (now (out .entry)) (r .next) (r .len) (now (out .exit)) ⌝ }

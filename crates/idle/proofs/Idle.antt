@@ -139,7 +139,8 @@ module _ (L : Limits) (p : Program) where
       true≢false (sym (union-self old (d .changed .0) (subst (λ (j : Kind). unionOf old j ≡ Of (d .changed .0)) is (d .changed .1))) ∙ d .changed .2)
 
   -- what a store leaves where it leaves the kind
-  store-kept : (i : ℕ) (k : Kind) (s e : State) → i < length (s .kinds) → getD (e .kinds) i Empty ≡ getD (s .kinds) i Empty → store L p i k s ≡ answered (tt, e) → (e ≡ s) × Same (getD (s .kinds) i Empty) k
+  store-kept : (i : ℕ) (k : Kind) (s e : State) → i < length (s .kinds) → getD (e .kinds) i Empty ≡ getD (s .kinds) i Empty → store L p i k s ≡ answered (tt, e)
+      → (e ≡ s) × Same (getD (s .kinds) i Empty) k
   store-kept i k s e h g q = go (store-is L p i k s q)
     where
       go : ((e ≡ s) × Same (getD (s .kinds) i Empty) k) ⊎ Stored L p i k s e → (e ≡ s) × Same (getD (s .kinds) i Empty) k
@@ -160,7 +161,8 @@ module _ (L : Limits) (p : Program) where
   Idle i s = (t : State) → Alike s t → visit L p i t ≡ answered (tt, t)
 
   -- a visit that put nothing in and left the kind was idle
-  pub visit-idle : (i : ℕ) (s e : State) → aside L p (opOf p i) ≡ true → i < length (s .kinds) → visit L p i s ≡ answered (tt, e) → waiting e ≡ waiting s → getD (e .kinds) i Empty ≡ getD (s .kinds) i Empty → Idle i s
+  pub visit-idle : (i : ℕ) (s e : State) → aside L p (opOf p i) ≡ true → i < length (s .kinds) → visit L p i s ≡ answered (tt, e) → waiting e ≡ waiting s
+      → getD (e .kinds) i Empty ≡ getD (s .kinds) i Empty → Idle i s
   unfolding visit
   visit-idle i s e o h q w g t a =
       let R = walk-rule L p composes i (opOf p i) o in
@@ -206,7 +208,8 @@ module _ (L : Limits) (p : Program) where
   still-widened s n k c t u d h = still-past s t u h (rw (d .state) (record { kinds = refl; live = refl; calledBy = refl })) (rw (d .state) refl)
 
   -- a visit that put no block in and left the kind leaves kinds, live blocks and callers
-  pub visit-still : (i : ℕ) (s e : State) → i < length (s .kinds) → visit L p i s ≡ answered (tt, e) → length (e .blockWorklist) ≡ length (s .blockWorklist) → getD (e .kinds) i Empty ≡ getD (s .kinds) i Empty → Alike s e
+  pub visit-still : (i : ℕ) (s e : State) → i < length (s .kinds) → visit L p i s ≡ answered (tt, e) → length (e .blockWorklist) ≡ length (s .blockWorklist)
+      → getD (e .kinds) i Empty ≡ getD (s .kinds) i Empty → Alike s e
   unfolding visit
   visit-still i s e h q w g =
       let d = after (rule L p i (opOf p i) s) (λ (r : Kind × State). store L p i (r .0) (r .1)) q in

@@ -8,8 +8,8 @@ use mathlib.Core.Option.{none, some}
 use mathlib.Core.List.{List, [], _∷_, _++_, List·Memᴰ·head, List·Memᴰ·tail}
 use lib.ListN.{length, getD, set, length-append, List·getD-eq-default}
 use lib.Seq.{set-getD, getD-set-other}
-use Rattle.sets.specs.Sets.{membersOf}
-use Rattle.sets.proofs.Bits.{Either, yes, no, either}
+use Rattle.ids.specs.Sets.{membersOf}
+use Rattle.ids.proofs.Bits.{Either, yes, no, either}
 use Rattle.kinds.specs.declared.Kind.{Kind}
 use Rattle.kinds.specs.declared.Kind.the-variants.{Empty, Any}
 use Rattle.kinds.specs.declared.Joined.the-variants.{Of}
@@ -28,7 +28,7 @@ use Rattle.rules.proofs.Exactness.Sums.{_∈_, not-in-none, ∈-keep, ∈-place
 use Rattle.rules.proofs.Exactness.Grow.{mark-true}
 use Rattle.rules.proofs.Exactness.Promise.{first-in}
 use Rattle.rules.proofs.Exactness.Answers.{Stored, Widened, liveUses, wokenReads, goLive-is}
-use Rattle.words.proofs.Texts.{same-eq as text-eq}
+use Rattle.lexer.proofs.Texts.{same-eq as text-eq}
 use Rattle.idle.specs.Settled.{Covered, SettledIn, Settled}
 use Rattle.idle.proofs.Keeps.{Kept, Widens, Stores, keeps-visit}
 use Rattle.idle.proofs.Idle.{store-same}
@@ -65,7 +65,10 @@ mark-same : (t : List (List 𝔹)) (a b : ℕ) → marked t a b ≡ true → mar
 mark-same t a b e = ap (set t a) (ap (set (getD t a []) b) (sym e) ∙ set-getD (getD t a []) b false) ∙ set-getD t a []
 
 read-same : (c i : ℕ) (t : State) → marked (t .ivarReads) c i ≡ true → addRead c i t ≡ t
-read-same c i t e = ap (λ (rd : List (List 𝔹)). record { kinds = t .kinds; live = t .live; calledBy = t .calledBy; ivarKinds = t .ivarKinds; ivarReads = rd; insnWorklist = t .insnWorklist; blockWorklist = t .blockWorklist; draining = t .draining; count = t .count }) (mark-same (t .ivarReads) c i e)
+read-same c i t e =
+    ap
+    (λ (rd : List (List 𝔹)). record { kinds = t .kinds; live = t .live; calledBy = t .calledBy; ivarKinds = t .ivarKinds; ivarReads = rd; insnWorklist = t .insnWorklist; blockWorklist = t .blockWorklist; draining = t .draining; count = t .count })
+    (mark-same (t .ivarReads) c i e)
 
 module _ (L : Limits) (p : Program) where
   -- read i of n, of kind k, in state t
@@ -95,7 +98,8 @@ module _ (L : Limits) (p : Program) where
   classes-are v b t e = rw e refl
 
   -- where the receiver's classes are those that the read is settled for, its visit does nothing
-  pub settled-idle : (i : ℕ) (n : Name) (r : Opnd) (b : ℕ) (t : State) → opOf p i ≡ GetIvar n r → classesIn (kindOf t r) ≡ some b → Settled p n i b (t .kinds) (t .ivarKinds) (t .ivarReads) → visit L p i t ≡ answered (tt, t)
+  pub settled-idle : (i : ℕ) (n : Name) (r : Opnd) (b : ℕ) (t : State) → opOf p i ≡ GetIvar n r → classesIn (kindOf t r) ≡ some b → Settled p n i b (t .kinds) (t .ivarKinds) (t .ivarReads)
+      → visit L p i t ≡ answered (tt, t)
   unfolding visit rule
   settled-idle i n r b t o e h =
       ap (λ (x : Op). (rule L p i x >>= store L p i) t) o
@@ -246,8 +250,11 @@ module _ (L : Limits) (p : Program) where
         widens : Widens Quiet L p (opOf p i) s
         widens m r v z c t u d h = longer t u (wokenReads L p t m c) (ap (λ (x : State). x .insnWorklist) (d .state)) (λ l g. at-widened m (kindOf s v) c t u d g (met l)) h
           where
-            met : length (wokenReads L p t m c) ≡ 0 → (x : ℕ) (y : SettledIn p n (getD (t .kinds) j Empty) j (t .ivarKinds) (t .ivarReads) x) → x ≡ c → y .place ≡ d .place → Covered (getD (t .kinds) j Empty) (d .kind)
-            met l x y a z = absurd (none-in (wokenReads L p t m c) l (woken t m n q c (d .place) j o (subst (λ (x : ℕ). marked (t .ivarReads) x j ≡ true) a (y .met)) (d .named) (subst (λ (x : ℕ). ivarNamed p x n ≡ some (d .place)) a (y .named ∙ ap some z))))
+            met : length (wokenReads L p t m c) ≡ 0 → (x : ℕ) (y : SettledIn p n (getD (t .kinds) j Empty) j (t .ivarKinds) (t .ivarReads) x) → x ≡ c → y .place ≡ d .place
+                → Covered (getD (t .kinds) j Empty) (d .kind)
+            met l x y a z =
+                absurd
+                (none-in (wokenReads L p t m c) l (woken t m n q c (d .place) j o (subst (λ (x : ℕ). marked (t .ivarReads) x j ≡ true) a (y .met)) (d .named) (subst (λ (x : ℕ). ivarNamed p x n ≡ some (d .place)) a (y .named ∙ ap some z))))
 
     -- a block that goes live
     pub live-settled : (x : ℕ) (s e : State) → goLive L p x s ≡ answered (tt, e) → Settled p n j b (s .kinds) (s .ivarKinds) (s .ivarReads) → Settled p n j b (e .kinds) (e .ivarKinds) (e .ivarReads)

@@ -10,11 +10,12 @@ use Rattle.kinds.specs.declared.Kind.the-variants.{Empty}
 use Rattle.kinds.specs.Kinds.{sameOf, isEmpty}
 use Rattle.kinds.specs.Union.{unionOf, unionAll}
 use Rattle.kinds.specs.Rules.{arithOf, admits}
-use Rattle.sets.specs.Sets.{membersOf}
+use Rattle.ids.specs.Sets.{membersOf}
 use Rattle.rules.specs.Actions.{Answer, answered, refused, _>>=_, _>>_, give, ask, needed, lift, unless, the, each, fold}
 use Rattle.rules.specs.Lists.{has}
 use Rattle.rules.specs.Values.{toAnswer, object, classesIn}
-use Rattle.rules.specs.Program.{Limits, Opnd, Terminator, Jump, IfTrue, Return, Static, Dynamic, Op, Ends, Send, Compute, Phi, Param, SelfParam, New, GetIvar, SetIvar, Program, function, functionOf, methodNamed, parameters}
+use Rattle.rules.specs.Program.{Limits, Opnd, Terminator, Jump, IfTrue, Return, Static, Dynamic, Op, Ends, Send, Compute, Phi, Param, SelfParam, New, GetIvar, SetIvar, Program, function, functionOf}
+use Rattle.rules.specs.Program.{methodNamed, parameters}
 use Rattle.rules.specs.Machine.{State, Acts, kindOf, join, joinAll, classesOf, pushInsn, pushBlock, wakeIfWider, callersOf, placeOf, argument, addCall, passArguments, flowsBack, flowsIn, leave, rule}
 use Rattle.rules.proofs.Exactness.Grow.{kindIn, kind-is}
 
@@ -121,7 +122,9 @@ module _ (L : Limits) (p : Program) where
 
     walk-pass : (i f : ℕ) → K (Unit {0}) (passArguments L p i f)
     unfolding passArguments
-    walk-pass i f = walk-each (parameters p f) (λ x. the (λ s. kindOf s (argument L p (placeOf L p x) i)) >>= (λ k. wakeIfWider L p k x)) (λ x. walk-kind (argument L p (placeOf L p x) i) (λ k. wakeIfWider L p k x) (λ k. walk-wake k x))
+    walk-pass i f =
+        walk-each (parameters p f) (λ x. the (λ s. kindOf s (argument L p (placeOf L p x) i)) >>= (λ k. wakeIfWider L p k x))
+        (λ x. walk-kind (argument L p (placeOf L p x) i) (λ k. wakeIfWider L p k x) (λ k. walk-wake k x))
 
     walk-leave : (i : ℕ) (t : Terminator) → K (Unit {0}) (leave L p i t)
     unfolding leave
@@ -152,10 +155,14 @@ module _ (L : Limits) (p : Program) where
         one c = needed 15 (methodNamed p c n) >>= (λ f. addCall L p i f >> passArguments L p i f)
 
         each-one : (c : ℕ) → K (Unit {0}) (one c)
-        each-one c = C .two (needed 15 (methodNamed p c n)) (λ f. addCall L p i f >> passArguments L p i f) (walk-needed 15 (methodNamed p c n)) (λ f. walk-seq (addCall L p i f) (passArguments L p i f) (C .call i f) (walk-pass i f))
-    walk-rule i (Compute o v w) a = walk-kind v (λ j. the (λ s. kindOf s w) >>= (λ k. lift (toAnswer (arithOf o j k)))) (λ j. walk-kind w (λ k. lift (toAnswer (arithOf o j k))) (λ k. C .told (toAnswer (arithOf o j k))))
+        each-one c =
+            C .two (needed 15 (methodNamed p c n)) (λ f. addCall L p i f >> passArguments L p i f) (walk-needed 15 (methodNamed p c n))
+            (λ f. walk-seq (addCall L p i f) (passArguments L p i f) (C .call i f) (walk-pass i f))
+    walk-rule i (Compute o v w) a =
+        walk-kind v (λ j. the (λ s. kindOf s w) >>= (λ k. lift (toAnswer (arithOf o j k)))) (λ j. walk-kind w (λ k. lift (toAnswer (arithOf o j k))) (λ k. C .told (toAnswer (arithOf o j k))))
     walk-rule i (Phi b v c w) a =
-        C .two (the (λ (s : State). s .live)) (λ live. joinAll (cond (getD live b false) (v ∷ []) [] ++ cond (getD live c false) (w ∷ []) [])) (C .looked (λ (s : State). s .live) (λ s t a. sym (a .live)))
+        C .two (the (λ (s : State). s .live)) (λ live. joinAll (cond (getD live b false) (v ∷ []) [] ++ cond (getD live c false) (w ∷ []) []))
+        (C .looked (λ (s : State). s .live) (λ s t a. sym (a .live)))
         (λ live. walk-joinAll (cond (getD live b false) (v ∷ []) [] ++ cond (getD live c false) (w ∷ []) []))
     walk-rule i (Param n) a = C .two (the (λ s. flowsIn L p s i)) joinAll (C .looked (λ s. flowsIn L p s i) (in-seen i)) walk-joinAll
     walk-rule i (SelfParam c) a = C .told (answered (object c))

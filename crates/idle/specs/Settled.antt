@@ -5,7 +5,7 @@ use mathlib.Core.Bool.{Bool as 𝔹, true, false}
 use mathlib.Core.Option.{some}
 use mathlib.Core.List.{List, [], List·Memᴰ}
 use lib.ListN.{getD}
-use Rattle.sets.specs.Sets.{membersOf}
+use Rattle.ids.specs.Sets.{membersOf}
 use Rattle.kinds.specs.declared.Kind.{Kind}
 use Rattle.kinds.specs.declared.Kind.the-variants.{Empty}
 use Rattle.kinds.specs.Kinds.{isName}

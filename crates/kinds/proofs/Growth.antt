@@ -8,9 +8,9 @@ use native.Mathlib.Omega.{arith}
 use lib.IntN.{ℤ, _+ℤ_, _-ℤ_, _*ℤ_}
 use lib.Signed.{ltZ}
 use lib.Bits.{bitOr, or-self}
-use Rattle.sets.specs.Sets.{membersOf}
-use Rattle.sets.proofs.Bits.{Either, yes, no, either}
-use Rattle.sets.proofs.Members.{members-or}
+use Rattle.ids.specs.Sets.{membersOf}
+use Rattle.ids.proofs.Bits.{Either, yes, no, either}
+use Rattle.ids.proofs.Members.{members-or}
 use Rattle.numbers.specs.Numbers.{fitOf}
 use Rattle.numbers.specs.declared.Fit.{Fit}
 use Rattle.numbers.specs.declared.Fit.the-variants.{Fits, Leaves}

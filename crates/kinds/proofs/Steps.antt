@@ -4,7 +4,7 @@ use mathlib.Core.Bool.{Bool as 𝔹, true, false, _&&_, _||_, or-true, or-false}
 use Prim.Native.Nat.{ℕ}
 use lib.IntN.{ℤ}
 use lib.Bits.{bitOr}
-use Rattle.sets.proofs.Bits.{Either, yes, no, either}
+use Rattle.ids.proofs.Bits.{Either, yes, no, either}
 use Rattle.kinds.specs.declared.Kind.{Kind}
 use Rattle.kinds.specs.declared.Kind.the-variants.{Empty, Nil, Num, Truth, Fun, Class, Int, Bool, Objects, Any}
 use Rattle.kinds.specs.declared.Joined.{Joined}

@@ -1,12 +1,12 @@
 // The kinds of values that the analysis tells apart, their union, and arithmetic on them.
+use ids::ClassId;
+use ids::FunId;
 use numbers::Fit;
-use sets::ClassId;
-use sets::FunId;
 ghost use mathlib.Core.Path.{_≡_};
 ghost use mathlib.Core.Bool.{true, false, _||_};
 ghost use Prim.Native.Nat.{_<_};
 ghost use Rattle.numbers.specs.Numbers.{fitOf};
-ghost use Rattle.sets.specs.Sets.{oneOf, twoOf};
+ghost use Rattle.ids.specs.Sets.{oneOf, twoOf};
 ghost use Rattle.kinds.specs.Kinds.{tagOf, payloadOf, fitsOf, kindFrom, sameOf, isEmpty, isNumber, isTruth, isName, isAny};
 ghost use Rattle.kinds.specs.Union.{setOf, isAlone, mixOf, unionOf, joinOf};
 ghost use Rattle.kinds.specs.Rules.{knownIn, kindOf, resultOf, wideOf, byUnions, isSub, arithOf, admits};
@@ -50,7 +50,7 @@ impl Kind {
         requires { ⌜ c .0 < 64 ⌝ }
         ensures { λ r. ⌜ r ≡ Kind.Objects (oneOf (c .0)) ⌝ }
     {
-        Kind::Objects(sets::one(c))
+        Kind::Objects(ids::one(c))
     }
 
     // The kind of two classes.
@@ -58,7 +58,7 @@ impl Kind {
         requires { ⌜ (c .0 < 64) × (d .0 < 64) ⌝ }
         ensures { λ r. ⌜ r ≡ Kind.Objects (twoOf (c .0) (d .0)) ⌝ }
     {
-        Kind::Objects(sets::two(c, d))
+        Kind::Objects(ids::two(c, d))
     }
 
     // The kind byte, as a word.
@@ -136,17 +136,17 @@ impl Kind {
     {
         match self {
             Kind::Empty => 0,
-            Kind::Nil => sets::one(ClassId::NIL),
-            Kind::Num(_) => sets::one(ClassId::INT),
+            Kind::Nil => ids::one(ClassId::NIL),
+            Kind::Num(_) => ids::one(ClassId::INT),
             Kind::Truth(t) => if t {
-                sets::one(ClassId::TRUE)
+                ids::one(ClassId::TRUE)
             } else {
-                sets::one(ClassId::FALSE)
+                ids::one(ClassId::FALSE)
             },
             Kind::Fun(_) => 0,
             Kind::Class(_) => 0,
-            Kind::Int => sets::one(ClassId::INT),
-            Kind::Bool => sets::two(ClassId::TRUE, ClassId::FALSE),
+            Kind::Int => ids::one(ClassId::INT),
+            Kind::Bool => ids::two(ClassId::TRUE, ClassId::FALSE),
             Kind::Objects(s) => s,
             Kind::Any => 0,
         }

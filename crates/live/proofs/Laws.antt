@@ -16,18 +16,18 @@ use Rattle.rules.specs.Steps as Steps
 use Rattle.rules.proofs.Demand.{limits-usable, answers, long-refused}
 use Rattle.streams.specs.declared.Input.{Input}
 use Rattle.streams.specs.declared.Input.the-variants.{Read}
-use Rattle.streams.specs.Input.{Fits}
+use Rattle.streams.specs.Input.{InputFits}
 use Rattle.printing.specs.declared.Told.{Told}
 use Rattle.printing.specs.declared.Told.the-variants.{Answered, Refused, Stopped}
-use Rattle.printing.specs.Sent.{numberIn, Tells}
+use Rattle.printing.specs.Sent.{numberIn, SentTells}
 use Rattle.live.specs.declared.Ran.{Ran}
 use Rattle.live.specs.declared.Ran.the-variants.{Answer as Ended}
 use Rattle.live.specs.Runs.{Runs, Numbered}
-use Rattle.live.specs.Questions.{wordsOf, lineOf, Put}
+use Rattle.live.specs.Questions.{wordsOf, lineOf, QuestionPut}
 
 -- ---- the script
 
-module _ (d : List ℕ) {r : Input} {n : ℕ} (g : Fits d r) (e : r ≡ Read n) where
+module _ (d : List ℕ) {r : Input} {n : ℕ} (g : InputFits d r) (e : r ≡ Read n) where
   pub read-most : n ≤ length d
   read-most = (rw e at g) .0
 
@@ -45,7 +45,7 @@ numbered d {r} {n} {t} g e = go t ((rw e at g) .1)
     of (answered a) h f = let z : _≡_ {A = ℕ} 0 1 = cc in absurd (omega arith)
     of {q} (refused m) h f = let z : m ≡ q = cc in (omega (arith, h .0), omega (arith, h .1))
 
-    go : (t : Told) → Tells (numberIn (analyze limits s)) (Rattle.rules.specs.Frames.live s) t → Numbered t
+    go : (t : Told) → SentTells (numberIn (analyze limits s)) (Rattle.rules.specs.Frames.live s) t → Numbered t
     go (Answered k) h = tt
     go (Refused q k) h = of (analyze limits s) (answers limits limits-usable s) (h .0)
     go (Stopped k) h = tt
@@ -85,7 +85,7 @@ module _ {t : List ℕ} {at : ℕ} {d out : List ℕ} {i : ℕ} (g : Putting t a
         is = rw (g .is, add-one) (paste-suc d at t i 0 (omega (arith, g .room)) h);
       }
 
-  pub putting-done : length t ≤ i → Put t at d (at + i) out
+  pub putting-done : length t ≤ i → QuestionPut t at d (at + i) out
   putting-done h =
       let e : i ≡ length t = omega (arith, g .in-range) in
       let f : at + i ≤ length out = omega (arith, g .room, g .len-same) in
@@ -97,7 +97,7 @@ module _ {t : List ℕ} {at : ℕ} {d out : List ℕ} {i : ℕ} (g : Putting t a
       }
 
 -- the words of question k, where n is its number
-pub words-put : {t : List ℕ} {n k at r : ℕ} {d d' : List ℕ} → n ≡ k → t ≡ wordsOf k → Put t at d r d' → Put (wordsOf n) at d r d'
+pub words-put : {t : List ℕ} {n k at r : ℕ} {d d' : List ℕ} → n ≡ k → t ≡ wordsOf k → QuestionPut t at d r d' → QuestionPut (wordsOf n) at d r d'
 words-put e f g = rw (e, ← f) g
 
 -- a number that is at least k and not k
@@ -105,7 +105,7 @@ pub past : {A : Type 0} {n : ℕ} (k : ℕ) → (A → k ≤ n) → A × (n ≡ 
 past k f r = let h = f (r .0) in let g = r .1 in omega arith
 
 -- one text behind another
-pub put-then : {t u : List ℕ} {at m n : ℕ} {d d' d'' : List ℕ} → Put t at d m d' → Put u m d' n d'' → Put (t ++ u) at d n d''
+pub put-then : {t u : List ℕ} {at m n : ℕ} {d d' d'' : List ℕ} → QuestionPut t at d m d' → QuestionPut u m d' n d'' → QuestionPut (t ++ u) at d n d''
 put-then {t} {u} {at} {d = d} g h =
     record {
       text = h .text ∙ rw (g .text, append-assoc (take at d) t u);
@@ -114,6 +114,6 @@ put-then {t} {u} {at} {d = d} g h =
       count = h .count;
     }
 
-pub line-put : (n : ℕ) {m r : ℕ} {d d' d'' : List ℕ} → Put (bytes "live: question ") 0 d m d' → Put (wordsOf n) m d' r d'' → Put (lineOf n) 0 d r d''
+pub line-put : (n : ℕ) {m r : ℕ} {d d' d'' : List ℕ} → QuestionPut (bytes "live: question ") 0 d m d' → QuestionPut (wordsOf n) m d' r d'' → QuestionPut (lineOf n) 0 d r d''
 unfolding lineOf
 line-put n g h = put-then g h

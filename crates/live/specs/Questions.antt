@@ -47,7 +47,7 @@ abbrev pub lineMost : ℕ
 lineMost = 96
 
 -- the text t stands from place `at` on, behind what stood before it, up to place n
-pub record Put (t : List ℕ) (at : ℕ) (d : List ℕ) (n : ℕ) (d' : List ℕ) : Type 0 where
+pub record QuestionPut (t : List ℕ) (at : ℕ) (d : List ℕ) (n : ℕ) (d' : List ℕ) : Type 0 where
   pub text : take n d' ≡ take at d ++ t
   pub end : n ≡ at + length t
   pub fits : n ≤ length d'

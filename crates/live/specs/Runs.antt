@@ -7,13 +7,13 @@ use Rattle.rules.specs.Program.{limits}
 use Rattle.rules.specs.Frames.{analyze, live}
 use Rattle.printing.specs.declared.Told.{Told}
 use Rattle.printing.specs.declared.Told.the-variants.{Answered, Refused, Stopped}
-use Rattle.printing.specs.Sent.{numberIn, Tells}
+use Rattle.printing.specs.Sent.{numberIn, SentTells}
 use Rattle.live.specs.declared.Ran.{Ran}
 use Rattle.live.specs.declared.Ran.the-variants.{Answer, Unread}
 
 -- n bytes were read into d, and the frames of just these are told
 abbrev pub Runs : List ℕ → Ran → Type 0
-Runs d (Answer n t) = (n ≤ length d) × Tells (numberIn (analyze limits (take n d))) (live (take n d)) t
+Runs d (Answer n t) = (n ≤ length d) × SentTells (numberIn (analyze limits (take n d))) (live (take n d)) t
 Runs d Unread = Unit {0}
 
 -- a refusal has the number of a question

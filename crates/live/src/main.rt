@@ -8,7 +8,7 @@ ghost use Prim.Native.Nat.{_+_, _≤_};
 ghost use lib.ListN.{length};
 ghost use Rattle.rules.specs.Program.{limits};
 ghost use Rattle.live.specs.Runs.{Runs, Numbered};
-ghost use Rattle.live.specs.Questions.{wordsOf, lineOf, lineMost, wordsMost, Put};
+ghost use Rattle.live.specs.Questions.{wordsOf, lineOf, lineMost, wordsMost, QuestionPut};
 
 // How many bytes were read and what was written of their script, or that they couldn't be read.
 enum Ran {
@@ -35,7 +35,7 @@ fn run(script: &mut [u8]) -> Ran
 // A text from a place on, and the place behind it.
 fn put(text: &[u8], out: &mut [u8], at: usize) -> usize
     requires { ⌜ at + length (now text) ≤ length (now out) ⌝ }
-    ensures { λ r. ⌜ Put (now (text .entry)) at (now (out .entry)) r (now (out .exit)) ⌝ }
+    ensures { λ r. ⌜ QuestionPut (now (text .entry)) at (now (out .entry)) r (now (out .exit)) ⌝ }
 {
     let mut i = 0;
     while i < text.len() {
@@ -49,7 +49,7 @@ fn put(text: &[u8], out: &mut [u8], at: usize) -> usize
 fn put_words(n: u8, out: &mut [u8], at: usize) -> usize
     requires { ⌜ (1 ≤ n) × (n ≤ 20) ⌝ }
     requires { ⌜ at + wordsMost ≤ length (now out) ⌝ }
-    ensures { λ r. ⌜ Put (wordsOf n) at (now (out .entry)) r (now (out .exit)) ⌝ }
+    ensures { λ r. ⌜ QuestionPut (wordsOf n) at (now (out .entry)) r (now (out .exit)) ⌝ }
 {
     match n {
         1 => put(b"1: is the script at most 16384 bytes long?\n", out, at),
@@ -102,7 +102,7 @@ fn put_words(n: u8, out: &mut [u8], at: usize) -> usize
 fn put_line(n: u8, out: &mut [u8]) -> usize
     requires { ⌜ (1 ≤ n) × (n ≤ 20) ⌝ }
     requires { ⌜ lineMost ≤ length (now out) ⌝ }
-    ensures { λ r. ⌜ Put (lineOf n) 0 (now (out .entry)) r (now (out .exit)) ⌝ }
+    ensures { λ r. ⌜ QuestionPut (lineOf n) 0 (now (out .entry)) r (now (out .exit)) ⌝ }
 {
     let named = put(b"live: question ", out, 0);
     put_words(n, out, named)

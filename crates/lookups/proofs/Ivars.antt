@@ -17,7 +17,7 @@ use Rattle.rules.specs.Program.{ivarNamed}
 use Rattle.rules.specs.Reading.{withProgram, pushIvar}
 use Rattle.program.specs.Tab.{tab}
 use Rattle.program.specs.Rows.{size, blocksAt, classesAt, ivarsAt, nameIn, classAt, ivarAt, ivarsOf}
-use Rattle.program.specs.View.{view, classesOf, Ready, Small}
+use Rattle.program.specs.View.{programView, classesOf, ProgramReady, Small}
 use Rattle.program.specs.declared.Counts.{Counts}
 use Rattle.program.specs.declared.Limits.{Limits}
 use Rattle.program.specs.declared.Name.{Name}
@@ -55,7 +55,7 @@ ivar-put m k j n long hk hj =
 abbrev none-of : Counts → Counts
 none-of c = record { functions = c .functions; classes = 0; blocks = c .blocks; insns = c .insns; opnds = c .opnds; listed = c .listed }
 
-module _ {m m' : List ℕ} {c : Counts} {k : ℕ} (n : Name) (r : Ready m c) (hk : k < c .classes) (few : ivarsOf m k < 64) (p : PutsIvar k (ivarsOf m k) n m m') where
+module _ {m m' : List ℕ} {c : Counts} {k : ℕ} (n : Name) (r : ProgramReady m c) (hk : k < c .classes) (few : ivarsOf m k < 64) (p : PutsIvar k (ivarsOf m k) n m m') where
   -- a word outside of the two tables, and one of another class
   apart : (i : ℕ) → i < classesAt → getD m' i 0 ≡ getD m i 0
   apart i h = p .other i (λ z. omega arith) (λ z. omega arith) (λ z. omega (arith, r .classes))
@@ -77,7 +77,7 @@ module _ {m m' : List ℕ} {c : Counts} {k : ℕ} (n : Name) (r : Ready m c) (hk
             )),
       )
 
-  new-class : (s : List ℕ) → classAt s m' k ≡ record { name = P.class (view s m c) k .name; ivars = P.class (view s m c) k .ivars ++ nameIn s n ∷ [] }
+  new-class : (s : List ℕ) → classAt s m' k ≡ record { name = P.class (programView s m c) k .name; ivars = P.class (programView s m c) k .ivars ++ nameIn s n ∷ [] }
   unfolding classAt
   new-class s =
       let most = r .classes in
@@ -101,13 +101,13 @@ module _ {m m' : List ℕ} {c : Counts} {k : ℕ} (n : Name) (r : Ready m c) (hk
 
   new-classes : (s : List ℕ)
       → classesOf s m' (c .classes)
-      ≡ set (classesOf s m (c .classes)) k (record { name = P.class (view s m c) k .name; ivars = P.class (view s m c) k .ivars ++ nameIn s n ∷ [] })
+      ≡ set (classesOf s m (c .classes)) k (record { name = P.class (programView s m c) k .name; ivars = P.class (programView s m c) k .ivars ++ nameIn s n ∷ [] })
   unfolding classesOf
   new-classes s =
       tab-set (classAt s m) (classAt s m') (c .classes) k hk (old-class s) ∙ ap (set (tab (classAt s m) (c .classes)) k) (new-class s)
 
   -- the other tables
-  rest-ready : Ready m (none-of c)
+  rest-ready : ProgramReady m (none-of c)
   rest-ready =
       record {
         len-mem = r .len-mem;
@@ -120,8 +120,8 @@ module _ {m m' : List ℕ} {c : Counts} {k : ℕ} (n : Name) (r : Ready m c) (hk
         ivars = λ d h. absurd (omega arith);
         ranges = r .ranges;
         inside = r .inside;
-        flags = λ s b h. r .flags s b h ∙ ap bitOf (terminated-same (view s m c) (view s m (none-of c)) b refl);
-        listing = λ s. r .listing s ∙ listed-same (view s m c) (view s m (none-of c)) refl;
+        flags = λ s b h. r .flags s b h ∙ ap bitOf (terminated-same (programView s m c) (programView s m (none-of c)) b refl);
+        listing = λ s. r .listing s ∙ listed-same (programView s m c) (programView s m (none-of c)) refl;
         firsts = λ d h. absurd (omega arith);
       }
 
@@ -141,14 +141,14 @@ module _ {m m' : List ℕ} {c : Counts} {k : ℕ} (n : Name) (r : Ready m c) (hk
         ivars = λ d a z. absurd (omega arith);
       }
 
-  same-instructions : (s : List ℕ) → view s m' c .instructions ≡ view s m c .instructions
+  same-instructions : (s : List ℕ) → programView s m' c .instructions ≡ programView s m c .instructions
   same-instructions s = instructions-keep rest-ready rest-keeps s
 
   ivar-view : (s : List ℕ)
-      → view s m' c
+      → programView s m' c
       ≡ P.withClasses
-      (set (classesOf s m (c .classes)) k (record { name = P.class (view s m c) k .name; ivars = P.class (view s m c) k .ivars ++ nameIn s n ∷ [] }))
-      (view s m c)
+      (set (classesOf s m (c .classes)) k (record { name = P.class (programView s m c) k .name; ivars = P.class (programView s m c) k .ivars ++ nameIn s n ∷ [] }))
+      (programView s m c)
   ivar-view s =
       λ i.
       record {
@@ -158,7 +158,7 @@ module _ {m m' : List ℕ} {c : Counts} {k : ℕ} (n : Name) (r : Ready m c) (hk
         instructions = same-instructions s i;
       }
 
-  ivar-ready : Ready m' c
+  ivar-ready : ProgramReady m' c
   ivar-ready =
       record {
         len-mem = rw (p .len-same) (r .len-mem);
@@ -177,8 +177,8 @@ module _ {m m' : List ℕ} {c : Counts} {k : ℕ} (n : Name) (r : Ready m c) (hk
         inside = λ i h. rw (insn-keep rest-ready rest-keeps i h) (r .inside i h);
         flags = λ s b h.
             apart (blocksAt + 2 * b + 1) (omega (arith, r .blocks)) ∙ r .flags s b h
-            ∙ ap bitOf (sym (terminated-same (view s m' c) (view s m c) b (same-instructions s)));
-        listing = λ s. r .listing s ∙ sym (listed-same (view s m' c) (view s m c) (same-instructions s));
+            ∙ ap bitOf (sym (terminated-same (programView s m' c) (programView s m c) b (same-instructions s)));
+        listing = λ s. r .listing s ∙ sym (listed-same (programView s m' c) (programView s m c) (same-instructions s));
         firsts = λ d h.
             rw (p .other (classesAt + 4 * d + 3) (λ z. omega (arith, r .classes)) (λ z. omega (arith, r .classes)) (λ z. omega arith))
             (owns-same (fun-keep rest-ready rest-keeps) (r .firsts d h));
@@ -189,23 +189,23 @@ module _ {m m' : List ℕ} {c : Counts} {k : ℕ} (n : Name) (r : Ready m c) (hk
 has-some : {o : Option ℕ} {j : ℕ} → o ≡ some j → has o ≡ true
 has-some e = rw e
 
-count-is : (s m : List ℕ) (c : Counts) (k : ℕ) → k < c .classes → length (P.class (view s m c) k .ivars) ≡ ivarsOf m k
+count-is : (s m : List ℕ) (c : Counts) (k : ℕ) → k < c .classes → length (P.class (programView s m c) k .ivars) ≡ ivarsOf m k
 count-is s m c k h = ap length (ivars-are s m c k h) ∙ tab-length (ivarRow s m k) (ivarsOf m k)
 
-module _ (l : Limits) (s m : List ℕ) (c : Counts) (k : ℕ) (n : Name) {q : FoundIvar} (found : ivarFound q ≡ ivarNamed (view s m c) k (nameIn s n)) where
+module _ (l : Limits) (s m : List ℕ) (c : Counts) (k : ℕ) (n : Name) {q : FoundIvar} (found : ivarFound q ≡ ivarNamed (programView s m c) k (nameIn s n)) where
   pub ivar-taken : {j : ℕ} → q ≡ At j → Declares l k n s m c m (Refused 7)
   unfolding pushIvar
   ivar-taken e = record { is = λ r. rw (has-some (sym found ∙ ap ivarFound e)); ok = tt }
 
   module _ (e : q ≡ Nothing) (hk : k < c .classes) where
-    free : has (ivarNamed (view s m c) k (nameIn s n)) ≡ false
+    free : has (ivarNamed (programView s m c) k (nameIn s n)) ≡ false
     free = ap (has {A = ℕ}) (sym found ∙ ap ivarFound e)
 
     pub ivar-full : l .ivars ≤ ivarsOf m k → Declares l k n s m c m (Refused 11)
     unfolding pushIvar
     ivar-full h = record { is = λ r. rw (free, count-is s m c k hk, le-ltb (ivarsOf m k) (l .ivars) h); ok = tt }
 
-    pub ivar-done : {m' : List ℕ} → Ready m c → Small l → ivarsOf m k < l .ivars → PutsIvar k (ivarsOf m k) n m m' → Declares l k n s m c m' Done
+    pub ivar-done : {m' : List ℕ} → ProgramReady m c → Small l → ivarsOf m k < l .ivars → PutsIvar k (ivarsOf m k) n m m' → Declares l k n s m c m' Done
     unfolding pushIvar
     ivar-done ready small h p =
         let few : ivarsOf m k < 64 = omega (arith, small .ivars) in

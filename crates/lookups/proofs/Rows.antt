@@ -8,16 +8,16 @@ use native.Mathlib.Omega.{arith}
 use lib.Dec.{eqb}
 use lib.ListN.{getD, take}
 use Rattle.kinds.specs.Kinds.{bitOf}
-use Rattle.sets.specs.declared.ClassId.{ClassId}
-use Rattle.sets.proofs.Bits.{Either, yes, no, either}
-use Rattle.words.specs.Names.{name}
+use Rattle.ids.specs.declared.ClassId.{ClassId}
+use Rattle.ids.proofs.Bits.{Either, yes, no, either}
+use Rattle.lexer.specs.Names.{name}
 use Rattle.rules.specs.Lists.{same, isJust, orElse, places, first, final, bytes}
 use Rattle.rules.specs.Program as P
 use Rattle.rules.specs.Program.{terminated, functionNamed, methodNamed, ivarNamed, mainFunction}
 use Rattle.rules.specs.Reading.{classNamed}
 use Rattle.program.specs.Tab.{tab}
 use Rattle.program.specs.Rows.{nameIn, ownerIn, ownerFrom, funAt, functionIn, classAt, ivarsOf, flagAt}
-use Rattle.program.specs.View.{view, functionsOf, classesOf, OwnsFrom, Ready, ReadsFun}
+use Rattle.program.specs.View.{programView, functionsOf, classesOf, OwnsFrom, ProgramReady, ReadsFun}
 use Rattle.program.specs.declared.Counts.{Counts}
 use Rattle.program.specs.declared.Name.{Name}
 use Rattle.program.specs.declared.Function.{Function}
@@ -25,8 +25,8 @@ use Rattle.program.specs.declared.Owner.{Owner}
 use Rattle.program.specs.declared.Owner.the-variants.{Class, Nobody}
 use Rattle.program.proofs.Tables.{tab-at, tab-take}
 use Rattle.program.proofs.Viewing.{classes-length}
-use Rattle.lookups.specs.Look.{funRow, ivarRow, isFun, isMethod, isMain, isClass, isIvar, Known, Constructs, Tells, classFound}
-use Rattle.words.proofs.Texts.{same-eq, and-right}
+use Rattle.lookups.specs.Look.{funRow, ivarRow, isFun, isMethod, isMain, isClass, isIvar, LookKnown, Constructs, LookTells, classFound}
+use Rattle.lexer.proofs.Texts.{same-eq, and-right}
 use Rattle.lookups.specs.declared.Constructor.the-variants as K
 use Rattle.lookups.specs.declared.FoundClass.{FoundClass}
 use Rattle.lookups.specs.declared.FoundClass.the-variants as C
@@ -92,25 +92,25 @@ methods-from s {m} {l} {k} {i} n o =
     go j h (no e) = rw e
 
 module _ (s m : List ℕ) (c : Counts) (n : Name) {i : ℕ} (g : Latest (isFun (nameIn s n)) (funRow s m) (c .functions) i) where
-  as-latest : {x : Option ℕ} → x ≡ final (places (isFun (nameIn s n)) (tab (funRow s m) (c .functions))) → x ≡ functionNamed (view s m c) (nameIn s n)
+  as-latest : {x : Option ℕ} → x ≡ final (places (isFun (nameIn s n)) (tab (funRow s m) (c .functions))) → x ≡ functionNamed (programView s m c) (nameIn s n)
   unfolding functionNamed functionsOf isFun funRow
   as-latest e = e
 
-  pub fun-none : i ≤ 0 → none ≡ functionNamed (view s m c) (nameIn s n)
+  pub fun-none : i ≤ 0 → none ≡ functionNamed (programView s m c) (nameIn s n)
   fun-none h = as-latest (latest-none (isFun (nameIn s n)) (funRow s m) g h)
 
-  pub fun-hit : {r : Bool} → 0 < i → r ≡ isFun (nameIn s n) (funRow s m (i - 1)) → r ≡ true → some (i - 1) ≡ functionNamed (view s m c) (nameIn s n)
+  pub fun-hit : {r : Bool} → 0 < i → r ≡ isFun (nameIn s n) (funRow s m (i - 1)) → r ≡ true → some (i - 1) ≡ functionNamed (programView s m c) (nameIn s n)
   fun-hit h e q = as-latest (latest-hit (isFun (nameIn s n)) (funRow s m) g h e q)
 
 module _ (s m : List ℕ) (c : Counts) (k : ℕ) (n : List ℕ) {i : ℕ} (g : First (isMethod k n) (funRow s m) (c .functions) i) where
-  as-first : {x : Option ℕ} → x ≡ first (places (isMethod k n) (tab (funRow s m) (c .functions))) → x ≡ methodNamed (view s m c) k n
+  as-first : {x : Option ℕ} → x ≡ first (places (isMethod k n) (tab (funRow s m) (c .functions))) → x ≡ methodNamed (programView s m c) k n
   unfolding methodNamed functionsOf isMethod funRow
   as-first e = e
 
-  pub methods-none : c .functions ≤ i → none ≡ methodNamed (view s m c) k n
+  pub methods-none : c .functions ≤ i → none ≡ methodNamed (programView s m c) k n
   methods-none h = as-first (first-none (isMethod k n) (funRow s m) g h)
 
-  pub methods-hit : {r : Bool} → i < c .functions → r ≡ isMethod k n (funRow s m i) → r ≡ true → some i ≡ methodNamed (view s m c) k n
+  pub methods-hit : {r : Bool} → i < c .functions → r ≡ isMethod k n (funRow s m i) → r ≡ true → some i ≡ methodNamed (programView s m c) k n
   methods-hit h e q = as-first (first-hit (isMethod k n) (funRow s m) g h e q)
 
 module _ (s m : List ℕ) (c : Counts) (k : ℕ) {i : ℕ} (g : First (isMethod k (bytes "initialize")) (funRow s m) (c .functions) i) where
@@ -122,14 +122,14 @@ module _ (s m : List ℕ) (c : Counts) (k : ℕ) {i : ℕ} (g : First (isMethod 
   constructs-hit h e q f = record { is = methods-hit s m c k (bytes "initialize") g h e q; named = method-name s m i f (bytes "initialize") k e q }
 
 module _ (s m : List ℕ) (c : Counts) {i : ℕ} (g : Latest isMain (funRow s m) (c .functions) i) where
-  as-main : {x : Option ℕ} → x ≡ final (places isMain (tab (funRow s m) (c .functions))) → orElse x 0 ≡ mainFunction (view s m c)
+  as-main : {x : Option ℕ} → x ≡ final (places isMain (tab (funRow s m) (c .functions))) → orElse x 0 ≡ mainFunction (programView s m c)
   unfolding mainFunction functionsOf isMain funRow
   as-main e = ap (λ (x : Option ℕ). orElse x 0) e
 
-  pub main-none : i ≤ 0 → 0 ≡ mainFunction (view s m c)
+  pub main-none : i ≤ 0 → 0 ≡ mainFunction (programView s m c)
   main-none h = as-main (latest-none isMain (funRow s m) g h)
 
-  pub main-hit : {r : Bool} → 0 < i → r ≡ isMain (funRow s m (i - 1)) → r ≡ true → i - 1 ≡ mainFunction (view s m c)
+  pub main-hit : {r : Bool} → 0 < i → r ≡ isMain (funRow s m (i - 1)) → r ≡ true → i - 1 ≡ mainFunction (programView s m c)
   main-hit h e q = as-main (latest-hit isMain (funRow s m) g h e q)
 
 -- ---- classes
@@ -145,7 +145,7 @@ known-all c e = rw e (omega arith)
 
 module _ (s m : List ℕ) (c : Counts) (k : Owner) (n : Name) {most i : ℕ} (e : most ≡ min (orElse (ownerIn k) (c .classes)) (c .classes))
     (g : Latest (isClass (nameIn s n)) (classAt s m) most i) where
-  as-known : (r : FoundClass) → classFound r ≡ final (places (isClass (nameIn s n)) (tab (classAt s m) most)) → Known s m c k n r
+  as-known : (r : FoundClass) → classFound r ≡ final (places (isClass (nameIn s n)) (tab (classAt s m) most)) → LookKnown s m c k n r
   unfolding classNamed classesOf isClass
   as-known r x =
       record {
@@ -161,37 +161,37 @@ module _ (s m : List ℕ) (c : Counts) (k : Owner) (n : Name) {most i : ℕ} (e 
             ∙ tab-take (classAt s m) (c .classes) (min all (c .classes)) (omega arith)));
       }
 
-  pub class-none : i ≤ 0 → Known s m c k n C.Nothing
+  pub class-none : i ≤ 0 → LookKnown s m c k n C.Nothing
   class-none h = as-known C.Nothing (latest-none (isClass (nameIn s n)) (classAt s m) g h)
 
-  pub class-hit : {r : Bool} → 0 < i → r ≡ isClass (nameIn s n) (classAt s m (i - 1)) → r ≡ true → Known s m c k n (C.At (record { 0 = i - 1 }))
+  pub class-hit : {r : Bool} → 0 < i → r ≡ isClass (nameIn s n) (classAt s m (i - 1)) → r ≡ true → LookKnown s m c k n (C.At (record { 0 = i - 1 }))
   class-hit h q t = as-known (C.At (record { 0 = i - 1 })) (latest-hit (isClass (nameIn s n)) (classAt s m) g h q t)
 
 -- ---- attributes
 
-pub class-is : (s m : List ℕ) (c : Counts) (k : ℕ) → k < c .classes → P.class (view s m c) k ≡ classAt s m k
+pub class-is : (s m : List ℕ) (c : Counts) (k : ℕ) → k < c .classes → P.class (programView s m c) k ≡ classAt s m k
 unfolding classesOf
 class-is s m c k h = tab-at (classAt s m) (c .classes) k P.builtIn h
 
-pub ivars-are : (s m : List ℕ) (c : Counts) (k : ℕ) → k < c .classes → P.class (view s m c) k .ivars ≡ tab (ivarRow s m k) (ivarsOf m k)
+pub ivars-are : (s m : List ℕ) (c : Counts) (k : ℕ) → k < c .classes → P.class (programView s m c) k .ivars ≡ tab (ivarRow s m k) (ivarsOf m k)
 unfolding classAt ivarRow
 ivars-are s m c k h = ap (λ (x : P.Class). x .ivars) (class-is s m c k h)
 
 module _ (s m : List ℕ) (c : Counts) (k : ℕ) (n : Name) {i : ℕ} (h : k < c .classes) (g : First (isIvar (nameIn s n)) (ivarRow s m k) (ivarsOf m k) i) where
-  as-ivar : {x : Option ℕ} → x ≡ first (places (isIvar (nameIn s n)) (tab (ivarRow s m k) (ivarsOf m k))) → x ≡ ivarNamed (view s m c) k (nameIn s n)
+  as-ivar : {x : Option ℕ} → x ≡ first (places (isIvar (nameIn s n)) (tab (ivarRow s m k) (ivarsOf m k))) → x ≡ ivarNamed (programView s m c) k (nameIn s n)
   unfolding ivarNamed isIvar
   as-ivar e = e ∙ ap (λ (l : List (List ℕ)). first (places (isIvar (nameIn s n)) l)) (sym (ivars-are s m c k h))
 
-  pub ivar-none : ivarsOf m k ≤ i → none ≡ ivarNamed (view s m c) k (nameIn s n)
+  pub ivar-none : ivarsOf m k ≤ i → none ≡ ivarNamed (programView s m c) k (nameIn s n)
   ivar-none p = as-ivar (first-none (isIvar (nameIn s n)) (ivarRow s m k) g p)
 
-  pub ivar-hit : {r : Bool} → i < ivarsOf m k → r ≡ isIvar (nameIn s n) (ivarRow s m k i) → r ≡ true → some i ≡ ivarNamed (view s m c) k (nameIn s n)
+  pub ivar-hit : {r : Bool} → i < ivarsOf m k → r ≡ isIvar (nameIn s n) (ivarRow s m k i) → r ≡ true → some i ≡ ivarNamed (programView s m c) k (nameIn s n)
   ivar-hit p e q = as-ivar (first-hit (isIvar (nameIn s n)) (ivarRow s m k) g p e q)
 
 -- ---- blocks
 
-pub tells-is : {m : List ℕ} {c : Counts} (b : ℕ) → Ready m c → b < c .blocks → Tells m c b (not (eqb (getD m (36864 + 2 * b + 1) 0) 0))
-tells-is {m = m} {c = c} b r h = record { is = λ s. go (terminated (view s m c) b) (r .flags s b h) }
+pub tells-is : {m : List ℕ} {c : Counts} (b : ℕ) → ProgramReady m c → b < c .blocks → LookTells m c b (not (eqb (getD m (36864 + 2 * b + 1) 0) 0))
+tells-is {m = m} {c = c} b r h = record { is = λ s. go (terminated (programView s m c) b) (r .flags s b h) }
   where
     go : (t : Bool) → flagAt m b ≡ bitOf t → not (eqb (flagAt m b) 0) ≡ t
     go true e = rw e

@@ -15,7 +15,7 @@ use Rattle.program.specs.declared.Owner.{Owner}
 use Rattle.program.specs.declared.Limits.{Limits}
 use Rattle.program.specs.declared.Counts.{Counts}
 use Rattle.program.specs.Rows.{classesAt, ivarsAt, nameIn, ownerIn, funAt, functionIn, ivarAt, ivarsOf}
-use Rattle.program.specs.View.{view, Ready, limitsOf}
+use Rattle.program.specs.View.{programView, ProgramReady, limitsOf}
 use Rattle.lookups.specs.declared.FoundFun.{FoundFun}
 use Rattle.lookups.specs.declared.FoundFun.the-variants as F
 use Rattle.lookups.specs.declared.Constructor.{Constructor}
@@ -66,8 +66,8 @@ unfoldable pub isIvar : List ℕ → List ℕ → 𝔹
 isIvar n m = same m n
 
 -- the class being read is not yet known
-pub record Known (s m : List ℕ) (c : Counts) (k : Owner) (n : Name) (r : FoundClass) : Type 0 where
-  pub is : (p : Parser) → classFound r ≡ classNamed (withClass (ownerIn k) (withProgram (view s m c) p)) (nameIn s n)
+pub record LookKnown (s m : List ℕ) (c : Counts) (k : Owner) (n : Name) (r : FoundClass) : Type 0 where
+  pub is : (p : Parser) → classFound r ≡ classNamed (withClass (ownerIn k) (withProgram (programView s m c) p)) (nameIn s n)
 
 -- a constructor is found with the place of its name
 abbrev pub IsNamed : List ℕ → Constructor → Type 0
@@ -75,12 +75,12 @@ IsNamed s (K.At f n) = nameIn s n ≡ bytes "initialize"
 IsNamed s K.Nothing = Unit {0}
 
 pub record Constructs (s m : List ℕ) (c : Counts) (k : ℕ) (r : Constructor) : Type 0 where
-  pub is : constructorFound r ≡ constructorOf (view s m c) k
+  pub is : constructorFound r ≡ constructorOf (programView s m c) k
   pub named : IsNamed s r
 
 -- question 10's test
-pub record Tells (m : List ℕ) (c : Counts) (b : ℕ) (r : 𝔹) : Type 0 where
-  pub is : (s : List ℕ) → r ≡ terminated (view s m c) b
+pub record LookTells (m : List ℕ) (c : Counts) (b : ℕ) (r : 𝔹) : Type 0 where
+  pub is : (s : List ℕ) → r ≡ terminated (programView s m c) b
 
 -- an attribute's name stands at place j of class k, and the class has one attribute more
 pub record PutsIvar (k j : ℕ) (n : Name) (m m' : List ℕ) : Type 0 where
@@ -91,13 +91,13 @@ pub record PutsIvar (k j : ℕ) (n : Name) (m m' : List ℕ) : Type 0 where
   pub count : ivarsOf m' k ≡ j + 1
 
 abbrev pub declares : List ℕ → List ℕ → Counts → Declared → Parser → Answer (Unit {0} × Parser)
-declares s m c Done r = answered (tt, withProgram (view s m c) r)
+declares s m c Done r = answered (tt, withProgram (programView s m c) r)
 declares s m c (Refused e) r = refused e
 
-abbrev pub ReadyIf : List ℕ → Counts → Declared → Type 0
-ReadyIf m c Done = Ready m c
-ReadyIf m c (Refused e) = Unit {0}
+abbrev pub LookReadyIf : List ℕ → Counts → Declared → Type 0
+LookReadyIf m c Done = ProgramReady m c
+LookReadyIf m c (Refused e) = Unit {0}
 
 pub record Declares (l : Limits) (k : ℕ) (n : Name) (s m : List ℕ) (c : Counts) (m' : List ℕ) (d : Declared) : Type 0 where
-  pub is : (r : Parser) → declares s m' c d r ≡ pushIvar (limitsOf l) k (nameIn s n) (withProgram (view s m c) r)
-  pub ok : ReadyIf m' c d
+  pub is : (r : Parser) → declares s m' c d r ≡ pushIvar (limitsOf l) k (nameIn s n) (withProgram (programView s m c) r)
+  pub ok : LookReadyIf m' c d

@@ -1,4 +1,6 @@
 // Lent memory, and clearing it.
+pub mod tables;
+
 ghost use mathlib.Core.Path.{_≡_};
 ghost use lib.ListN.{length};
 ghost use Rattle.memory.specs.Memory.{zeros};

@@ -1,3 +1,2 @@
+pub mod Tops
 pub mod Laws
-pub mod Wording
-pub mod Leaves

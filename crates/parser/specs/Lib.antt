@@ -1,3 +1,2 @@
-pub mod Cursor
-pub mod Steps
-pub mod Promises
+pub mod classes
+pub mod Outcomes

@@ -15,13 +15,13 @@ use Rattle.rules.specs.Program.{limits}
 use Rattle.rules.specs.Frames.{Analysis, analyze, frames, refusalFrame, live}
 use Rattle.answer.specs.Layout.{answerLen}
 use Rattle.answer.proofs.Answered.{answer-published}
-use Rattle.frames.specs.declared.Cursor.{Cursor}
-use Rattle.frames.specs.declared.Cursor.the-variants.{Totals, Block, Instruction, Use, Caller, Done}
+use Rattle.frames.specs.declared.NextFrame.{NextFrame}
+use Rattle.frames.specs.declared.NextFrame.the-variants.{Totals, Block, Instruction, Use, Caller, Done}
 use Rattle.frames.specs.Text.{restOf, moreOf, leftOf}
 use Rattle.frames.proofs.Frames.{image-frames}
 use Rattle.call.specs.declared.Outcome.{Outcome}
 use Rattle.call.specs.declared.Outcome.the-variants.{Answered as Yes, Refused as No}
-use Rattle.call.specs.Call.{programLen, stateLen, numberOf, Lent, Left, lent, left, longEnough, after}
+use Rattle.call.specs.Call.{programLen, stateLen, numberOf, Lent, CallLeft, lent, left, longEnough, after}
 use Rattle.call.proofs.Facts as Facts
 use Rattle.call.proofs.Written.{refusal-frame}
 use Rattle.printing.specs.declared.Piece.{Piece}
@@ -29,11 +29,11 @@ use Rattle.printing.specs.declared.Sent.{Sent}
 use Rattle.printing.specs.declared.Sent.the-variants.{All, Part}
 use Rattle.printing.specs.declared.Told.{Told}
 use Rattle.printing.specs.declared.Told.the-variants.{Answered, Refused, Stopped}
-use Rattle.printing.specs.Sent.{Handed, Sends, numberIn, Tells}
+use Rattle.printing.specs.Sent.{Handed, Sends, numberIn, SentTells}
 
 -- ---- the loop of `write_frames`: what was handed over, with what is left at the cursor, is all
 
-pub record Sending (a out : List ℕ) (c : Cursor) (done : ℕ) : Type 0 where
+pub record Sending (a out : List ℕ) (c : NextFrame) (done : ℕ) : Type 0 where
   pub all : done + length (restOf a c) ≡ length (restOf a Totals)
   pub few : done + 65536 * leftOf c ≤ 65536 * leftOf Totals
   pub room : length out ≡ 65536
@@ -41,7 +41,7 @@ pub record Sending (a out : List ℕ) (c : Cursor) (done : ℕ) : Type 0 where
 pub sending-start : (a out : List ℕ) → 65536 ≡ length out → Sending a out Totals 0
 sending-start a out e = record { all = omega arith; few = omega arith; room = sym e }
 
-module _ {a out : List ℕ} {c : Cursor} {done : ℕ} (g : Sending a out c done) where
+module _ {a out : List ℕ} {c : NextFrame} {done : ℕ} (g : Sending a out c done) where
   module _ {p : Piece} {out' : List ℕ} (h : Handed a c out p out') where
     piece-all : p .len + length (restOf a (p .next)) ≡ length (restOf a c)
     piece-all = omega (arith, ap length (h .piece .text), length-append (take (p .len) out') (restOf a (p .next)), h .piece .count)
@@ -69,7 +69,7 @@ module _ {a out : List ℕ} {c : Cursor} {done : ℕ} (g : Sending a out c done)
       never : {A : Type 0} → true ≡ false → A
       never e = let z : _≡_ {A = ℕ} 0 1 = cc in absurd (omega arith)
 
-      go : (c : Cursor) → moreOf c ≡ false → done + length (restOf a c) ≡ length (restOf a Totals) → done ≡ length (restOf a Totals)
+      go : (c : NextFrame) → moreOf c ≡ false → done + length (restOf a c) ≡ length (restOf a Totals) → done ≡ length (restOf a Totals)
       go Totals e h = never e
       go (Block b) e h = never e
       go (Instruction i) e h = never e
@@ -92,7 +92,7 @@ module _ (s a p w : List ℕ) {a' p' w' : List ℕ} (x : Outcome) (la : length a
   long = rw (le-leb answerLen (length a) (omega arith), le-leb programLen (length p) (omega arith), le-leb stateLen (length w) (omega arith))
 
   number : after s (lent a p w) .number ≡ numberOf x
-  number = ap (λ (l : Left). l .number) e
+  number = ap (λ (l : CallLeft). l .number) e
 
   -- the rules' number
   same : (y : Answer Analysis) → Facts.numberIn s (lent a p w) y ≡ numberIn y
@@ -102,19 +102,19 @@ module _ (s a p w : List ℕ) {a' p' w' : List ℕ} (x : Outcome) (la : length a
   rules-number : numberOf x ≡ numberIn (analyze limits s)
   rules-number = sym number ∙ Facts.number-is s (lent a p w) long ∙ same (analyze limits s)
 
-  pub answer-told : (r : Told) → x ≡ Yes → length a' ≡ answerLen → Tells none (restOf a' Totals) r → Tells (numberIn (analyze limits s)) (live s) r
+  pub answer-told : (r : Told) → x ≡ Yes → length a' ≡ answerLen → SentTells none (restOf a' Totals) r → SentTells (numberIn (analyze limits s)) (live s) r
   unfolding live
   answer-told r q l g =
       let z = Facts.answered-exactly s (lent a p w) (number ∙ ap numberOf q) in
       let u = answer-published s (z .0) (z .1 .is) in
       let i : analyze limits s ≡ answered (z .0) = z .1 .is in
       let h : a' ≡ take answerLen (after s (lent a p w) .lent .answer) =
-      sym (take-all answerLen a' (omega arith)) ∙ sym (ap (λ (l : Left). take answerLen (l .lent .answer)) e) in
+      sym (take-all answerLen a' (omega arith)) ∙ sym (ap (λ (l : CallLeft). take answerLen (l .lent .answer)) e) in
       let f : restOf a' Totals ≡ frames (z .0 .program) (z .0 .state) =
       ap (λ (m : List ℕ). restOf m Totals) (h ∙ z .1 .held) ∙ image-frames (z .0 .program) (z .0 .state) (u .shaped) (u .legal) in
       rw (i, ← f) g
 
-  pub refusal-told : (r : Told) {n : ℕ} → x ≡ No n → Tells (some n) (refusalFrame n) r → Tells (numberIn (analyze limits s)) (live s) r
+  pub refusal-told : (r : Told) {n : ℕ} → x ≡ No n → SentTells (some n) (refusalFrame n) r → SentTells (numberIn (analyze limits s)) (live s) r
   refusal-told r {n} q g =
       let f : refusalFrame n ≡ live s = refusal-frame s (lent a p w) n long (number ∙ ap numberOf q) in
       let k : numberIn (analyze limits s) ≡ some n = sym rules-number ∙ ap numberOf q in

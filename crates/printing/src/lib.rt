@@ -1,6 +1,6 @@
 // Frames on standard output.
 use call::Outcome;
-use frames::Cursor;
+use frames::NextFrame;
 use libc::STDOUT_FILENO;
 ghost use mathlib.Core.Path.{_≡_};
 ghost use mathlib.Core.Option.{none, some};
@@ -10,11 +10,11 @@ ghost use Rattle.rules.specs.Program.{limits};
 ghost use Rattle.rules.specs.Frames.{refusalFrame, analyze, live};
 ghost use Rattle.answer.specs.Layout.{answerLen};
 ghost use Rattle.frames.specs.Text.{lineMost, restOf};
-ghost use Rattle.printing.specs.Sent.{Handed, Sends, numberIn, Tells};
+ghost use Rattle.printing.specs.Sent.{Handed, Sends, numberIn, SentTells};
 
 // A piece of the frames: the next frame behind it, its length, and how many of its bytes the output took.
 pub struct Piece {
-    pub next: Cursor,
+    pub next: NextFrame,
     pub len: usize,
     pub taken: usize,
 }
@@ -33,7 +33,7 @@ pub enum Told {
 }
 
 // Writes the frames from a cursor on, as many as the buffer holds.
-fn write_some(answer: &[usize], from: Cursor, out: &mut [u8]) -> Piece
+fn write_some(answer: &[usize], from: NextFrame, out: &mut [u8]) -> Piece
     requires { ⌜ length (now answer) ≡ answerLen ⌝ }
     requires { ⌜ lineMost ≤ length (now out) ⌝ }
     ensures { λ r. ⌜ Handed (now (answer .entry)) from (now (out .entry)) r (now (out .exit)) ⌝ }
@@ -48,10 +48,10 @@ fn write_some(answer: &[usize], from: Cursor, out: &mut [u8]) -> Piece
 // Writes all frames of an answer, up to the first write that fails.
 pub fn write_frames(answer: &[usize]) -> Sent
     requires { ⌜ length (now answer) ≡ answerLen ⌝ }
-    ensures { λ r. ⌜ Sends (restOf (now (answer .entry)) Cursor.Totals) r ⌝ }
+    ensures { λ r. ⌜ Sends (restOf (now (answer .entry)) NextFrame.Totals) r ⌝ }
 {
     let mut out = io::large_buffer();
-    let mut cursor = Cursor::Totals;
+    let mut cursor = NextFrame::Totals;
     let mut done = 0;
     while frames::more(cursor) {
         let piece = write_some(answer, cursor, &mut out);
@@ -81,7 +81,7 @@ pub fn write_refusal(n: u8) -> Sent
 
 fn tell_answer(answer: &[usize]) -> Told
     requires { ⌜ length (now answer) ≡ answerLen ⌝ }
-    ensures { λ r. ⌜ Tells none (restOf (now (answer .entry)) Cursor.Totals) r ⌝ }
+    ensures { λ r. ⌜ SentTells none (restOf (now (answer .entry)) NextFrame.Totals) r ⌝ }
 {
     match write_frames(answer) {
         Sent::All(n) => Told::Answered(n),
@@ -90,7 +90,7 @@ fn tell_answer(answer: &[usize]) -> Told
 }
 
 fn tell_refusal(q: u8) -> Told
-    ensures { λ r. ⌜ Tells (some q) (refusalFrame q) r ⌝ }
+    ensures { λ r. ⌜ SentTells (some q) (refusalFrame q) r ⌝ }
 {
     match write_refusal(q) {
         Sent::All(n) => Told::Refused(q, n),
@@ -100,7 +100,7 @@ fn tell_refusal(q: u8) -> Told
 
 // Writes the frames of a script's answer, or of its refusal.
 pub fn write_answer(script: &[u8]) -> Told
-    ensures { λ r. ⌜ Tells (numberIn (analyze limits (now (script .entry)))) (live (now (script .entry))) r ⌝ }
+    ensures { λ r. ⌜ SentTells (numberIn (analyze limits (now (script .entry)))) (live (now (script .entry))) r ⌝ }
 {
     let mut answer = [0usize; call::ANSWER_LEN];
     let mut program = [0usize; call::PROGRAM_LEN];

@@ -9,16 +9,17 @@ use lib.Dec.{eqb}
 use lib.ListN.{length, getD}
 use borrow.Author.Tests.{lt-ltb, le-ltb, ne-eqb}
 use Rattle.kinds.specs.Kinds.{bitOf}
-use Rattle.sets.specs.declared.BlockId.{BlockId}
+use Rattle.ids.specs.declared.BlockId.{BlockId}
 use Rattle.rules.specs.Actions.{answered}
 use Rattle.rules.specs.Lists.{any}
 use Rattle.rules.specs.Program as P
 use Rattle.rules.specs.Program.{isTerminator, terminated, listedCount}
 use Rattle.rules.specs.Reading.{withProgram, withBlock, withClass, newBlockOf, newFun, newClass}
-use Rattle.words.specs.Names.{name}
+use Rattle.lexer.specs.Names.{name}
 use Rattle.program.specs.Tab.{tab}
 use Rattle.program.specs.Rows.{classesAt, insnAt, instructionAt, functionIn, nameIn, ownerIn, classAt, ivarAt, ivarsOf, firstOf, flagAt}
-use Rattle.program.specs.View.{instructionsOf, functionsOf, classesOf, blocksOf, view, OwnsFrom, Ready, Small, limitsOf, PutsBlock, PutsFun, PutsClass, Did, DidFun, Starts, grew, stopped, blockOf, blockFor, classFor, unchanged, moreBlocks, moreFunctions, moreClasses}
+use Rattle.program.specs.View.{instructionsOf, functionsOf, classesOf, blocksOf, programView, OwnsFrom, ProgramReady, Small, limitsOf, PutsBlock, PutsFun, PutsClass, ProgramDid, DidFun, Starts}
+use Rattle.program.specs.View.{grew, stopped, blockOf, blockFor, classFor, unchanged, moreBlocks, moreFunctions, moreClasses}
 use Rattle.program.specs.declared.Counts.{Counts}
 use Rattle.program.specs.declared.Limits.{Limits}
 use Rattle.program.specs.declared.Name.{Name}
@@ -28,7 +29,8 @@ use Rattle.program.specs.declared.NewBlock.{NewBlock}
 use Rattle.program.specs.declared.NewBlock.the-variants as B
 use Rattle.program.specs.declared.NewFun.the-variants as F
 use Rattle.program.proofs.Committing.{any-snoc}
-use Rattle.program.proofs.Viewing.{Keeps, owns-same, owns-more, insn-keep, fun-keep, ivars-keep, firsts-keep, instructions-keep, functions-keep, classes-keep, blocks-keep, free-blocks, free-functions, free-classes, flags-below, functions-more, classes-more, blocks-more, functions-length, classes-length, blocks-length}
+use Rattle.program.proofs.Viewing.{Keeps, owns-same, owns-more, insn-keep, fun-keep, ivars-keep, firsts-keep, instructions-keep, functions-keep, classes-keep, blocks-keep, free-blocks}
+use Rattle.program.proofs.Viewing.{free-functions, free-classes, flags-below, functions-more, classes-more, blocks-more, functions-length, classes-length, blocks-length}
 
 -- what the rules ask of a program's instructions alone
 pub terminated-same : (p q : P.Program) (b : ℕ) → p .instructions ≡ q .instructions → terminated p b ≡ terminated q b
@@ -45,7 +47,7 @@ any-none t f zero h = refl
 any-none t f (suc n) h = any-snoc t (tab f n) (f n) ∙ rw (any-none t f n (λ i p. h i (omega arith)), h n (omega arith))
 
 -- no instruction stands in a block that is not there yet
-open-block : {m : List ℕ} {c : Counts} → Ready m c → (s : List ℕ) → terminated (view s m c) (c .blocks) ≡ false
+open-block : {m : List ℕ} {c : Counts} → ProgramReady m c → (s : List ℕ) → terminated (programView s m c) (c .blocks) ≡ false
 unfolding terminated instructionsOf instructionAt
 open-block {m = m} {c = c} r s =
     any-none (λ (x : P.Instruction). eqb (x .block) (c .blocks) && isTerminator (x .op)) (instructionAt s m) (c .insns)
@@ -56,11 +58,11 @@ old-or-new P n f g i h = elim (ℕ-discrete i n) [ yes e ↦ rw e g | no e ↦ f
 
 -- ---- a block
 
-module _ {m m' : List ℕ} {c : Counts} {l : Limits} (f : ℕ) (r : Ready m c) (small : Small l) (few : c .blocks < l .blocks) (p : PutsBlock (c .blocks) f m m') where
+module _ {m m' : List ℕ} {c : Counts} {l : Limits} (f : ℕ) (r : ProgramReady m c) (small : Small l) (few : c .blocks < l .blocks) (p : PutsBlock (c .blocks) f m m') where
   block-keeps : Keeps c m m'
   block-keeps = free-blocks r (p .only) (omega (arith, small .blocks))
 
-  block-view : (s : List ℕ) → view s m' (moreBlocks c) ≡ P.withBlock f (view s m c)
+  block-view : (s : List ℕ) → programView s m' (moreBlocks c) ≡ P.withBlock f (programView s m c)
   block-view s =
       rw (
         blocks-more m' (c .blocks),
@@ -71,7 +73,7 @@ module _ {m m' : List ℕ} {c : Counts} {l : Limits} (f : ℕ) (r : Ready m c) (
         p .here,
       )
 
-  block-ready : Ready m' (moreBlocks c)
+  block-ready : ProgramReady m' (moreBlocks c)
   block-ready =
       let K = block-keeps in
       record {
@@ -87,16 +89,16 @@ module _ {m m' : List ℕ} {c : Counts} {l : Limits} (f : ℕ) (r : Ready m c) (
         inside = λ i h. rw (insn-keep r K i h) (omega (arith, r .inside i h));
         flags = λ s.
             let same = instructions-keep r K s in
-            old-or-new (λ b. flagAt m' b ≡ bitOf (terminated (view s m' (moreBlocks c)) b)) (c .blocks)
+            old-or-new (λ b. flagAt m' b ≡ bitOf (terminated (programView s m' (moreBlocks c)) b)) (c .blocks)
             (λ b h.
             flags-below c (p .only) (omega arith) b h ∙ r .flags s b h
-            ∙ ap bitOf (sym (terminated-same (view s m' (moreBlocks c)) (view s m c) b same)))
-            (p .flag ∙ ap bitOf (sym (terminated-same (view s m' (moreBlocks c)) (view s m c) (c .blocks) same ∙ open-block r s)));
-        listing = λ s. r .listing s ∙ sym (listed-same (view s m' (moreBlocks c)) (view s m c) (instructions-keep r K s));
+            ∙ ap bitOf (sym (terminated-same (programView s m' (moreBlocks c)) (programView s m c) b same)))
+            (p .flag ∙ ap bitOf (sym (terminated-same (programView s m' (moreBlocks c)) (programView s m c) (c .blocks) same ∙ open-block r s)));
+        listing = λ s. r .listing s ∙ sym (listed-same (programView s m' (moreBlocks c)) (programView s m c) (instructions-keep r K s));
         firsts = firsts-keep r K;
       }
 
-  pub block-grew : Did (blockFor (limitsOf l) f) unchanged (c .blocks) (moreBlocks c) m c m' (grew (c .blocks) (moreBlocks c))
+  pub block-grew : ProgramDid (blockFor (limitsOf l) f) unchanged (c .blocks) (moreBlocks c) m c m' (grew (c .blocks) (moreBlocks c))
   unfolding newBlockOf
   block-grew =
       record {
@@ -106,17 +108,17 @@ module _ {m m' : List ℕ} {c : Counts} {l : Limits} (f : ℕ) (r : Ready m c) (
         ok = record { number = refl; counts = refl; ready = block-ready };
       }
 
-pub block-stop : (l : Limits) (m : List ℕ) (c : Counts) (f : ℕ) → l .blocks ≤ c .blocks → Did (blockFor (limitsOf l) f) unchanged (c .blocks) (moreBlocks c) m c m (stopped 11)
+pub block-stop : (l : Limits) (m : List ℕ) (c : Counts) (f : ℕ) → l .blocks ≤ c .blocks → ProgramDid (blockFor (limitsOf l) f) unchanged (c .blocks) (moreBlocks c) m c m (stopped 11)
 unfolding newBlockOf
 block-stop l m c f h = record { is = λ s q. rw (blocks-length m (c .blocks), le-ltb (c .blocks) (l .blocks) h); ok = tt }
 
 -- ---- a function
 
-module _ {m m' : List ℕ} {c : Counts} (x : Function) (r : Ready m c) (few : c .functions < 128) (p : PutsFun (c .functions) x m m') where
+module _ {m m' : List ℕ} {c : Counts} (x : Function) (r : ProgramReady m c) (few : c .functions < 128) (p : PutsFun (c .functions) x m m') where
   fun-keeps : Keeps c m m'
   fun-keeps = free-functions r (p .only) few
 
-  fun-view : (s : List ℕ) → view s m' (moreFunctions c) ≡ P.withFunction (functionIn s x) (view s m c)
+  fun-view : (s : List ℕ) → programView s m' (moreFunctions c) ≡ P.withFunction (functionIn s x) (programView s m c)
   fun-view s =
       rw (
         functions-more s m' (c .functions),
@@ -127,7 +129,7 @@ module _ {m m' : List ℕ} {c : Counts} (x : Function) (r : Ready m c) (few : c 
         p .here,
       )
 
-  fun-ready : Ready m' (moreFunctions c)
+  fun-ready : ProgramReady m' (moreFunctions c)
   fun-ready =
       let K = fun-keeps in
       let b = r .blocks in
@@ -144,14 +146,14 @@ module _ {m m' : List ℕ} {c : Counts} (x : Function) (r : Ready m c) (few : c 
         inside = λ i h. rw (insn-keep r K i h) (r .inside i h);
         flags = λ s b h.
             flags-below c (p .only) (omega (arith, r .blocks)) b h ∙ r .flags s b h
-            ∙ ap bitOf (sym (terminated-same (view s m' (moreFunctions c)) (view s m c) b (instructions-keep r K s)));
-        listing = λ s. r .listing s ∙ sym (listed-same (view s m' (moreFunctions c)) (view s m c) (instructions-keep r K s));
+            ∙ ap bitOf (sym (terminated-same (programView s m' (moreFunctions c)) (programView s m c) b (instructions-keep r K s)));
+        listing = λ s. r .listing s ∙ sym (listed-same (programView s m' (moreFunctions c)) (programView s m c) (instructions-keep r K s));
         firsts = λ k h. owns-more (firsts-keep r K k h);
       }
 
 -- the block first, then the function's own question
 module _ {m m1 : List ℕ} {c : Counts} {l : Limits} {q : NewBlock} (n : Name) (k : Owner) (small : Small l)
-    (d : Did (blockFor (limitsOf l) (c .functions)) unchanged (c .blocks) (moreBlocks c) m c m1 (blockOf q)) where
+    (d : ProgramDid (blockFor (limitsOf l) (c .functions)) unchanged (c .blocks) (moreBlocks c) m c m1 (blockOf q)) where
   pub fun-no-block : {e : ℕ} → q ≡ B.Refused e → DidFun l n k m c m1 (F.Refused e)
   unfolding newFun
   fun-no-block e =
@@ -190,7 +192,7 @@ module _ {m m1 : List ℕ} {c : Counts} {l : Limits} {q : NewBlock} (n : Name) (
     fun-grew h p =
         let a = rw e at d in
         let counts = a .ok .counts in
-        let ready : Ready m1 (moreBlocks c) = rw counts at (a .ok .ready) in
+        let ready : ProgramReady m1 (moreBlocks c) = rw counts at (a .ok .ready) in
         let x : Function = record { name = n; class = k; entry = b } in
         let few : c .functions < 128 = omega (arith, small .functions) in
         rw counts
@@ -212,7 +214,7 @@ module _ {m m1 : List ℕ} {c : Counts} {l : Limits} {q : NewBlock} (n : Name) (
 
 -- ---- a class
 
-module _ {m m' : List ℕ} {c : Counts} {l : Limits} (n : Name) (r : Ready m c) (small : Small l) (few : c .classes < l .classes) {a : ℕ} (owns : OwnsFrom m (c .functions) (c .classes) a) (p : PutsClass (c .classes) n a m m') where
+module _ {m m' : List ℕ} {c : Counts} {l : Limits} (n : Name) (r : ProgramReady m c) (small : Small l) (few : c .classes < l .classes) {a : ℕ} (owns : OwnsFrom m (c .functions) (c .classes) a) (p : PutsClass (c .classes) n a m m') where
   class-keeps : Keeps c m m'
   class-keeps = free-classes r (p .only) (omega (arith, small .classes))
 
@@ -221,7 +223,7 @@ module _ {m m' : List ℕ} {c : Counts} {l : Limits} (n : Name) (r : Ready m c) 
   class-new s =
       ap₂ {C = P.Class} (λ a b. record { name = a; ivars = b }) (ap (nameIn s) (p .here)) (ap (tab (λ j. nameIn s (ivarAt m' (c .classes) j))) (p .none))
 
-  class-view : (s : List ℕ) → view s m' (moreClasses c) ≡ P.withClasses (classesOf s m (c .classes) ++ record { name = nameIn s n; ivars = [] } ∷ []) (view s m c)
+  class-view : (s : List ℕ) → programView s m' (moreClasses c) ≡ P.withClasses (classesOf s m (c .classes) ++ record { name = nameIn s n; ivars = [] } ∷ []) (programView s m c)
   class-view s =
       rw (
         classes-more s m' (c .classes),
@@ -232,7 +234,7 @@ module _ {m m' : List ℕ} {c : Counts} {l : Limits} (n : Name) (r : Ready m c) 
         class-new s,
       )
 
-  class-ready : Ready m' (moreClasses c)
+  class-ready : ProgramReady m' (moreClasses c)
   class-ready =
       let K = class-keeps in
       let b = r .blocks in
@@ -250,14 +252,14 @@ module _ {m m' : List ℕ} {c : Counts} {l : Limits} (n : Name) (r : Ready m c) 
         inside = λ i h. rw (insn-keep r K i h) (r .inside i h);
         flags = λ s b h.
             flags-below c (p .only) (omega (arith, r .blocks)) b h ∙ r .flags s b h
-            ∙ ap bitOf (sym (terminated-same (view s m' (moreClasses c)) (view s m c) b (instructions-keep r K s)));
-        listing = λ s. r .listing s ∙ sym (listed-same (view s m' (moreClasses c)) (view s m c) (instructions-keep r K s));
+            ∙ ap bitOf (sym (terminated-same (programView s m' (moreClasses c)) (programView s m c) b (instructions-keep r K s)));
+        listing = λ s. r .listing s ∙ sym (listed-same (programView s m' (moreClasses c)) (programView s m c) (instructions-keep r K s));
         firsts =
             old-or-new (λ k. OwnsFrom m' (c .functions) k (firstOf m' k)) (c .classes) (firsts-keep r K)
             (rw (p .first) (owns-same (fun-keep r K) owns));
       }
 
-  pub class-grew : Did (classFor (limitsOf l) n) unchanged (c .classes) (moreClasses c) m c m' (grew (c .classes) (moreClasses c))
+  pub class-grew : ProgramDid (classFor (limitsOf l) n) unchanged (c .classes) (moreClasses c) m c m' (grew (c .classes) (moreClasses c))
   unfolding newClass
   class-grew =
       record {
@@ -268,7 +270,7 @@ module _ {m m' : List ℕ} {c : Counts} {l : Limits} (n : Name) (r : Ready m c) 
       }
 
 pub class-stop : (l : Limits) (m : List ℕ) (c : Counts) (n : Name) → l .classes ≤ c .classes
-    → Did (classFor (limitsOf l) n) unchanged (c .classes) (moreClasses c) m c m (stopped 11)
+    → ProgramDid (classFor (limitsOf l) n) unchanged (c .classes) (moreClasses c) m c m (stopped 11)
 unfolding newClass
 class-stop l m c n h = record { is = λ s q. rw (classes-length s m (c .classes), le-ltb (c .classes) (l .classes) h); ok = tt }
 

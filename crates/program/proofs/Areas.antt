@@ -7,15 +7,15 @@ use lib.ListN.{length, getD, set, length-set, length-append, length-map}
 use lib.Seq.{getD-set-same, getD-set-other}
 use Rattle.program.specs.Tab.{tab}
 use Rattle.program.specs.Rows.{opndFrom, opndAt, opndsIn, opndOf}
-use Rattle.program.specs.View.{Only, Puts}
+use Rattle.program.specs.View.{ProgramOnly, Puts}
 use Rattle.program.specs.declared.Opnd.{Opnd}
 use Rattle.program.proofs.Tables.{tab-ext, tab-add, tab-length}
 
 module _ {lo hi : ℕ} where
-  pub only-none : (m : List ℕ) → Only lo hi m m
+  pub only-none : (m : List ℕ) → ProgramOnly lo hi m m
   only-none m = record { len-same = refl; below = λ k h. refl; above = λ k h. refl }
 
-  pub only-set : {m m' : List ℕ} (k v : ℕ) → Only lo hi m m' → lo ≤ k → k < hi → Only lo hi m (set m' k v)
+  pub only-set : {m m' : List ℕ} (k v : ℕ) → ProgramOnly lo hi m m' → lo ≤ k → k < hi → ProgramOnly lo hi m (set m' k v)
   only-set {m' = m'} k v o l h =
       record {
         len-same = length-set m' k v ∙ o .len-same;
@@ -23,7 +23,7 @@ module _ {lo hi : ℕ} where
         above = λ j p. getD-set-other m' k j v 0 (λ e. omega arith) ∙ o .above j p;
       }
 
-  pub only-then : {m m' m'' : List ℕ} → Only lo hi m m' → Only lo hi m' m'' → Only lo hi m m''
+  pub only-then : {m m' m'' : List ℕ} → ProgramOnly lo hi m m' → ProgramOnly lo hi m' m'' → ProgramOnly lo hi m m''
   only-then o p =
       record {
         len-same = p .len-same ∙ o .len-same;
@@ -31,7 +31,7 @@ module _ {lo hi : ℕ} where
         above = λ k h. p .above k h ∙ o .above k h;
       }
 
-  pub only-wide : (lo' hi' : ℕ) {m m' : List ℕ} → Only lo hi m m' → lo' ≤ lo → hi ≤ hi' → Only lo' hi' m m'
+  pub only-wide : (lo' hi' : ℕ) {m m' : List ℕ} → ProgramOnly lo hi m m' → lo' ≤ lo → hi ≤ hi' → ProgramOnly lo' hi' m m'
   only-wide lo' hi' o l h =
       record { len-same = o .len-same; below = λ k p. o .below k (omega arith); above = λ k p. o .above k (omega arith) }
 
@@ -39,7 +39,7 @@ module _ {lo hi : ℕ} where
 abbrev pub Same : ℕ → ℕ → List ℕ → List ℕ → Type 0
 Same a e m m' = (k : ℕ) → a ≤ k → k < e → getD m' k 0 ≡ getD m k 0
 
-module _ {lo hi : ℕ} {m m' : List ℕ} (o : Only lo hi m m') (a e : ℕ) where
+module _ {lo hi : ℕ} {m m' : List ℕ} (o : ProgramOnly lo hi m m') (a e : ℕ) where
   pub same-below : e ≤ lo → Same a e m m'
   same-below h k p q = o .below k (omega arith)
 

@@ -10,17 +10,18 @@ use lib.ListN.{length, set, length-set, length-drop}
 use lib.Seq.{getD-set-same, getD-set-other}
 use borrow.Author.Tests.{eq-eqb, ne-eqb}
 use Rattle.kinds.specs.Kinds.{bitOf}
-use Rattle.sets.specs.declared.BlockId.{BlockId}
+use Rattle.ids.specs.declared.BlockId.{BlockId}
 use Rattle.rules.specs.Lists.{any, sum}
 use Rattle.rules.specs.Program as P
 use Rattle.rules.specs.Program.{about, isTerminator, terminated, listedCount}
 use Rattle.program.specs.Rows.{insnsAt, opndsAt, blocksAt, opndsIn, opndOf, opIn, listedIn, endsBlock, insnAt, instructionAt, flagAt}
-use Rattle.program.specs.View.{view, Ready, PutsRow, Room, Commits, moreInsns}
+use Rattle.program.specs.View.{programView, ProgramReady, PutsRow, ProgramRoom, Commits, moreInsns}
 use Rattle.program.specs.declared.Counts.{Counts}
 use Rattle.program.specs.declared.Op.{Op}
 use Rattle.program.specs.declared.Op.the-variants.{Jump, IfTrue, Return, SendStatic, SendDynamic, Compute, Phi, Param, SelfParam, New, GetIvar, SetIvar}
 use Rattle.program.proofs.Areas.{Same, opnds-same, given-length, same-above}
-use Rattle.program.proofs.Viewing.{Keeps, keeps-then, insn-keep, ivars-keep, firsts-keep, instructions-keep, functions-keep, classes-keep, blocks-keep, free-insns, opnds-end, flags-same, instructions-more}
+use Rattle.program.proofs.Viewing.{Keeps, keeps-then, insn-keep, ivars-keep, firsts-keep, instructions-keep, functions-keep, classes-keep, blocks-keep, free-insns, opnds-end, flags-same}
+use Rattle.program.proofs.Viewing.{instructions-more}
 
 -- ---- what the rules ask of one instruction more
 
@@ -116,7 +117,7 @@ flag-is l g d long t f e x =
           (getD-set-other l (blocksAt + 2 * g + 1) (blocksAt + 2 * d + 1) 1 0 (λ z. y (omega arith)) ∙ e ∙ sym (ap bitOf (or-false t)))
     ]
 
-flag-keeps : {m : List ℕ} {c : Counts} → Ready m c → (l : List ℕ) (d : ℕ) → d < c .blocks → Keeps c l (set l (blocksAt + 2 * d + 1) 1)
+flag-keeps : {m : List ℕ} {c : Counts} → ProgramReady m c → (l : List ℕ) (d : ℕ) → d < c .blocks → Keeps c l (set l (blocksAt + 2 * d + 1) 1)
 flag-keeps {c = c} r l d h =
     let i = r .insns in
     let e = opnds-end r in
@@ -133,7 +134,7 @@ flag-keeps {c = c} r l d h =
 
 -- ---- the row
 
-module _ {m : List ℕ} {c : Counts} (b : BlockId) (o : Op) (n : ℕ) (r : Ready m c) (room : Room (b .0) o n c) where
+module _ {m : List ℕ} {c : Counts} (b : BlockId) (o : Op) (n : ℕ) (r : ProgramReady m c) (room : ProgramRoom (b .0) o n c) where
   -- the rules' instruction
   abbrev new : List ℕ → P.Instruction
   new s = record { block = b .0; op = opIn s o (map opndOf (opndsIn m (opndsAt + 2 * c .opnds) n)) }
@@ -152,14 +153,14 @@ module _ {m : List ℕ} {c : Counts} (b : BlockId) (o : Op) (n : ℕ) (r : Ready
         rw
         (here, opnds-same m m' (opndsAt + 2 * c .opnds) n (λ k p q. operands k (omega arith) (omega arith)))
 
-    commit-view : (s : List ℕ) → view s m' (moreInsns o n c) ≡ P.withInstruction (new s) (view s m c)
+    commit-view : (s : List ℕ) → programView s m' (moreInsns o n c) ≡ P.withInstruction (new s) (programView s m c)
     commit-view s =
         rw (instructions-more s m' (c .insns), functions-keep r K s, classes-keep r K s, blocks-keep r K, instructions-keep r K s, new-is s)
 
     old-or-new : (P : ℕ → Type 0) → ((i : ℕ) → i < c .insns → P i) → P (c .insns) → (i : ℕ) → i < c .insns + 1 → P i
     old-or-new P f g i h = elim (ℕ-discrete i (c .insns)) [ yes e ↦ rw e g | no e ↦ f i (omega arith) ]
 
-    commit-ready : ((s : List ℕ) (d : ℕ) → d < c .blocks → flagAt m' d ≡ bitOf (terminated (P.withInstruction (new s) (view s m c)) d)) → Ready m' (moreInsns o n c)
+    commit-ready : ((s : List ℕ) (d : ℕ) → d < c .blocks → flagAt m' d ≡ bitOf (terminated (P.withInstruction (new s) (programView s m c)) d)) → ProgramReady m' (moreInsns o n c)
     commit-ready F =
         record {
           len-mem = rw (K .len-same) (r .len-mem);
@@ -177,8 +178,8 @@ module _ {m : List ℕ} {c : Counts} (b : BlockId) (o : Op) (n : ℕ) (r : Ready
           flags = λ s d h. F s d h ∙ sym (ap (λ (p : P.Program). bitOf (terminated p d)) (commit-view s));
           listing = λ s.
               ap (λ (k : ℕ). k + listedIn o n) (r .listing s)
-              ∙ ap (λ (k : ℕ). listedCount (view s m c) + k) (sym (new-listed s))
-              ∙ sym (listed-more (view s m c) (new s))
+              ∙ ap (λ (k : ℕ). listedCount (programView s m c) + k) (sym (new-listed s))
+              ∙ sym (listed-more (programView s m c) (new s))
               ∙ sym (ap listedCount (commit-view s));
           firsts = firsts-keep r K;
         }
@@ -200,14 +201,15 @@ module _ {m : List ℕ} {c : Counts} (b : BlockId) (o : Op) (n : ℕ) (r : Ready
             (λ s d h.
             flags-same c (w .only) (omega arith) d h ∙ r .flags s d h
             ∙ ap bitOf
-            (sym (terminated-more (view s m c) (new s) d ∙ plain (terminated (view s m c) d) (eqb (b .0) d) (isTerminator (new s .op)) (ends-is s o _ ∙ sym p ∙ q))));
+            (sym (terminated-more (programView s m c) (new s) d ∙ plain (terminated (programView s m c) d) (eqb (b .0) d) (isTerminator (new s .op)) (ends-is s o _ ∙ sym p ∙ q))));
         counts = refl;
       })
 
   -- one that ends its block
   pub commit-end : {m' : List ℕ} {e : Bool} {k : ℕ} → k ≡ listedIn o n → PutsRow (c .insns) (record { block = b; op = o; first = c .opnds; count = n }) m m'
       → e ≡ endsBlock o → e ≡ true
-      → Commits (b .0) o n m c (set m' (blocksAt + 2 * b .0 + 1) 1) (record { functions = c .functions; classes = c .classes; blocks = c .blocks; insns = c .insns + 1; opnds = c .opnds + n; listed = c .listed + k })
+      → Commits (b .0) o n m c (set m' (blocksAt + 2 * b .0 + 1) 1)
+      (record { functions = c .functions; classes = c .classes; blocks = c .blocks; insns = c .insns + 1; opnds = c .opnds + n; listed = c .listed + k })
   commit-end {m' = m'} listed w p q =
       rw listed
       (
@@ -222,8 +224,8 @@ module _ {m : List ℕ} {c : Counts} (b : BlockId) (o : Op) (n : ℕ) (r : Ready
         ok =
             commit-ready K S H
             (λ s d h.
-            flag-is m' (b .0) d (omega (arith, r .len-mem, r .blocks, room .block, w .only .len-same)) (terminated (view s m c) d) (isTerminator (new s .op))
+            flag-is m' (b .0) d (omega (arith, r .len-mem, r .blocks, room .block, w .only .len-same)) (terminated (programView s m c) d) (isTerminator (new s .op))
             (flags-same c (w .only) (omega arith) d h ∙ r .flags s d h) (ends-is s o _ ∙ sym p ∙ q)
-            ∙ ap bitOf (sym (terminated-more (view s m c) (new s) d)));
+            ∙ ap bitOf (sym (terminated-more (programView s m c) (new s) d)));
         counts = refl;
       })

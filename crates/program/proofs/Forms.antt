@@ -16,10 +16,10 @@ use Rattle.kinds.specs.declared.Kind.{Kind}
 use Rattle.kinds.specs.declared.Kind.the-variants as K
 use Rattle.kinds.specs.declared.Arith.{Arith}
 use Rattle.kinds.specs.declared.Arith.the-variants.{Add, Sub, Mul, Less}
-use Rattle.sets.specs.declared.BlockId.{BlockId}
-use Rattle.sets.specs.declared.ClassId.{ClassId}
-use Rattle.sets.specs.declared.FunId.{FunId}
-use Rattle.sets.specs.declared.InsnId.{InsnId}
+use Rattle.ids.specs.declared.BlockId.{BlockId}
+use Rattle.ids.specs.declared.ClassId.{ClassId}
+use Rattle.ids.specs.declared.FunId.{FunId}
+use Rattle.ids.specs.declared.InsnId.{InsnId}
 use Rattle.program.specs.Rows.{opndFrom, opFrom, insnAt, ownerFrom, funAt, listedIn}
 use Rattle.program.specs.declared.Name.{Name}
 use Rattle.program.specs.declared.Opnd.{Opnd}
@@ -95,7 +95,8 @@ module _ {t : ℕ} (x y : ℕ) where
   op-13 e = rw e
 
 -- past the last tag
-pub op-past : (t x y : ℕ) → (t ≡ 0 → ⊥) → (t ≡ 1 → ⊥) → (t ≡ 2 → ⊥) → (t ≡ 3 → ⊥) → (t ≡ 4 → ⊥) → (t ≡ 5 → ⊥) → (t ≡ 6 → ⊥) → (t ≡ 7 → ⊥) → (t ≡ 8 → ⊥) → (t ≡ 9 → ⊥) → (t ≡ 10 → ⊥) → (t ≡ 11 → ⊥) → (t ≡ 12 → ⊥) → (t ≡ 13 → ⊥)
+pub op-past : (t x y : ℕ) → (t ≡ 0 → ⊥) → (t ≡ 1 → ⊥) → (t ≡ 2 → ⊥) → (t ≡ 3 → ⊥) → (t ≡ 4 → ⊥) → (t ≡ 5 → ⊥) → (t ≡ 6 → ⊥) → (t ≡ 7 → ⊥) → (t ≡ 8 → ⊥) → (t ≡ 9 → ⊥) → (t ≡ 10 → ⊥) → (t ≡ 11 → ⊥)
+    → (t ≡ 12 → ⊥) → (t ≡ 13 → ⊥)
     → SetIvar (record { start = x; len = y }) ≡ opFrom t x y
 unfolding opFrom
 op-past zero x y h0 h1 h2 h3 h4 h5 h6 h7 h8 h9 h10 h11 h12 h13 = absurd (h0 refl)
@@ -245,6 +246,7 @@ module _ (m : List ℕ) (i : ℕ) where
   insn-is e = rw e
 
   pub fun-is : {o : Owner} → o ≡ ownerFrom (getD m (38912 + 4 * i + 2) 0)
-      → _≡_ {A = Function} (record { name = record { start = getD m (38912 + 4 * i) 0; len = getD m (38912 + 4 * i + 1) 0 }; class = o; entry = record { 0 = getD m (38912 + 4 * i + 3) 0 % 2 ^ 32 } }) (funAt m i)
+      → _≡_ {A = Function} (record { name = record { start = getD m (38912 + 4 * i) 0; len = getD m (38912 + 4 * i + 1) 0 }; class = o; entry = record { 0 = getD m (38912 + 4 * i + 3) 0 % 2 ^ 32 } })
+      (funAt m i)
   unfolding funAt
   fun-is e = rw e

@@ -10,7 +10,7 @@ use lib.ListN.{getD}
 use borrow.Author.Tests.{eq-eqb, ne-eqb, lt-ltb}
 use Rattle.rules.specs.Lists.{isJust}
 use Rattle.program.specs.Rows.{ownerIn, ownerFrom, funAt}
-use Rattle.program.specs.View.{OwnsFrom, Ready}
+use Rattle.program.specs.View.{OwnsFrom, ProgramReady}
 use Rattle.program.specs.declared.Counts.{Counts}
 use Rattle.program.specs.declared.Owner.{Owner}
 use Rattle.program.proofs.Forms.{owner-none, owner-class}
@@ -56,5 +56,5 @@ module _ {m : List ℕ} {n k i : ℕ} (o : OwnsFrom m n k i) where
   pub owns-end : n ≤ i → OwnsFrom m n k n
   owns-end h = record { high = omega arith; owned = λ f g t. omega (arith, o .owned f g t) }
 
-pub owns-row : {m : List ℕ} {c : Counts} (k : ℕ) → Ready m c → k < c .classes → OwnsFrom m (c .functions) k (getD m (39424 + 4 * k + 3) 0)
+pub owns-row : {m : List ℕ} {c : Counts} (k : ℕ) → ProgramReady m c → k < c .classes → OwnsFrom m (c .functions) k (getD m (39424 + 4 * k + 3) 0)
 owns-row k r h = r .firsts k h

@@ -13,7 +13,7 @@ use Rattle.rules.specs.Program as P
 use Rattle.rules.specs.Program.{about, terminated, listedCount}
 use Rattle.rules.specs.Reading.{Parser, withProgram, pushInsn}
 use Rattle.program.specs.Rows.{opndsAt, blocksAt, opndAt, opndsIn, opndOf, given, opIn, listedIn, flagAt}
-use Rattle.program.specs.View.{view, Ready, Small, limitsOf, Puts, Room, Commits, Adds, Asks, Did, grew, stopped, pushOf, pushAsks, moreInsns, unchanged}
+use Rattle.program.specs.View.{programView, ProgramReady, Small, limitsOf, Puts, ProgramRoom, Commits, ProgramAdds, Asks, ProgramDid, grew, stopped, pushOf, pushAsks, moreInsns, unchanged}
 use Rattle.program.specs.declared.Counts.{Counts}
 use Rattle.program.specs.declared.Limits.{Limits}
 use Rattle.program.specs.declared.Opnd.{Opnd}
@@ -73,14 +73,14 @@ bit-false : (t : Bool) (x : ℕ) → x ≡ bitOf t → x ≡ 0 → t ≡ false
 bit-false true x e h = let z : _≡_ {A = ℕ} 0 1 = cc in absurd (omega arith)
 bit-false false x e h = refl
 
-module _ {m : List ℕ} {c : Counts} (l : Limits) (b k : ℕ) (r : Ready m c) (h : b < c .blocks) where
+module _ {m : List ℕ} {c : Counts} (l : Limits) (b k : ℕ) (r : ProgramReady m c) (h : b < c .blocks) where
   pub asks-ended : (getD m (36864 + 2 * b + 1) 0 ≡ 0 → ⊥) → Asks l m c b k 10
   unfolding pushAsks
-  asks-ended e = record { is = λ s. rw (bit-true (terminated (view s m c) b) (flagAt m b) (r .flags s b h) e) }
+  asks-ended e = record { is = λ s. rw (bit-true (terminated (programView s m c) b) (flagAt m b) (r .flags s b h) e) }
 
   module _ (open' : getD m (36864 + 2 * b + 1) 0 ≡ 0) where
-    goes-on : (s : List ℕ) → terminated (view s m c) b ≡ false
-    goes-on s = bit-false (terminated (view s m c) b) (flagAt m b) (r .flags s b h) open'
+    goes-on : (s : List ℕ) → terminated (programView s m c) b ≡ false
+    goes-on s = bit-false (terminated (programView s m c) b) (flagAt m b) (r .flags s b h) open'
 
     pub asks-insns : l .instructions ≤ c .insns → Asks l m c b k 11
     unfolding pushAsks
@@ -165,10 +165,10 @@ asks-yes L p b k e =
     go false true f false g z = absurd (omega arith)
     go false true f true g z = (ltb-true _ _ f, leb-true _ _ g)
 
-module _ {m : List ℕ} {c : Counts} {l : Limits} {b k e : ℕ} (o : Op) (n : ℕ) (r : Ready m c) (small : Small l) (h : b < c .blocks) (asks : Asks l m c b k e) where
-  pub room-of : e ≡ 0 → k ≡ listedIn o n → n ≤ listedIn o n + 2 → Room b o n c
+module _ {m : List ℕ} {c : Counts} {l : Limits} {b k e : ℕ} (o : Op) (n : ℕ) (r : ProgramReady m c) (small : Small l) (h : b < c .blocks) (asks : Asks l m c b k e) where
+  pub room-of : e ≡ 0 → k ≡ listedIn o n → n ≤ listedIn o n + 2 → ProgramRoom b o n c
   room-of z q few =
-      let y = asks-yes (limitsOf l) (view [] m c) b k (sym z ∙ asks .is []) in
+      let y = asks-yes (limitsOf l) (programView [] m c) b k (sym z ∙ asks .is []) in
       let len = instructions-length [] m (c .insns) in
       let lst = r .listing [] in
       let si = small .instructions in
@@ -180,12 +180,12 @@ given-few Zero = omega arith
 given-few (One v) = omega arith
 given-few (Two v w) = omega arith
 
-pub room-given : {m : List ℕ} {c : Counts} {l : Limits} {b k e : ℕ} (o : Op) (n : ℕ) (g : Given) → Ready m c → Small l → b < c .blocks → Asks l m c b k e → e ≡ 0
-    → k ≡ listedIn o n → n ≡ length (given g) → Room b o n c
+pub room-given : {m : List ℕ} {c : Counts} {l : Limits} {b k e : ℕ} (o : Op) (n : ℕ) (g : Given) → ProgramReady m c → Small l → b < c .blocks → Asks l m c b k e → e ≡ 0
+    → k ≡ listedIn o n → n ≡ length (given g) → ProgramRoom b o n c
 room-given o n g r small h asks z q w = room-of o n r small h asks z q (omega (arith, given-few g))
 
 -- operands behind those in use
-module _ {m m1 : List ℕ} {c : Counts} {b : ℕ} (o : Op) (n : ℕ) (os : List Opnd) (r : Ready m c) (room : Room b o n c) (q : n ≡ length os)
+module _ {m m1 : List ℕ} {c : Counts} {b : ℕ} (o : Op) (n : ℕ) (os : List Opnd) (r : ProgramReady m c) (room : ProgramRoom b o n c) (q : n ≡ length os)
     (p : Puts (12288 + 2 * c .opnds) os m m1) where
   fits : 12288 + 2 * c .opnds + 2 * length os ≤ blocksAt
   fits = omega (arith, r .opnds, room .listed, room .opnds, room .insns)
@@ -193,10 +193,10 @@ module _ {m m1 : List ℕ} {c : Counts} {b : ℕ} (o : Op) (n : ℕ) (os : List 
   puts-keeps : Keeps c m m1
   puts-keeps = free-opnds r (p .only) (omega arith) fits
 
-  pub ready-puts : Ready m1 c
+  pub ready-puts : ProgramReady m1 c
   ready-puts = ready-keep r puts-keeps (flags-same c (p .only) fits)
 
-  pub adds-is : {m2 : List ℕ} {c' : Counts} → Commits b o n m1 c m2 c' → Adds b o os m c m2 c'
+  pub adds-is : {m2 : List ℕ} {c' : Counts} → Commits b o n m1 c m2 c' → ProgramAdds b o os m c m2 c'
   adds-is w =
       record {
         is = λ s.
@@ -210,21 +210,21 @@ module _ {m m1 : List ℕ} {c : Counts} {b : ℕ} (o : Op) (n : ℕ) (os : List 
 -- the way of a refusal, and of an addition; `op` is the rules' instruction
 module _ {m : List ℕ} {c : Counts} {l : Limits} {b k e : ℕ} (op : List ℕ → P.Op) (next : Counts) (asks : Asks l m c b k e)
     (q : (s : List ℕ) → length (about (op s) .listed) ≡ k) where
-  pub stop-is : (m' : List ℕ) → (e ≡ 0 → ⊥) → Did (λ s. pushInsn (limitsOf l) b (op s)) unchanged (c .insns) next m c m' (stopped e)
+  pub stop-is : (m' : List ℕ) → (e ≡ 0 → ⊥) → ProgramDid (λ s. pushInsn (limitsOf l) b (op s)) unchanged (c .insns) next m c m' (stopped e)
   stop-is m' h =
-      record { is = λ s r. sym (push-is (limitsOf l) (view s m c) b (op s) r ∙ rw (q s, ← asks .is s, ne e h)); ok = tt }
+      record { is = λ s r. sym (push-is (limitsOf l) (programView s m c) b (op s) r ∙ rw (q s, ← asks .is s, ne e h)); ok = tt }
     where
       ne : (x : ℕ) → (x ≡ 0 → ⊥) → eqb x 0 ≡ false
       ne x h = borrow.Author.Tests.ne-eqb x 0 h
 
   pub grew-is : {m' : List ℕ} {c' : Counts} → e ≡ 0
-      → ((s : List ℕ) → view s m' c' ≡ P.withInstruction (record { block = b; op = op s }) (view s m c)) → Ready m' c' → c' ≡ next
-      → Did (λ s. pushInsn (limitsOf l) b (op s)) unchanged (c .insns) next m c m' (grew (c .insns) c')
+      → ((s : List ℕ) → programView s m' c' ≡ P.withInstruction (record { block = b; op = op s }) (programView s m c)) → ProgramReady m' c' → c' ≡ next
+      → ProgramDid (λ s. pushInsn (limitsOf l) b (op s)) unchanged (c .insns) next m c m' (grew (c .insns) c')
   grew-is {m' = m'} {c' = c'} z v ok n =
       record {
         is = λ s r.
             sym
-            (push-is (limitsOf l) (view s m c) b (op s) r
+            (push-is (limitsOf l) (programView s m c) b (op s) r
             ∙ rw (q s, ← asks .is s, z, instructions-length s m (c .insns)) (ap (λ (p : P.Program). answered (c .insns, withProgram p r)) (sym (v s))));
         ok = record { number = refl; counts = n; ready = ok };
       }
@@ -236,8 +236,9 @@ module _ {m : List ℕ} {c : Counts} {l : Limits} {b k e : ℕ} (o : Op) (n : �
   counted : (s : List ℕ) → length (about (opIn s o (map opndOf os)) .listed) ≡ k
   counted s = listed-map s o os ∙ sym (u ∙ ap (listedIn o) w)
 
-  pub push-stop : (e ≡ 0 → ⊥) → Did (pushOf (limitsOf l) b o os) unchanged (c .insns) (moreInsns o (length os) c) m c m (stopped e)
+  pub push-stop : (e ≡ 0 → ⊥) → ProgramDid (pushOf (limitsOf l) b o os) unchanged (c .insns) (moreInsns o (length os) c) m c m (stopped e)
   push-stop h = stop-is (λ s. opIn s o (map opndOf os)) (moreInsns o (length os) c) asks counted m h
 
-  pub push-grew : {m' : List ℕ} {c' : Counts} → e ≡ 0 → Adds b o os m c m' c' → Did (pushOf (limitsOf l) b o os) unchanged (c .insns) (moreInsns o (length os) c) m c m' (grew (c .insns) c')
+  pub push-grew : {m' : List ℕ} {c' : Counts} → e ≡ 0 → ProgramAdds b o os m c m' c'
+      → ProgramDid (pushOf (limitsOf l) b o os) unchanged (c .insns) (moreInsns o (length os) c) m c m' (grew (c .insns) c')
   push-grew z a = grew-is (λ s. opIn s o (map opndOf os)) (moreInsns o (length os) c) asks counted z (a .is) (a .ok) (a .counts)

@@ -9,13 +9,14 @@ use lib.ListN.{getD, List·getD-map}
 use Rattle.kinds.specs.Kinds.{sameOf}
 use Rattle.kinds.specs.declared.Kind.{Kind}
 use Rattle.kinds.specs.declared.Kind.the-variants.{Nil}
-use Rattle.sets.specs.declared.InsnId.{InsnId}
+use Rattle.ids.specs.declared.InsnId.{InsnId}
 use Rattle.rules.specs.Program as P
 use Rattle.rules.specs.Program.{sameOpnd}
 use Rattle.rules.specs.Reading.{newBlock}
 use Rattle.program.specs.Tab.{tab}
 use Rattle.program.specs.Rows.{opndAt, opndsIn, opndOf, nth, opFrom, instructionAt, ownerFrom, funAt, functionIn, blockAt}
-use Rattle.program.specs.View.{view, instructionsOf, functionsOf, blocksOf, Ready, limitsOf, Did, Grew, ReadsInsn, ReadsFun, ReadsBlock, blockFor, nextBlock, moreBlocks, unchanged}
+use Rattle.program.specs.View.{programView, instructionsOf, functionsOf, blocksOf, ProgramReady, limitsOf, ProgramDid, Grew, ReadsInsn, ReadsFun, ReadsBlock, blockFor, nextBlock, moreBlocks}
+use Rattle.program.specs.View.{unchanged}
 use Rattle.program.specs.declared.Counts.{Counts}
 use Rattle.program.specs.declared.Limits.{Limits}
 use Rattle.program.specs.declared.Opnd.{Opnd}
@@ -26,11 +27,11 @@ use Rattle.program.proofs.Tables.{tab-at}
 use Rattle.program.proofs.Forms.{insn-is, fun-is}
 use Rattle.program.proofs.Viewing.{functions-length}
 
-instruction-is : (s m : List ℕ) (c : Counts) (i : ℕ) → i < c .insns → P.instruction (view s m c) i ≡ instructionAt s m i
+instruction-is : (s m : List ℕ) (c : Counts) (i : ℕ) → i < c .insns → P.instruction (programView s m c) i ≡ instructionAt s m i
 unfolding instructionsOf
 instruction-is s m c i h = tab-at (instructionAt s m) (c .insns) i (record { block = 0; op = P.New 0 }) h
 
-module _ {m : List ℕ} {c : Counts} (i : ℕ) (r : Ready m c) where
+module _ {m : List ℕ} {c : Counts} (i : ℕ) (r : ProgramReady m c) where
   pub insn-read : {o : Op} → i < c .insns → o ≡ opFrom (getD m (0 + 6 * i) 0) (getD m (0 + 6 * i + 2) 0) (getD m (0 + 6 * i + 3) 0)
       → ReadsInsn m c i
       (record { block = record { 0 = getD m (0 + 6 * i + 1) 0 % 2 ^ 32 }; op = o; first = getD m (0 + 6 * i + 4) 0; count = getD m (0 + 6 * i + 5) 0 })
@@ -77,15 +78,15 @@ module _ {v w : Opnd} where
 -- ---- the next block is one of the last function
 
 module _ (l : Limits) {m m' : List ℕ} {c : Counts} {g : Grew} where
-  next-is : (f : ℕ) → f ≡ c .functions - 1 → Did (blockFor (limitsOf l) f) unchanged (c .blocks) (moreBlocks c) m c m' g
-      → Did (nextBlock (limitsOf l)) unchanged (c .blocks) (moreBlocks c) m c m' g
+  next-is : (f : ℕ) → f ≡ c .functions - 1 → ProgramDid (blockFor (limitsOf l) f) unchanged (c .blocks) (moreBlocks c) m c m' g
+      → ProgramDid (nextBlock (limitsOf l)) unchanged (c .blocks) (moreBlocks c) m c m' g
   unfolding newBlock
   next-is f e d = let h = rw e at d in record { is = λ s r. rw (functions-length s m (c .functions)) (h .is s r); ok = d .ok }
 
-  pub next-first : c .functions ≡ 0 → Did (blockFor (limitsOf l) 0) unchanged (c .blocks) (moreBlocks c) m c m' g
-      → Did (nextBlock (limitsOf l)) unchanged (c .blocks) (moreBlocks c) m c m' g
+  pub next-first : c .functions ≡ 0 → ProgramDid (blockFor (limitsOf l) 0) unchanged (c .blocks) (moreBlocks c) m c m' g
+      → ProgramDid (nextBlock (limitsOf l)) unchanged (c .blocks) (moreBlocks c) m c m' g
   next-first e d = next-is 0 (omega arith) d
 
-  pub next-last : Did (blockFor (limitsOf l) (c .functions - 1)) unchanged (c .blocks) (moreBlocks c) m c m' g
-      → Did (nextBlock (limitsOf l)) unchanged (c .blocks) (moreBlocks c) m c m' g
+  pub next-last : ProgramDid (blockFor (limitsOf l) (c .functions - 1)) unchanged (c .blocks) (moreBlocks c) m c m' g
+      → ProgramDid (nextBlock (limitsOf l)) unchanged (c .blocks) (moreBlocks c) m c m' g
   next-last d = next-is (c .functions - 1) refl d

@@ -8,7 +8,7 @@ use lib.Seq.{getD-set-same, getD-set-other}
 use mir.Val.{Fits}
 use mir.Syntax.{w32}
 use Rattle.program.specs.Rows.{size, insnsAt, blocksAt, functionsAt, classesAt, opFrom, insnAt, ownerFrom, funAt, blockAt}
-use Rattle.program.specs.View.{Only, PutsRow, PutsBlock, PutsFun, PutsClass}
+use Rattle.program.specs.View.{ProgramOnly, PutsRow, PutsBlock, PutsFun, PutsClass}
 use Rattle.program.specs.declared.Name.{Name}
 use Rattle.program.specs.declared.Row.{Row}
 use Rattle.program.specs.declared.Function.{Function}
@@ -19,9 +19,6 @@ module _ (m : List ℕ) (at v0 v1 : ℕ) (h : at + 1 < length m) where
   abbrev twoStored : List ℕ
   twoStored = set (set m at v0) (at + 1) v1
 
-  two-length : length twoStored ≡ length m
-  two-length = simp length-set
-
   two-0 : getD twoStored at 0 ≡ v0
   two-0 =
       getD-set-other (set m at v0) (at + 1) at v1 0 (λ z. omega arith)
@@ -31,15 +28,12 @@ module _ (m : List ℕ) (at v0 v1 : ℕ) (h : at + 1 < length m) where
   two-1 =
       getD-set-same (set m at v0) (at + 1) v1 0 (simp length-set (omega arith))
 
-  two-only : Only at (at + 2) m twoStored
+  two-only : ProgramOnly at (at + 2) m twoStored
   two-only = only-set (at + 1) v1 (only-set at v0 (only-none m) (omega arith) (omega arith)) (omega arith) (omega arith)
 
 module _ (m : List ℕ) (at v0 v1 v2 v3 : ℕ) (h : at + 3 < length m) where
   abbrev fourStored : List ℕ
   fourStored = set (set (set (set m at v0) (at + 1) v1) (at + 2) v2) (at + 3) v3
-
-  four-length : length fourStored ≡ length m
-  four-length = simp length-set
 
   four-0 : getD fourStored at 0 ≡ v0
   four-0 =
@@ -63,15 +57,14 @@ module _ (m : List ℕ) (at v0 v1 v2 v3 : ℕ) (h : at + 3 < length m) where
   four-3 =
       getD-set-same (set (set (set m at v0) (at + 1) v1) (at + 2) v2) (at + 3) v3 0 (simp length-set (omega arith))
 
-  four-only : Only at (at + 4) m fourStored
-  four-only = only-set (at + 3) v3 (only-set (at + 2) v2 (only-set (at + 1) v1 (only-set at v0 (only-none m) (omega arith) (omega arith)) (omega arith) (omega arith)) (omega arith) (omega arith)) (omega arith) (omega arith)
+  four-only : ProgramOnly at (at + 4) m fourStored
+  four-only =
+      only-set (at + 3) v3 (only-set (at + 2) v2 (only-set (at + 1) v1 (only-set at v0 (only-none m) (omega arith) (omega arith)) (omega arith) (omega arith)) (omega arith) (omega arith))
+      (omega arith) (omega arith)
 
 module _ (m : List ℕ) (at v0 v1 v2 v3 v4 v5 : ℕ) (h : at + 5 < length m) where
   abbrev sixStored : List ℕ
   sixStored = set (set (set (set (set (set m at v0) (at + 1) v1) (at + 2) v2) (at + 3) v3) (at + 4) v4) (at + 5) v5
-
-  six-length : length sixStored ≡ length m
-  six-length = simp length-set
 
   six-0 : getD sixStored at 0 ≡ v0
   six-0 =
@@ -112,8 +105,11 @@ module _ (m : List ℕ) (at v0 v1 v2 v3 v4 v5 : ℕ) (h : at + 5 < length m) whe
   six-5 =
       getD-set-same (set (set (set (set (set m at v0) (at + 1) v1) (at + 2) v2) (at + 3) v3) (at + 4) v4) (at + 5) v5 0 (simp length-set (omega arith))
 
-  six-only : Only at (at + 6) m sixStored
-  six-only = only-set (at + 5) v5 (only-set (at + 4) v4 (only-set (at + 3) v3 (only-set (at + 2) v2 (only-set (at + 1) v1 (only-set at v0 (only-none m) (omega arith) (omega arith)) (omega arith) (omega arith)) (omega arith) (omega arith)) (omega arith) (omega arith)) (omega arith) (omega arith)) (omega arith) (omega arith)
+  six-only : ProgramOnly at (at + 6) m sixStored
+  six-only =
+      only-set (at + 5) v5
+      (only-set (at + 4) v4 (only-set (at + 3) v3 (only-set (at + 2) v2 (only-set (at + 1) v1 (only-set at v0 (only-none m) (omega arith) (omega arith)) (omega arith) (omega arith)) (omega arith) (omega arith)) (omega arith) (omega arith)) (omega arith) (omega arith))
+      (omega arith) (omega arith)
 
 -- an instruction's six words
 pub row-put : (m : List ℕ) (n : ℕ) (x : Row) (t u v : ℕ) → opFrom t u v ≡ x .op → Fits w32 (x .block .0) → size ≤ length m → n < 2048

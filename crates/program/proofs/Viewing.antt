@@ -9,7 +9,7 @@ use Rattle.kinds.specs.Kinds.{bitOf}
 use Rattle.rules.specs.Program as P
 use Rattle.rules.specs.Program.{terminated, listedCount}
 use Rattle.program.specs.Rows.{insnsAt, opndsAt, blocksAt, functionsAt, classesAt, ivarsAt, insnAt, instructionAt, funAt, functionIn, nameIn, ivarAt, ivarsOf, firstOf, classAt, blockAt, flagAt}
-use Rattle.program.specs.View.{instructionsOf, functionsOf, classesOf, blocksOf, view, OwnsFrom, Ready, Only}
+use Rattle.program.specs.View.{instructionsOf, functionsOf, classesOf, blocksOf, programView, OwnsFrom, ProgramReady, ProgramOnly}
 use Rattle.program.specs.declared.Counts.{Counts}
 use Rattle.program.proofs.Tables.{tab-ext, tab-more, tab-length}
 use Rattle.program.proofs.Areas.{Same, same-below, same-above, opnds-same}
@@ -57,7 +57,7 @@ owns-more {n = n} o =
 
 -- ---- rows of tables that stay
 
-module _ {m m' : List ℕ} {c : Counts} (r : Ready m c) (K : Keeps c m m') where
+module _ {m m' : List ℕ} {c : Counts} (r : ProgramReady m c) (K : Keeps c m m') where
   pub insn-keep : (i : ℕ) → i < c .insns → insnAt m' i ≡ insnAt m i
   unfolding insnAt
   insn-keep i h =
@@ -127,10 +127,10 @@ module _ {m m' : List ℕ} {c : Counts} (r : Ready m c) (K : Keeps c m m') where
   unfolding blocksOf blockAt
   blocks-keep = tab-ext (blockAt m') (blockAt m) (c .blocks) (λ b h. rw (K .blocks b h))
 
-  pub view-keep : (s : List ℕ) → view s m' c ≡ view s m c
+  pub view-keep : (s : List ℕ) → programView s m' c ≡ programView s m c
   view-keep s = rw (functions-keep s, classes-keep s, blocks-keep, instructions-keep s)
 
-  pub ready-keep : Flags c m m' → Ready m' c
+  pub ready-keep : Flags c m m' → ProgramReady m' c
   ready-keep F =
       record {
         len-mem = rw (K .len-same) (r .len-mem);
@@ -150,13 +150,13 @@ module _ {m m' : List ℕ} {c : Counts} (r : Ready m c) (K : Keeps c m m') where
 
 -- ---- areas that no row in use lies in
 
-module _ {m : List ℕ} {c : Counts} (r : Ready m c) where
+module _ {m : List ℕ} {c : Counts} (r : ProgramReady m c) where
   -- the operands in use end before the blocks
   pub opnds-end : opndsAt + 2 * c .opnds ≤ blocksAt
   opnds-end = omega (arith, r .opnds, r .listed, r .insns)
 
-module _ {m m' : List ℕ} {c : Counts} (r : Ready m c) where
-  pub free-opnds : {lo hi : ℕ} → Only lo hi m m' → opndsAt + 2 * c .opnds ≤ lo → hi ≤ blocksAt → Keeps c m m'
+module _ {m m' : List ℕ} {c : Counts} (r : ProgramReady m c) where
+  pub free-opnds : {lo hi : ℕ} → ProgramOnly lo hi m m' → opndsAt + 2 * c .opnds ≤ lo → hi ≤ blocksAt → Keeps c m m'
   free-opnds o l h =
       let i = r .insns in
       record {
@@ -169,7 +169,7 @@ module _ {m m' : List ℕ} {c : Counts} (r : Ready m c) where
         ivars = same-above o ivarsAt (ivarsAt + 128 * c .classes) (omega arith);
       }
 
-  pub free-insns : Only (insnsAt + 6 * c .insns) (insnsAt + 6 * c .insns + 6) m m' → c .insns < 2048 → Keeps c m m'
+  pub free-insns : ProgramOnly (insnsAt + 6 * c .insns) (insnsAt + 6 * c .insns + 6) m m' → c .insns < 2048 → Keeps c m m'
   free-insns o h =
       record {
         len-same = o .len-same;
@@ -181,7 +181,7 @@ module _ {m m' : List ℕ} {c : Counts} (r : Ready m c) where
         ivars = same-above o ivarsAt (ivarsAt + 128 * c .classes) (omega arith);
       }
 
-  pub free-blocks : Only (blocksAt + 2 * c .blocks) (blocksAt + 2 * c .blocks + 2) m m' → c .blocks < 1024 → Keeps c m m'
+  pub free-blocks : ProgramOnly (blocksAt + 2 * c .blocks) (blocksAt + 2 * c .blocks + 2) m m' → c .blocks < 1024 → Keeps c m m'
   free-blocks o h =
       let i = r .insns in
       let e = opnds-end r in
@@ -195,7 +195,7 @@ module _ {m m' : List ℕ} {c : Counts} (r : Ready m c) where
         ivars = same-above o ivarsAt (ivarsAt + 128 * c .classes) (omega arith);
       }
 
-  pub free-functions : Only (functionsAt + 4 * c .functions) (functionsAt + 4 * c .functions + 4) m m' → c .functions < 128 → Keeps c m m'
+  pub free-functions : ProgramOnly (functionsAt + 4 * c .functions) (functionsAt + 4 * c .functions + 4) m m' → c .functions < 128 → Keeps c m m'
   free-functions o h =
       let i = r .insns in
       let e = opnds-end r in
@@ -210,7 +210,7 @@ module _ {m m' : List ℕ} {c : Counts} (r : Ready m c) where
         ivars = same-above o ivarsAt (ivarsAt + 128 * c .classes) (omega arith);
       }
 
-  pub free-classes : Only (classesAt + 4 * c .classes) (classesAt + 4 * c .classes + 4) m m' → c .classes < 64 → Keeps c m m'
+  pub free-classes : ProgramOnly (classesAt + 4 * c .classes) (classesAt + 4 * c .classes + 4) m m' → c .classes < 64 → Keeps c m m'
   free-classes o h =
       let i = r .insns in
       let e = opnds-end r in
@@ -227,10 +227,10 @@ module _ {m m' : List ℕ} {c : Counts} (r : Ready m c) where
       }
 
 -- flags stay where nothing of the blocks' table changes
-pub flags-same : {lo hi : ℕ} {m m' : List ℕ} (c : Counts) → Only lo hi m m' → hi ≤ blocksAt → Flags c m m'
+pub flags-same : {lo hi : ℕ} {m m' : List ℕ} (c : Counts) → ProgramOnly lo hi m m' → hi ≤ blocksAt → Flags c m m'
 flags-same c o h b p = o .above (blocksAt + 2 * b + 1) (omega arith)
 
-pub flags-below : {lo hi : ℕ} {m m' : List ℕ} (c : Counts) → Only lo hi m m' → blocksAt + 2 * c .blocks ≤ lo → Flags c m m'
+pub flags-below : {lo hi : ℕ} {m m' : List ℕ} (c : Counts) → ProgramOnly lo hi m m' → blocksAt + 2 * c .blocks ≤ lo → Flags c m m'
 flags-below c o h b p = o .below (blocksAt + 2 * b + 1) (omega arith)
 
 -- ---- one row more

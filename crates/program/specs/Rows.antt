@@ -8,7 +8,7 @@ use lib.ListN.{getD, drop}
 use Rattle.kinds.specs.Kinds.{kindFrom}
 use Rattle.kinds.specs.declared.Kind.the-variants.{Nil}
 use Rattle.kinds.specs.declared.Arith.the-variants.{Add, Sub, Mul, Less}
-use Rattle.words.specs.Names.{name}
+use Rattle.lexer.specs.Names.{name}
 use Rattle.rules.specs.Program as P
 use Rattle.program.specs.Tab.{tab}
 use Rattle.program.specs.declared.Name.{Name}
@@ -47,10 +47,6 @@ abbrev pub size : ℕ
 size = 47872
 
 -- ---- numbers and operands
-
--- the number of a thing, from its word
-abbrev pub idFrom : ℕ → record { 0 : ℕ }
-idFrom x = record { 0 = x % 2 ^ 32 }
 
 -- the stored form of an operand: a constant is its kind's byte and payload, an instruction's result 10 and the instruction's number
 unfoldable pub opndFrom : ℕ → ℕ → Opnd

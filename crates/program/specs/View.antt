@@ -12,7 +12,8 @@ use Rattle.rules.specs.Program as P
 use Rattle.rules.specs.Program.{terminated, listedCount}
 use Rattle.rules.specs.Reading.{Parser, withProgram, withBlock, withClass, pushInsn, newBlockOf, newBlock, newFun, newClass}
 use Rattle.program.specs.Tab.{tab}
-use Rattle.program.specs.Rows.{size, insnsAt, opndsAt, blocksAt, functionsAt, classesAt, opndsIn, opndOf, opIn, listedIn, insnAt, instructionAt, funAt, functionIn, nameIn, ownerIn, classNameAt, classAt, ivarsOf, firstOf, blockAt, flagAt}
+use Rattle.program.specs.Rows.{size, insnsAt, opndsAt, blocksAt, functionsAt, classesAt, opndsIn, opndOf, opIn, listedIn, insnAt, instructionAt, funAt, functionIn, nameIn, ownerIn, classNameAt}
+use Rattle.program.specs.Rows.{classAt, ivarsOf, firstOf, blockAt, flagAt}
 use Rattle.program.specs.declared.Counts.{Counts}
 use Rattle.program.specs.declared.Limits.{Limits}
 use Rattle.program.specs.declared.Name.{Name}
@@ -47,8 +48,8 @@ classesOf s m n = tab (classAt s m) n
 unfoldable pub blocksOf : List ℕ → ℕ → List ℕ
 blocksOf m n = tab (blockAt m) n
 
-abbrev pub view : List ℕ → List ℕ → Counts → P.Program
-view s m c =
+abbrev pub programView : List ℕ → List ℕ → Counts → P.Program
+programView s m c =
     record {
       functions = functionsOf s m (c .functions);
       classes = classesOf s m (c .classes);
@@ -64,7 +65,7 @@ pub record OwnsFrom (m : List ℕ) (n k x : ℕ) : Type 0 where
   pub owned : (f : ℕ) → f < n → isJust (ownerIn (funAt m f .class)) k ≡ true → x ≤ f
 
 -- the counts stay within the tables; each instruction's block and operands are there; the flags of blocks and the number of listed operands are the program's; a class's methods stand from its first function on
-pub record Ready (m : List ℕ) (c : Counts) : Type 0 where
+pub record ProgramReady (m : List ℕ) (c : Counts) : Type 0 where
   pub len-mem : size ≤ length m
   pub functions : c .functions ≤ 128
   pub classes : c .classes ≤ 64
@@ -75,8 +76,8 @@ pub record Ready (m : List ℕ) (c : Counts) : Type 0 where
   pub ivars : (k : ℕ) → k < c .classes → ivarsOf m k ≤ 64
   pub ranges : (i : ℕ) → i < c .insns → insnAt m i .first + insnAt m i .count ≤ c .opnds
   pub inside : (i : ℕ) → i < c .insns → insnAt m i .block .0 < c .blocks
-  pub flags : (s : List ℕ) (b : ℕ) → b < c .blocks → flagAt m b ≡ bitOf (terminated (view s m c) b)
-  pub listing : (s : List ℕ) → c .listed ≡ listedCount (view s m c)
+  pub flags : (s : List ℕ) (b : ℕ) → b < c .blocks → flagAt m b ≡ bitOf (terminated (programView s m c) b)
+  pub listing : (s : List ℕ) → c .listed ≡ listedCount (programView s m c)
   pub firsts : (k : ℕ) → k < c .classes → OwnsFrom m (c .functions) k (firstOf m k)
 
 -- the limits that a call is given are at most the tables' room
@@ -110,47 +111,47 @@ rowIn s m x = record { block = x .block .0; op = opIn s (x .op) (map opndOf (opn
 
 pub record ReadsInsn (m : List ℕ) (c : Counts) (i : ℕ) (r : Row) : Type 0 where
   pub row : r ≡ insnAt m i
-  pub is : (s : List ℕ) → P.instruction (view s m c) i ≡ rowIn s m r
+  pub is : (s : List ℕ) → P.instruction (programView s m c) i ≡ rowIn s m r
   pub range : r .first + r .count ≤ c .opnds
   pub inside : r .block .0 < c .blocks
 
 pub record ReadsFun (m : List ℕ) (c : Counts) (f : ℕ) (r : Function) : Type 0 where
   pub row : r ≡ funAt m f
-  pub is : (s : List ℕ) → P.function (view s m c) f ≡ functionIn s r
+  pub is : (s : List ℕ) → P.function (programView s m c) f ≡ functionIn s r
 
 pub record ReadsBlock (m : List ℕ) (c : Counts) (b f : ℕ) : Type 0 where
-  pub is : (s : List ℕ) → P.functionAt (view s m c) b ≡ f
+  pub is : (s : List ℕ) → P.functionAt (programView s m c) b ≡ f
 
 -- ---- stores
 
 -- only the words from lo up to hi may have changed
-pub record Only (lo hi : ℕ) (m m' : List ℕ) : Type 0 where
+pub record ProgramOnly (lo hi : ℕ) (m m' : List ℕ) : Type 0 where
   pub len-same : length m' ≡ length m
   pub below : (k : ℕ) → k < lo → getD m' k 0 ≡ getD m k 0
   pub above : (k : ℕ) → hi ≤ k → getD m' k 0 ≡ getD m k 0
 
 -- operands stand from a word on
 pub record Puts (at : ℕ) (os : List Opnd) (m m' : List ℕ) : Type 0 where
-  pub only : Only at (at + 2 * length os) m m'
+  pub only : ProgramOnly at (at + 2 * length os) m m'
   pub here : opndsIn m' at (length os) ≡ os
 
 -- instruction n stands in its row
 pub record PutsRow (n : ℕ) (x : Row) (m m' : List ℕ) : Type 0 where
-  pub only : Only (insnsAt + 6 * n) (insnsAt + 6 * n + 6) m m'
+  pub only : ProgramOnly (insnsAt + 6 * n) (insnsAt + 6 * n + 6) m m'
   pub here : insnAt m' n ≡ x
 
 -- the rows of a block, of a function and of a class
 pub record PutsBlock (n f : ℕ) (m m' : List ℕ) : Type 0 where
-  pub only : Only (blocksAt + 2 * n) (blocksAt + 2 * n + 2) m m'
+  pub only : ProgramOnly (blocksAt + 2 * n) (blocksAt + 2 * n + 2) m m'
   pub here : blockAt m' n ≡ f
   pub flag : flagAt m' n ≡ 0
 
 pub record PutsFun (n : ℕ) (x : Function) (m m' : List ℕ) : Type 0 where
-  pub only : Only (functionsAt + 4 * n) (functionsAt + 4 * n + 4) m m'
+  pub only : ProgramOnly (functionsAt + 4 * n) (functionsAt + 4 * n + 4) m m'
   pub here : funAt m' n ≡ x
 
 pub record PutsClass (n : ℕ) (x : Name) (f : ℕ) (m m' : List ℕ) : Type 0 where
-  pub only : Only (classesAt + 4 * n) (classesAt + 4 * n + 4) m m'
+  pub only : ProgramOnly (classesAt + 4 * n) (classesAt + 4 * n + 4) m m'
   pub here : classNameAt m' n ≡ x
   pub none : ivarsOf m' n ≡ 0
   pub first : firstOf m' n ≡ f
@@ -163,22 +164,22 @@ pub data Grew : Type 0 where
   stopped : ℕ → Grew
 
 abbrev pub outcome : List ℕ → List ℕ → Grew → Parser → Answer (ℕ × Parser)
-outcome s m (grew n c) r = answered (n, withProgram (view s m c) r)
+outcome s m (grew n c) r = answered (n, withProgram (programView s m c) r)
 outcome s m (stopped e) r = refused e
 
 -- what holds after an addition: its number is `at`, the counts are `next`
-pub record After (m : List ℕ) (at : ℕ) (next : Counts) (n : ℕ) (c : Counts) : Type 0 where
+pub record ProgramAfter (m : List ℕ) (at : ℕ) (next : Counts) (n : ℕ) (c : Counts) : Type 0 where
   pub number : n ≡ at
   pub counts : c ≡ next
-  pub ready : Ready m c
+  pub ready : ProgramReady m c
 
 abbrev pub AfterIf : List ℕ → ℕ → Counts → Grew → Type 0
-AfterIf m at next (grew n c) = After m at next n c
+AfterIf m at next (grew n c) = ProgramAfter m at next n c
 AfterIf m at next (stopped e) = Unit {0}
 
 -- what every function that adds does, for any script and any state of the parser: f, which leaves the parser as `after` does beside the program
-pub record Did (f : List ℕ → Parser → Answer (ℕ × Parser)) (after : Parser → Parser) (at : ℕ) (next : Counts) (m : List ℕ) (c : Counts) (m' : List ℕ) (g : Grew) : Type 0 where
-  pub is : (s : List ℕ) (r : Parser) → outcome s m' g (after r) ≡ f s (withProgram (view s m c) r)
+pub record ProgramDid (f : List ℕ → Parser → Answer (ℕ × Parser)) (after : Parser → Parser) (at : ℕ) (next : Counts) (m : List ℕ) (c : Counts) (m' : List ℕ) (g : Grew) : Type 0 where
+  pub is : (s : List ℕ) (r : Parser) → outcome s m' g (after r) ≡ f s (withProgram (programView s m c) r)
   pub ok : AfterIf m' at next g
 
 abbrev pub insnOf : NewInsn → Grew
@@ -279,13 +280,13 @@ EntryIs n (F.Added f b c) = b .0 ≡ n
 EntryIs n (F.Refused e) = Unit {0}
 
 pub record DidFun (l : Limits) (n : Name) (k : Owner) (m : List ℕ) (c : Counts) (m' : List ℕ) (r : NewFun) : Type 0 where
-  pub did : Did (funFor (limitsOf l) n k) (entered k (c .blocks)) (c .functions) (moreFunctions (moreBlocks c)) m c m' (funOf r)
+  pub did : ProgramDid (funFor (limitsOf l) n k) (entered k (c .blocks)) (c .functions) (moreFunctions (moreBlocks c)) m c m' (funOf r)
   pub entry : EntryIs (c .blocks) r
 
 -- the program before any reading
 pub record Starts (m : List ℕ) (c : Counts) : Type 0 where
-  pub is : (s : List ℕ) → view s m c ≡ P.noProgram
-  pub ok : Ready m c
+  pub is : (s : List ℕ) → programView s m c ≡ P.noProgram
+  pub ok : ProgramReady m c
 
 -- nothing but the program changes
 abbrev pub unchanged : Parser → Parser
@@ -299,22 +300,22 @@ pushAsks L p b k =
 
 -- an instruction of block b that is added, its n operands right behind those in use
 pub record Commits (b : ℕ) (o : Op) (n : ℕ) (m : List ℕ) (c : Counts) (m' : List ℕ) (c' : Counts) : Type 0 where
-  pub is : (s : List ℕ) → view s m' c' ≡ P.withInstruction (record { block = b; op = opIn s o (map opndOf (opndsIn m (opndsAt + 2 * c .opnds) n)) }) (view s m c)
-  pub ok : Ready m' c'
+  pub is : (s : List ℕ) → programView s m' c' ≡ P.withInstruction (record { block = b; op = opIn s o (map opndOf (opndsIn m (opndsAt + 2 * c .opnds) n)) }) (programView s m c)
+  pub ok : ProgramReady m' c'
   pub counts : c' ≡ moreInsns o n c
 
 -- the same of an instruction with these operands, wherever they came from
-pub record Adds (b : ℕ) (o : Op) (os : List Opnd) (m : List ℕ) (c : Counts) (m' : List ℕ) (c' : Counts) : Type 0 where
-  pub is : (s : List ℕ) → view s m' c' ≡ P.withInstruction (record { block = b; op = opIn s o (map opndOf os) }) (view s m c)
-  pub ok : Ready m' c'
+pub record ProgramAdds (b : ℕ) (o : Op) (os : List Opnd) (m : List ℕ) (c : Counts) (m' : List ℕ) (c' : Counts) : Type 0 where
+  pub is : (s : List ℕ) → programView s m' c' ≡ P.withInstruction (record { block = b; op = opIn s o (map opndOf os) }) (programView s m c)
+  pub ok : ProgramReady m' c'
   pub counts : c' ≡ moreInsns o (length os) c
 
 -- what the two questions of an addition come to, for any script
 pub record Asks (l : Limits) (m : List ℕ) (c : Counts) (b k e : ℕ) : Type 0 where
-  pub is : (s : List ℕ) → e ≡ pushAsks (limitsOf l) (view s m c) b k
+  pub is : (s : List ℕ) → e ≡ pushAsks (limitsOf l) (programView s m c) b k
 
 -- room for it
-pub record Room (b : ℕ) (o : Op) (n : ℕ) (c : Counts) : Type 0 where
+pub record ProgramRoom (b : ℕ) (o : Op) (n : ℕ) (c : Counts) : Type 0 where
   pub block : b < c .blocks
   pub insns : c .insns < 2048
   pub listed : c .listed + listedIn o n ≤ 8192

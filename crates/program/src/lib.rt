@@ -1,10 +1,10 @@
 // The program that a reading leaves: its tables in one lent memory of words.
+use ids::BlockId;
+use ids::ClassId;
+use ids::FunId;
+use ids::InsnId;
 use kinds::Arith;
 use kinds::Kind;
-use sets::BlockId;
-use sets::ClassId;
-use sets::FunId;
-use sets::InsnId;
 ghost use mathlib.Core.Path.{_≡_};
 ghost use mathlib.Core.List.{[], _∷_, _++_, map};
 ghost use Prim.Native.Nat.{_+_, _*_, _≤_, _<_};
@@ -12,7 +12,7 @@ ghost use lib.ListN.{length};
 ghost use Rattle.rules.specs.Lists.{isJust};
 ghost use Rattle.rules.specs.Program.{limits, sameOpnd};
 ghost use Rattle.program.specs.Rows.{size, opndsAt, opndFrom, opndAt, opndsIn, opndOf, nth, given, opFrom, listedIn, endsBlock, ownerFrom, ownerIn};
-ghost use Rattle.program.specs.View.{OwnsFrom, Ready, Small, limitsOf, ReadsInsn, ReadsFun, ReadsBlock, Puts, PutsRow, Asks, Room, PutsBlock, PutsFun, PutsClass, Commits, Adds, Did, DidFun, Starts, insnOf, blockOf, classOf, pushOf, callOf, blockFor, nextBlock, classFor, moreInsns, moreCalls, moreBlocks, moreClasses, unchanged};
+ghost use Rattle.program.specs.View.{OwnsFrom, ProgramReady, Small, limitsOf, ReadsInsn, ReadsFun, ReadsBlock, Puts, PutsRow, Asks, ProgramRoom, PutsBlock, PutsFun, PutsClass, Commits, ProgramAdds, ProgramDid, DidFun, Starts, insnOf, blockOf, classOf, pushOf, callOf, blockFor, nextBlock, classFor, moreInsns, moreCalls, moreBlocks, moreClasses, unchanged};
 
 // Where the tables start, in words, and how many words they take together.
 pub const INSNS: usize = 0;
@@ -369,85 +369,85 @@ pub fn is_owned(x: usize, k: ClassId) -> bool
 // ---- rows read
 
 // The operand that stands at a word of a memory.
-pub fn read_opnd(m: &[usize], at: usize) -> Opnd
-    requires { ⌜ at + 1 < length (now m) ⌝ }
-    ensures { λ r. ⌜ r ≡ opndAt (now (m .entry)) at ⌝ }
+pub fn read_opnd(program: &[usize], at: usize) -> Opnd
+    requires { ⌜ at + 1 < length (now program) ⌝ }
+    ensures { λ r. ⌜ r ≡ opndAt (now (program .entry)) at ⌝ }
 {
-    opnd_from(m[at], m[at + 1])
+    opnd_from(program[at], program[at + 1])
 }
 
 // An instruction, from its row.
-pub fn read_insn(m: &[usize], c: Counts, i: InsnId) -> Row
-    requires { ⌜ Ready (now m) c ⌝ }
-    requires { ⌜ i .0 < c .insns ⌝ }
-    ensures { λ r. ⌜ ReadsInsn (now (m .entry)) c (i .0) r ⌝ }
+pub fn read_insn(program: &[usize], counts: Counts, i: InsnId) -> Row
+    requires { ⌜ ProgramReady (now program) counts ⌝ }
+    requires { ⌜ i .0 < counts .insns ⌝ }
+    ensures { λ r. ⌜ ReadsInsn (now (program .entry)) counts (i .0) r ⌝ }
 {
     let at = INSNS + 6 * (i.0 as usize);
     Row {
-        block: BlockId((m[at + 1] % 4294967296) as u32),
-        op: op_from(m[at], m[at + 2], m[at + 3]),
-        first: m[at + 4],
-        count: m[at + 5],
+        block: BlockId((program[at + 1] % 4294967296) as u32),
+        op: op_from(program[at], program[at + 2], program[at + 3]),
+        first: program[at + 4],
+        count: program[at + 5],
     }
 }
 
 // Operand j of an instruction.
-pub fn read_operand(m: &[usize], c: Counts, x: Row, j: usize) -> Opnd
-    requires { ⌜ Ready (now m) c ⌝ }
-    requires { ⌜ (x .first + x .count ≤ c .opnds) × (j < x .count) ⌝ }
-    ensures { λ r. ⌜ opndOf r ≡ nth (map opndOf (opndsIn (now (m .entry)) (opndsAt + 2 * x .first) (x .count))) j ⌝ }
+pub fn read_operand(program: &[usize], counts: Counts, x: Row, j: usize) -> Opnd
+    requires { ⌜ ProgramReady (now program) counts ⌝ }
+    requires { ⌜ (x .first + x .count ≤ counts .opnds) × (j < x .count) ⌝ }
+    ensures { λ r. ⌜ opndOf r ≡ nth (map opndOf (opndsIn (now (program .entry)) (opndsAt + 2 * x .first) (x .count))) j ⌝ }
 {
-    read_opnd(m, OPNDS + 2 * x.first + 2 * j)
+    read_opnd(program, OPNDS + 2 * x.first + 2 * j)
 }
 
-pub fn read_fun(m: &[usize], c: Counts, f: FunId) -> Function
-    requires { ⌜ Ready (now m) c ⌝ }
-    requires { ⌜ f .0 < c .functions ⌝ }
-    ensures { λ r. ⌜ ReadsFun (now (m .entry)) c (f .0) r ⌝ }
+pub fn read_fun(program: &[usize], counts: Counts, f: FunId) -> Function
+    requires { ⌜ ProgramReady (now program) counts ⌝ }
+    requires { ⌜ f .0 < counts .functions ⌝ }
+    ensures { λ r. ⌜ ReadsFun (now (program .entry)) counts (f .0) r ⌝ }
 {
     let at = FUNCTIONS + 4 * (f.0 as usize);
     Function {
         name: Name {
-            start: m[at],
-            len: m[at + 1],
+            start: program[at],
+            len: program[at + 1],
         },
-        class: owner_from(m[at + 2]),
-        entry: BlockId((m[at + 3] % 4294967296) as u32),
+        class: owner_from(program[at + 2]),
+        entry: BlockId((program[at + 3] % 4294967296) as u32),
     }
 }
 
 // No function of class k stands below this one.
-pub fn first_function(m: &[usize], c: Counts, k: ClassId) -> usize
-    requires { ⌜ Ready (now m) c ⌝ }
-    ensures { λ r. ⌜ OwnsFrom (now (m .entry)) (c .functions) (k .0) r ⌝ }
+pub fn first_function(program: &[usize], counts: Counts, k: ClassId) -> usize
+    requires { ⌜ ProgramReady (now program) counts ⌝ }
+    ensures { λ r. ⌜ OwnsFrom (now (program .entry)) (counts .functions) (k .0) r ⌝ }
 {
     let n = k.0 as usize;
-    if n < c.classes {
-        return m[CLASSES + 4 * n + 3];
+    if n < counts.classes {
+        return program[CLASSES + 4 * n + 3];
     }
     0
 }
 
 // The function of a block.
-pub fn function_of(m: &[usize], c: Counts, b: BlockId) -> FunId
-    requires { ⌜ Ready (now m) c ⌝ }
-    requires { ⌜ b .0 < c .blocks ⌝ }
-    ensures { λ r. ⌜ ReadsBlock (now (m .entry)) c (b .0) (r .0) ⌝ }
+pub fn function_of(program: &[usize], counts: Counts, b: BlockId) -> FunId
+    requires { ⌜ ProgramReady (now program) counts ⌝ }
+    requires { ⌜ b .0 < counts .blocks ⌝ }
+    ensures { λ r. ⌜ ReadsBlock (now (program .entry)) counts (b .0) (r .0) ⌝ }
 {
     let at = BLOCKS + 2 * (b.0 as usize);
-    FunId((m[at] % 4294967296) as u32)
+    FunId((program[at] % 4294967296) as u32)
 }
 
 // ---- rows written
 
 // The operand stands at a word of a memory.
-pub fn put_opnd(m: &mut [usize], at: usize, o: Opnd)
-    requires { ⌜ at + 1 < length (now m) ⌝ }
-    ensures { λ _. ⌜ Puts at (o ∷ []) (now (m .entry)) (now (m .exit)) ⌝ }
+pub fn put_opnd(program: &mut [usize], at: usize, o: Opnd)
+    requires { ⌜ at + 1 < length (now program) ⌝ }
+    ensures { λ _. ⌜ Puts at (o ∷ []) (now (program .entry)) (now (program .exit)) ⌝ }
 {
     let w = opnd_words(o);
-    m[at] = w.tag;
-    m[at + 1] = w.bits;
+    program[at] = w.tag;
+    program[at + 1] = w.bits;
 }
 
 fn count_of(g: Given) -> usize
@@ -460,146 +460,153 @@ fn count_of(g: Given) -> usize
     }
 }
 
-fn put_given(m: &mut [usize], at: usize, g: Given)
-    requires { ⌜ at + 4 ≤ length (now m) ⌝ }
-    ensures { λ _. ⌜ Puts at (given g) (now (m .entry)) (now (m .exit)) ⌝ }
+fn put_given(program: &mut [usize], at: usize, g: Given)
+    requires { ⌜ at + 4 ≤ length (now program) ⌝ }
+    ensures { λ _. ⌜ Puts at (given g) (now (program .entry)) (now (program .exit)) ⌝ }
 {
     match g {
         Given::Zero => {}
         Given::One(v) => {
-            put_opnd(m, at, v);
+            put_opnd(program, at, v);
         }
         Given::Two(v, w) => {
-            put_opnd(m, at, v);
-            put_opnd(m, at + 2, w);
+            put_opnd(program, at, v);
+            put_opnd(program, at + 2, w);
         }
     }
 }
 
 // n operands that stand in another memory from word a on.
-fn copy_opnds(args: &[usize], a: usize, n: usize, m: &mut [usize], at: usize)
+fn copy_opnds(args: &[usize], a: usize, n: usize, program: &mut [usize], at: usize)
     requires { ⌜ a + 2 * n ≤ length (now args) ⌝ }
-    requires { ⌜ at + 2 * n ≤ length (now m) ⌝ }
-    ensures { λ _. ⌜ Puts at (opndsIn (now (args .entry)) a n) (now (m .entry)) (now (m .exit)) ⌝ }
+    requires { ⌜ at + 2 * n ≤ length (now program) ⌝ }
+    ensures { λ _. ⌜ Puts at (opndsIn (now (args .entry)) a n) (now (program .entry)) (now (program .exit)) ⌝ }
 {
     let mut i = 0;
     while i < n {
         let t = args[a + 2 * i];
         let x = args[a + 2 * i + 1];
-        m[at + 2 * i] = t;
-        m[at + 2 * i + 1] = x;
+        program[at + 2 * i] = t;
+        program[at + 2 * i + 1] = x;
         i += 1;
     }
 }
 
-fn put_insn(m: &mut [usize], i: InsnId, x: Row)
-    requires { ⌜ size ≤ length (now m) ⌝ }
+fn put_insn(program: &mut [usize], i: InsnId, x: Row)
+    requires { ⌜ size ≤ length (now program) ⌝ }
     requires { ⌜ i .0 < 2048 ⌝ }
-    ensures { λ _. ⌜ PutsRow (i .0) x (now (m .entry)) (now (m .exit)) ⌝ }
+    ensures { λ _. ⌜ PutsRow (i .0) x (now (program .entry)) (now (program .exit)) ⌝ }
 {
     let at = INSNS + 6 * (i.0 as usize);
     let b = x.block;
     let op = x.op;
     let w = op_words(op);
-    m[at] = w.tag;
-    m[at + 1] = b.0 as usize;
-    m[at + 2] = w.x;
-    m[at + 3] = w.y;
-    m[at + 4] = x.first;
-    m[at + 5] = x.count;
+    program[at] = w.tag;
+    program[at + 1] = b.0 as usize;
+    program[at + 2] = w.x;
+    program[at + 3] = w.y;
+    program[at + 4] = x.first;
+    program[at + 5] = x.count;
 }
 
 // ---- instructions added
 
 // Questions 10 and 11 for an instruction of block b with k listed operands: 0, or the number of the first that is answered no.
-fn may_push(m: &[usize], c: Counts, l: Limits, b: BlockId, k: usize) -> usize
-    requires { ⌜ Ready (now m) c ⌝ }
-    requires { ⌜ b .0 < c .blocks ⌝ }
-    ensures { λ r. ⌜ Asks l (now (m .entry)) c (b .0) k r ⌝ }
+fn may_push(program: &[usize], counts: Counts, limits: Limits, b: BlockId, k: usize) -> usize
+    requires { ⌜ ProgramReady (now program) counts ⌝ }
+    requires { ⌜ b .0 < counts .blocks ⌝ }
+    ensures { λ r. ⌜ Asks limits (now (program .entry)) counts (b .0) k r ⌝ }
 {
     let at = BLOCKS + 2 * (b.0 as usize);
-    if m[at + 1] != 0 {
+    if program[at + 1] != 0 {
         return 10;
     }
-    if l.instructions <= c.insns {
+    if limits.instructions <= counts.insns {
         return 11;
     }
-    if l.operands < c.listed {
+    if limits.operands < counts.listed {
         return 11;
     }
-    if l.operands - c.listed < k {
+    if limits.operands - counts.listed < k {
         return 11;
     }
     0
 }
 
 // An instruction whose n operands stand right behind those in use.
-fn commit(m: &mut [usize], c: Counts, b: BlockId, op: Op, n: usize) -> Counts
-    requires { ⌜ Ready (now m) c ⌝ }
-    requires { ⌜ Room (b .0) op n c ⌝ }
-    ensures { λ r. ⌜ Commits (b .0) op n (now (m .entry)) c (now (m .exit)) r ⌝ }
+fn commit(program: &mut [usize], counts: Counts, b: BlockId, op: Op, n: usize) -> Counts
+    requires { ⌜ ProgramReady (now program) counts ⌝ }
+    requires { ⌜ ProgramRoom (b .0) op n counts ⌝ }
+    ensures { λ r. ⌜ Commits (b .0) op n (now (program .entry)) counts (now (program .exit)) r ⌝ }
 {
     let listed = listed_in(op, n);
     let next = Counts {
-        functions: c.functions,
-        classes: c.classes,
-        blocks: c.blocks,
-        insns: c.insns + 1,
-        opnds: c.opnds + n,
-        listed: c.listed + listed,
+        functions: counts.functions,
+        classes: counts.classes,
+        blocks: counts.blocks,
+        insns: counts.insns + 1,
+        opnds: counts.opnds + n,
+        listed: counts.listed + listed,
     };
     put_insn(
-        m,
-        InsnId(c.insns as u32),
+        program,
+        InsnId(counts.insns as u32),
         Row {
             block: b,
             op,
-            first: c.opnds,
+            first: counts.opnds,
             count: n,
         },
     );
     if ends_block(op) {
         let at = BLOCKS + 2 * (b.0 as usize);
-        m[at + 1] = 1;
+        program[at + 1] = 1;
         return next;
     }
     next
 }
 
 // An instruction with the n operands given.
-fn add_insn(m: &mut [usize], c: Counts, b: BlockId, op: Op, g: Given, n: usize) -> Counts
-    requires { ⌜ Ready (now m) c ⌝ }
-    requires { ⌜ Room (b .0) op n c ⌝ }
+fn add_insn(program: &mut [usize], counts: Counts, b: BlockId, op: Op, g: Given, n: usize) -> Counts
+    requires { ⌜ ProgramReady (now program) counts ⌝ }
+    requires { ⌜ ProgramRoom (b .0) op n counts ⌝ }
     requires { ⌜ n ≡ length (given g) ⌝ }
-    ensures { λ r. ⌜ Adds (b .0) op (given g) (now (m .entry)) c (now (m .exit)) r ⌝ }
+    ensures { λ r. ⌜ ProgramAdds (b .0) op (given g) (now (program .entry)) counts (now (program .exit)) r ⌝ }
 {
-    let at = OPNDS + 2 * c.opnds;
-    put_given(m, at, g);
-    commit(m, c, b, op, n)
+    let at = OPNDS + 2 * counts.opnds;
+    put_given(program, at, g);
+    commit(program, counts, b, op, n)
 }
 
 // An instruction that is no call is added to block b, or 10 or 11.
-pub fn push_insn(m: &mut [usize], c: Counts, l: Limits, b: BlockId, op: Op, g: Given) -> NewInsn
-    requires { ⌜ Ready (now m) c ⌝ }
-    requires { ⌜ Small l ⌝ }
-    requires { ⌜ b .0 < c .blocks ⌝ }
-    ensures { λ r. ⌜ Did (pushOf (limitsOf l) (b .0) op (given g)) unchanged (c .insns) (moreInsns op (length (given g)) c) (now (m .entry)) c (now (m .exit)) (insnOf r) ⌝ }
+pub fn push_insn(
+    program: &mut [usize],
+    counts: Counts,
+    limits: Limits,
+    b: BlockId,
+    op: Op,
+    g: Given,
+) -> NewInsn
+    requires { ⌜ ProgramReady (now program) counts ⌝ }
+    requires { ⌜ Small limits ⌝ }
+    requires { ⌜ b .0 < counts .blocks ⌝ }
+    ensures { λ r. ⌜ ProgramDid (pushOf (limitsOf limits) (b .0) op (given g)) unchanged (counts .insns) (moreInsns op (length (given g)) counts) (now (program .entry)) counts (now (program .exit)) (insnOf r) ⌝ }
 {
     let n = count_of(g);
     let k = listed_in(op, n);
-    let e = may_push(m, c, l, b, k);
+    let e = may_push(program, counts, limits, b, k);
     if e != 0 {
         return NewInsn::Refused(e);
     }
-    let i = InsnId(c.insns as u32);
-    let next = add_insn(m, c, b, op, g, n);
+    let i = InsnId(counts.insns as u32);
+    let next = add_insn(program, counts, b, op, g, n);
     NewInsn::Added(i, next)
 }
 
 // An instruction with the k operands given, and behind them n that stand in another memory from word a on.
 fn add_call(
-    m: &mut [usize],
-    c: Counts,
+    program: &mut [usize],
+    counts: Counts,
     b: BlockId,
     op: Op,
     g: Given,
@@ -608,45 +615,55 @@ fn add_call(
     a: usize,
     n: usize,
 ) -> Counts
-    requires { ⌜ Ready (now m) c ⌝ }
-    requires { ⌜ Room (b .0) op (k + n) c ⌝ }
+    requires { ⌜ ProgramReady (now program) counts ⌝ }
+    requires { ⌜ ProgramRoom (b .0) op (k + n) counts ⌝ }
     requires { ⌜ (k ≡ length (given g)) × (a + 2 * n ≤ length (now args)) ⌝ }
-    ensures { λ r. ⌜ Adds (b .0) op (given g ++ opndsIn (now (args .entry)) a n) (now (m .entry)) c (now (m .exit)) r ⌝ }
+    ensures { λ r. ⌜ ProgramAdds (b .0) op (given g ++ opndsIn (now (args .entry)) a n) (now (program .entry)) counts (now (program .exit)) r ⌝ }
 {
-    let at = OPNDS + 2 * c.opnds;
-    put_given(m, at, g);
-    copy_opnds(args, a, n, m, at + 2 * k);
-    commit(m, c, b, op, k + n)
+    let at = OPNDS + 2 * counts.opnds;
+    put_given(program, at, g);
+    copy_opnds(args, a, n, program, at + 2 * k);
+    commit(program, counts, b, op, k + n)
 }
 
 fn push_static(
-    m: &mut [usize],
-    c: Counts,
-    l: Limits,
+    program: &mut [usize],
+    counts: Counts,
+    limits: Limits,
     b: BlockId,
     f: FunId,
     args: &[usize],
     a: usize,
     n: usize,
 ) -> NewInsn
-    requires { ⌜ Ready (now m) c ⌝ }
-    requires { ⌜ Small l ⌝ }
-    requires { ⌜ (b .0 < c .blocks) × (a + 2 * n ≤ length (now args)) ⌝ }
-    ensures { λ r. ⌜ Did (callOf (limitsOf l) (b .0) (Callee.Static f) (opndsIn (now (args .entry)) a n)) unchanged (c .insns) (moreCalls (Callee.Static f) n c) (now (m .entry)) c (now (m .exit)) (insnOf r) ⌝ }
+    requires { ⌜ ProgramReady (now program) counts ⌝ }
+    requires { ⌜ Small limits ⌝ }
+    requires { ⌜ (b .0 < counts .blocks) × (a + 2 * n ≤ length (now args)) ⌝ }
+    ensures { λ r. ⌜ ProgramDid (callOf (limitsOf limits) (b .0) (Callee.Static f) (opndsIn (now (args .entry)) a n)) unchanged (counts .insns) (moreCalls (Callee.Static f) n counts) (now (program .entry)) counts (now (program .exit)) (insnOf r) ⌝ }
 {
-    let e = may_push(m, c, l, b, n);
+    let e = may_push(program, counts, limits, b, n);
     if e != 0 {
         return NewInsn::Refused(e);
     }
-    let i = InsnId(c.insns as u32);
-    let next = add_call(m, c, b, Op::SendStatic(f), Given::Zero, 0, args, a, n);
+    let i = InsnId(counts.insns as u32);
+    let next = add_call(
+        program,
+        counts,
+        b,
+        Op::SendStatic(f),
+        Given::Zero,
+        0,
+        args,
+        a,
+        n,
+    );
     NewInsn::Added(i, next)
 }
 
 fn push_dynamic(
-    m: &mut [usize],
-    c: Counts,
-    l: Limits,
+    program: &mut [usize],
+    counts: Counts,
+    limits: Limits,
     b: BlockId,
     v: Opnd,
     name: Name,
@@ -654,134 +671,150 @@ fn push_dynamic(
     a: usize,
     n: usize,
 ) -> NewInsn
-    requires { ⌜ Ready (now m) c ⌝ }
-    requires { ⌜ Small l ⌝ }
-    requires { ⌜ (b .0 < c .blocks) × (a + 2 * n ≤ length (now args)) ⌝ }
-    ensures { λ r. ⌜ Did (callOf (limitsOf l) (b .0) (Callee.Dynamic v name) (opndsIn (now (args .entry)) a n)) unchanged (c .insns) (moreCalls (Callee.Dynamic v name) n c) (now (m .entry)) c (now (m .exit)) (insnOf r) ⌝ }
+    requires { ⌜ ProgramReady (now program) counts ⌝ }
+    requires { ⌜ Small limits ⌝ }
+    requires { ⌜ (b .0 < counts .blocks) × (a + 2 * n ≤ length (now args)) ⌝ }
+    ensures { λ r. ⌜ ProgramDid (callOf (limitsOf limits) (b .0) (Callee.Dynamic v name) (opndsIn (now (args .entry)) a n)) unchanged (counts .insns) (moreCalls (Callee.Dynamic v name) n counts) (now (program .entry)) counts (now (program .exit)) (insnOf r) ⌝ }
 {
-    let e = may_push(m, c, l, b, n);
+    let e = may_push(program, counts, limits, b, n);
     if e != 0 {
         return NewInsn::Refused(e);
     }
-    let i = InsnId(c.insns as u32);
-    let next = add_call(m, c, b, Op::SendDynamic(name), Given::One(v), 1, args, a, n);
+    let i = InsnId(counts.insns as u32);
+    let next = add_call(
+        program,
+        counts,
+        b,
+        Op::SendDynamic(name),
+        Given::One(v),
+        1,
+        args,
+        a,
+        n,
+    );
     NewInsn::Added(i, next)
 }
 
 // A call is added to block b, or 10 or 11; its n arguments stand in another memory from word a on.
 pub fn push_call(
-    m: &mut [usize],
-    c: Counts,
-    l: Limits,
+    program: &mut [usize],
+    counts: Counts,
+    limits: Limits,
     b: BlockId,
     callee: Callee,
     args: &[usize],
     a: usize,
     n: usize,
 ) -> NewInsn
-    requires { ⌜ Ready (now m) c ⌝ }
-    requires { ⌜ Small l ⌝ }
-    requires { ⌜ (b .0 < c .blocks) × (a + 2 * n ≤ length (now args)) ⌝ }
-    ensures { λ r. ⌜ Did (callOf (limitsOf l) (b .0) callee (opndsIn (now (args .entry)) a n)) unchanged (c .insns) (moreCalls callee n c) (now (m .entry)) c (now (m .exit)) (insnOf r) ⌝ }
+    requires { ⌜ ProgramReady (now program) counts ⌝ }
+    requires { ⌜ Small limits ⌝ }
+    requires { ⌜ (b .0 < counts .blocks) × (a + 2 * n ≤ length (now args)) ⌝ }
+    ensures { λ r. ⌜ ProgramDid (callOf (limitsOf limits) (b .0) callee (opndsIn (now (args .entry)) a n)) unchanged (counts .insns) (moreCalls callee n counts) (now (program .entry)) counts (now (program .exit)) (insnOf r) ⌝ }
 {
     match callee {
-        Callee::Static(f) => push_static(m, c, l, b, f, args, a, n),
-        Callee::Dynamic(v, name) => push_dynamic(m, c, l, b, v, name, args, a, n),
+        Callee::Static(f) => push_static(program, counts, limits, b, f, args, a, n),
+        Callee::Dynamic(v, name) => push_dynamic(program, counts, limits, b, v, name, args, a, n),
     }
 }
 
 // ---- blocks, functions and classes added
 
-fn put_block(m: &mut [usize], b: BlockId, f: FunId)
-    requires { ⌜ size ≤ length (now m) ⌝ }
+fn put_block(program: &mut [usize], b: BlockId, f: FunId)
+    requires { ⌜ size ≤ length (now program) ⌝ }
     requires { ⌜ b .0 < 1024 ⌝ }
-    ensures { λ _. ⌜ PutsBlock (b .0) (f .0) (now (m .entry)) (now (m .exit)) ⌝ }
+    ensures { λ _. ⌜ PutsBlock (b .0) (f .0) (now (program .entry)) (now (program .exit)) ⌝ }
 {
     let at = BLOCKS + 2 * (b.0 as usize);
-    m[at] = f.0 as usize;
-    m[at + 1] = 0;
+    program[at] = f.0 as usize;
+    program[at + 1] = 0;
 }
 
-fn put_fun(m: &mut [usize], f: FunId, x: Function)
-    requires { ⌜ size ≤ length (now m) ⌝ }
+fn put_fun(program: &mut [usize], f: FunId, x: Function)
+    requires { ⌜ size ≤ length (now program) ⌝ }
     requires { ⌜ f .0 < 128 ⌝ }
-    ensures { λ _. ⌜ PutsFun (f .0) x (now (m .entry)) (now (m .exit)) ⌝ }
+    ensures { λ _. ⌜ PutsFun (f .0) x (now (program .entry)) (now (program .exit)) ⌝ }
 {
     let at = FUNCTIONS + 4 * (f.0 as usize);
     let name = x.name;
     let class = x.class;
     let entry = x.entry;
     let w = owner_word(class);
-    m[at] = name.start;
-    m[at + 1] = name.len;
-    m[at + 2] = w;
-    m[at + 3] = entry.0 as usize;
+    program[at] = name.start;
+    program[at + 1] = name.len;
+    program[at + 2] = w;
+    program[at + 3] = entry.0 as usize;
 }
 
-fn put_class(m: &mut [usize], k: ClassId, x: Name, first: usize)
-    requires { ⌜ size ≤ length (now m) ⌝ }
+fn put_class(program: &mut [usize], k: ClassId, x: Name, first: usize)
+    requires { ⌜ size ≤ length (now program) ⌝ }
     requires { ⌜ k .0 < 64 ⌝ }
-    ensures { λ _. ⌜ PutsClass (k .0) x first (now (m .entry)) (now (m .exit)) ⌝ }
+    ensures { λ _. ⌜ PutsClass (k .0) x first (now (program .entry)) (now (program .exit)) ⌝ }
 {
     let at = CLASSES + 4 * (k.0 as usize);
-    m[at] = x.start;
-    m[at + 1] = x.len;
-    m[at + 2] = 0;
-    m[at + 3] = first;
+    program[at] = x.start;
+    program[at + 1] = x.len;
+    program[at + 2] = 0;
+    program[at + 3] = first;
 }
 
 // A block of function f is opened, or 11.
-fn new_block(m: &mut [usize], c: Counts, l: Limits, f: FunId) -> NewBlock
-    requires { ⌜ Ready (now m) c ⌝ }
-    requires { ⌜ Small l ⌝ }
-    ensures { λ r. ⌜ Did (blockFor (limitsOf l) (f .0)) unchanged (c .blocks) (moreBlocks c) (now (m .entry)) c (now (m .exit)) (blockOf r) ⌝ }
+fn new_block(program: &mut [usize], counts: Counts, limits: Limits, f: FunId) -> NewBlock
+    requires { ⌜ ProgramReady (now program) counts ⌝ }
+    requires { ⌜ Small limits ⌝ }
+    ensures { λ r. ⌜ ProgramDid (blockFor (limitsOf limits) (f .0)) unchanged (counts .blocks) (moreBlocks counts) (now (program .entry)) counts (now (program .exit)) (blockOf r) ⌝ }
 {
-    let n = c.blocks;
-    if l.blocks <= n {
+    let n = counts.blocks;
+    if limits.blocks <= n {
         return NewBlock::Refused(11);
     }
     let b = BlockId(n as u32);
-    put_block(m, b, f);
+    put_block(program, b, f);
     NewBlock::Added(
         b,
         Counts {
-            functions: c.functions,
-            classes: c.classes,
+            functions: counts.functions,
+            classes: counts.classes,
             blocks: n + 1,
-            insns: c.insns,
-            opnds: c.opnds,
-            listed: c.listed,
+            insns: counts.insns,
+            opnds: counts.opnds,
+            listed: counts.listed,
         },
     )
 }
 
 // A block of the function being read, which is the last, or 11.
-pub fn next_block(m: &mut [usize], c: Counts, l: Limits) -> NewBlock
-    requires { ⌜ Ready (now m) c ⌝ }
-    requires { ⌜ Small l ⌝ }
-    ensures { λ r. ⌜ Did (nextBlock (limitsOf l)) unchanged (c .blocks) (moreBlocks c) (now (m .entry)) c (now (m .exit)) (blockOf r) ⌝ }
+pub fn next_block(program: &mut [usize], counts: Counts, limits: Limits) -> NewBlock
+    requires { ⌜ ProgramReady (now program) counts ⌝ }
+    requires { ⌜ Small limits ⌝ }
+    ensures { λ r. ⌜ ProgramDid (nextBlock (limitsOf limits)) unchanged (counts .blocks) (moreBlocks counts) (now (program .entry)) counts (now (program .exit)) (blockOf r) ⌝ }
 {
-    let n = c.functions;
+    let n = counts.functions;
     if n == 0 {
-        return new_block(m, c, l, FunId(0));
+        return new_block(program, counts, limits, FunId(0));
     }
-    new_block(m, c, l, FunId((n - 1) as u32))
+    new_block(program, counts, limits, FunId((n - 1) as u32))
 }
 
 // A function with its entry block, or 11.
-pub fn new_fun(m: &mut [usize], c: Counts, l: Limits, name: Name, class: Owner) -> NewFun
-    requires { ⌜ Ready (now m) c ⌝ }
-    requires { ⌜ Small l ⌝ }
-    ensures { λ r. ⌜ DidFun l name class (now (m .entry)) c (now (m .exit)) r ⌝ }
+pub fn new_fun(
+    program: &mut [usize],
+    counts: Counts,
+    limits: Limits,
+    name: Name,
+    class: Owner,
+) -> NewFun
+    requires { ⌜ ProgramReady (now program) counts ⌝ }
+    requires { ⌜ Small limits ⌝ }
+    ensures { λ r. ⌜ DidFun limits name class (now (program .entry)) counts (now (program .exit)) r ⌝ }
 {
-    let n = c.functions;
+    let n = counts.functions;
     let f = FunId(n as u32);
-    match new_block(m, c, l, f) {
+    match new_block(program, counts, limits, f) {
         NewBlock::Added(entry, d) => {
-            if l.functions <= n {
+            if limits.functions <= n {
                 return NewFun::Refused(11);
             }
-            put_fun(m, f, Function { name, class, entry });
+            put_fun(program, f, Function { name, class, entry });
             NewFun::Added(
                 f,
                 entry,
@@ -800,14 +833,14 @@ pub fn new_fun(m: &mut [usize], c: Counts, l: Limits, name: Name, class: Owner) 
 }
 
 // The first function of class k, else the number of functions. The reader adds a class before its methods.
-fn first_owned(m: &[usize], c: Counts, k: ClassId) -> usize
-    requires { ⌜ Ready (now m) c ⌝ }
-    ensures { λ r. ⌜ OwnsFrom (now (m .entry)) (c .functions) (k .0) r ⌝ }
+fn first_owned(program: &[usize], counts: Counts, k: ClassId) -> usize
+    requires { ⌜ ProgramReady (now program) counts ⌝ }
+    ensures { λ r. ⌜ OwnsFrom (now (program .entry)) (counts .functions) (k .0) r ⌝ }
 {
-    let most = c.functions;
+    let most = counts.functions;
     let mut i = 0;
     while i < most {
-        if is_owned(m[FUNCTIONS + 4 * i + 2], k) {
+        if is_owned(program[FUNCTIONS + 4 * i + 2], k) {
             return i;
         }
         i += 1;
@@ -815,40 +848,40 @@ fn first_owned(m: &[usize], c: Counts, k: ClassId) -> usize
     most
 }
 
-pub fn new_class(m: &mut [usize], c: Counts, l: Limits, name: Name) -> NewClass
-    requires { ⌜ Ready (now m) c ⌝ }
-    requires { ⌜ Small l ⌝ }
-    ensures { λ r. ⌜ Did (classFor (limitsOf l) name) unchanged (c .classes) (moreClasses c) (now (m .entry)) c (now (m .exit)) (classOf r) ⌝ }
+pub fn new_class(program: &mut [usize], counts: Counts, limits: Limits, name: Name) -> NewClass
+    requires { ⌜ ProgramReady (now program) counts ⌝ }
+    requires { ⌜ Small limits ⌝ }
+    ensures { λ r. ⌜ ProgramDid (classFor (limitsOf limits) name) unchanged (counts .classes) (moreClasses counts) (now (program .entry)) counts (now (program .exit)) (classOf r) ⌝ }
 {
-    let n = c.classes;
-    if l.classes <= n {
+    let n = counts.classes;
+    if limits.classes <= n {
         return NewClass::Refused(11);
     }
     let k = ClassId(n as u32);
-    let first = first_owned(m, c, k);
-    put_class(m, k, name, first);
+    let first = first_owned(program, counts, k);
+    put_class(program, k, name, first);
     NewClass::Added(
         k,
         Counts {
-            functions: c.functions,
+            functions: counts.functions,
             classes: n + 1,
-            blocks: c.blocks,
-            insns: c.insns,
-            opnds: c.opnds,
-            listed: c.listed,
+            blocks: counts.blocks,
+            insns: counts.insns,
+            opnds: counts.opnds,
+            listed: counts.listed,
         },
     )
 }
 
 // The program before any reading: the four built-in classes.
-pub fn no_program(m: &mut [usize]) -> Counts
-    requires { ⌜ size ≤ length (now m) ⌝ }
-    ensures { λ r. ⌜ Starts (now (m .exit)) r ⌝ }
+pub fn no_program(program: &mut [usize]) -> Counts
+    requires { ⌜ size ≤ length (now program) ⌝ }
+    ensures { λ r. ⌜ Starts (now (program .exit)) r ⌝ }
 {
-    put_class(m, ClassId(0), Name { start: 0, len: 0 }, 0);
-    put_class(m, ClassId(1), Name { start: 0, len: 0 }, 0);
-    put_class(m, ClassId(2), Name { start: 0, len: 0 }, 0);
-    put_class(m, ClassId(3), Name { start: 0, len: 0 }, 0);
+    put_class(program, ClassId(0), Name { start: 0, len: 0 }, 0);
+    put_class(program, ClassId(1), Name { start: 0, len: 0 }, 0);
+    put_class(program, ClassId(2), Name { start: 0, len: 0 }, 0);
+    put_class(program, ClassId(3), Name { start: 0, len: 0 }, 0);
     Counts {
         functions: 0,
         classes: 4,

@@ -15,11 +15,11 @@ use Rattle.kinds.proofs.Same.{bit-of}
 use Rattle.rules.specs.Lists.{concat}
 use Rattle.memory.specs.Memory.{over}
 use Rattle.memory.proofs.Laws.{Writing, writing-start, writing-more, writing-done}
-use Rattle.tables.specs.Tables.{rows}
-use Rattle.tables.specs.Bits.{bitAt, RowWord}
-use Rattle.tables.proofs.Listed.{listed-length}
+use Rattle.memory.specs.tables.Tables.{rows}
+use Rattle.memory.specs.tables.Bits.{bitAt, RowWord}
+use Rattle.memory.proofs.tables.Listed.{listed-length}
 use Rattle.state.specs.declared.Sizes.{Sizes}
-use Rattle.state.specs.View.{kindsOf, liveOf, calledOf, Held}
+use Rattle.state.specs.View.{kindsOf, liveOf, calledOf, StateHeld}
 use Rattle.answer.specs.Layout.{answerLen, blocksMost, instructionsMost, functionsMost, rowWords, liveAt, tagsAt, payloadsAt, callersAt}
 use Rattle.answer.specs.Image.{wordOf, wordsOf}
 use Rattle.answer.proofs.Laws.{in-table, words-length, word-known, rows-length, map-at}
@@ -71,7 +71,7 @@ module _ (z : Sizes) (m : List ℕ) where
   payloads : length (map payloadOf (kindsOf z m)) ≡ z .insns
   payloads = length-map (kindsOf z m) payloadOf ∙ kinds-length z m
 
-  pub tags-start : {a : List ℕ} → length a ≡ answerLen → Held z m → Tags z m a a 0
+  pub tags-start : {a : List ℕ} → length a ≡ answerLen → StateHeld z m → Tags z m a a 0
   tags-start {a} e h = writing-start (map tagOf (kindsOf z m)) a tagsAt (omega (arith, tags, h .insns))
 
   pub tags-more : {a₀ a : List ℕ} {i x : ℕ} {k : Kind} → Tags z m a₀ a i → i < z .insns → k ≡ getD (kindsOf z m) i Empty → x ≡ tagOf k → Tags z m a₀ (set a (tagsAt + i) x) (i + 1)
@@ -80,7 +80,7 @@ module _ (z : Sizes) (m : List ℕ) where
   pub tags-done : {a₀ a : List ℕ} {i : ℕ} → Tags z m a₀ a i → z .insns ≤ i → a ≡ over tagsAt (map tagOf (kindsOf z m)) a₀
   tags-done g h = writing-done g (omega (arith, tags))
 
-  pub payloads-start : {a : List ℕ} → length a ≡ answerLen → Held z m → Payloads z m a a 0
+  pub payloads-start : {a : List ℕ} → length a ≡ answerLen → StateHeld z m → Payloads z m a a 0
   payloads-start {a} e h = writing-start (map payloadOf (kindsOf z m)) a payloadsAt (omega (arith, payloads, h .insns))
 
   pub payloads-more : {a₀ a : List ℕ} {i x : ℕ} {k : Kind} → Payloads z m a₀ a i → i < z .insns → k ≡ getD (kindsOf z m) i Empty → (x ≡ payloadOf k) × (fitsOf k ≡ true)
@@ -132,7 +132,7 @@ module _ (z : Sizes) (m : List ℕ) where
   callers : length (callerWords (calledOf z m)) ≡ z .functions * rowWords
   callers = words-total (calledOf z m) ∙ ap (λ (n : ℕ). n * rowWords) (called-length z m)
 
-  pub callers-start : {a : List ℕ} → length a ≡ answerLen → Held z m → Callers z m a a 0
+  pub callers-start : {a : List ℕ} → length a ≡ answerLen → StateHeld z m → Callers z m a a 0
   callers-start {a} e h = writing-start (callerWords (calledOf z m)) a callersAt (omega (arith, callers, h .functions))
 
   pub callers-more : {a₀ a : List ℕ} {j w : ℕ} → Callers z m a₀ a j → j < z .functions * 32 → RowWord (getD (calledOf z m) (j / 32) []) (j % 32) w → Callers z m a₀ (set a (callersAt + j) w) (j + 1)

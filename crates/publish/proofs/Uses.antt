@@ -11,10 +11,10 @@ use lib.Seq.{getD-append-add, take-all}
 use Rattle.rules.specs.Lists.{concat}
 use Rattle.rules.specs.Program.{Program}
 use Rattle.rules.specs.Uses as R
-use Rattle.program.specs.View.{view, Ready}
+use Rattle.program.specs.View.{programView, ProgramReady}
 use Rattle.program.specs.declared.Counts.{Counts}
 use Rattle.program.proofs.Tables.{tab-length, tab-at}
-use Rattle.analysed.specs.Analysed.{Users}
+use Rattle.machine.specs.Analysed.{Users}
 use Rattle.memory.specs.Memory.{over}
 use Rattle.memory.proofs.Laws.{over-length, over-in, over-out, over-known}
 use Rattle.answer.specs.Layout.{answerLen, instructionsMost, usesMost, startsAt, usersAt}
@@ -35,10 +35,10 @@ users-at p i (suc n) (suc k) h = let e : suc i + k ≡ i + suc k = omega arith i
 abbrev pub Outside : Counts → List ℕ → ℕ → Type 0
 Outside c a k = (startsAt ≤ k → k < startsAt + (c .insns + 1) → ⊥) × (usersAt ≤ k → k < usersAt + getD a (startsAt + c .insns) 0 → ⊥)
 
-module _ (s m : List ℕ) (c : Counts) (a a' : List ℕ) (ready : Ready m c) (len : length a ≡ answerLen) (same : length a' ≡ length a) (u : Users m c a')
+module _ (s m : List ℕ) (c : Counts) (a a' : List ℕ) (ready : ProgramReady m c) (len : length a ≡ answerLen) (same : length a' ≡ length a) (u : Users m c a')
     (others : (k : ℕ) → Outside c a' k → getD a' k 0 ≡ getD a k 0) where
   abbrev p : Program
-  p = view s m c
+  p = programView s m c
 
   abbrev us : List (List ℕ)
   us = usersFrom p 0 (c .insns)

@@ -8,12 +8,12 @@ use Rattle.rules.specs.Lists.{concat}
 use Rattle.rules.specs.Program.{Program}
 use Rattle.rules.specs.Machine.{State}
 use Rattle.memory.specs.Memory.{Blank, over}
-use Rattle.program.specs.View.{view as Program·view, Ready as Program·Ready}
+use Rattle.program.specs.View.{programView, ProgramReady}
 use Rattle.program.specs.declared.Counts.{Counts}
-use Rattle.analysed.specs.Analysed.{Users}
+use Rattle.machine.specs.Analysed.{Users}
 use Rattle.state.specs.declared.Sizes.{Sizes}
 use Rattle.state.specs.declared.Regs.{Regs}
-use Rattle.state.specs.View.{Attrs, kindsOf, liveOf, calledOf, view as State·view}
+use Rattle.state.specs.View.{Attrs, kindsOf, liveOf, calledOf, stateView}
 use Rattle.answer.specs.Layout.{answerLen, rowWords, liveAt, tagsAt, payloadsAt, startsAt, usersAt, callersAt}
 use Rattle.answer.specs.Record.{Legal, usersFrom, recordOf}
 use Rattle.answer.specs.Image.{startsFrom, wordsOf, imageOf}
@@ -22,13 +22,14 @@ use Rattle.publish.specs.Final.{callerWords, withState}
 use Rattle.publish.proofs.Tables.{live-length, kinds-length, called-length}
 use Rattle.publish.proofs.Uses.{Outside, uses-written}
 
-module _ (s m : List ℕ) (c : Counts) (z : Sizes) (v : Attrs) (w : List ℕ) (q : Regs) (ready : Program·Ready m c) (sizes : z .insns ≡ c .insns)
-    (ok : Legal (recordOf (Program·view s m c) (State·view z v w q))) where
-  pub image-written : {a₀ a₁ a₂ : List ℕ} → Blank a₀ answerLen → length a₁ ≡ length a₀ → Users m c a₁ → ((k : ℕ) → Outside c a₁ k → getD a₁ k 0 ≡ getD a₀ k 0) → a₂ ≡ withState z w (q .count) a₁ → a₂ ≡ imageOf (recordOf (Program·view s m c) (State·view z v w q))
+module _ (s m : List ℕ) (c : Counts) (z : Sizes) (v : Attrs) (w : List ℕ) (q : Regs) (ready : ProgramReady m c) (sizes : z .insns ≡ c .insns)
+    (ok : Legal (recordOf (programView s m c) (stateView z v w q))) where
+  pub image-written : {a₀ a₁ a₂ : List ℕ} → Blank a₀ answerLen → length a₁ ≡ length a₀ → Users m c a₁ → ((k : ℕ) → Outside c a₁ k → getD a₁ k 0 ≡ getD a₀ k 0) → a₂ ≡ withState z w (q .count) a₁
+      → a₂ ≡ imageOf (recordOf (programView s m c) (stateView z v w q))
   unfolding withState callerWords
   image-written {a₀} {a₁} {a₂} b l u o e =
-      let p = Program·view s m c in
-      let r = recordOf p (State·view z v w q) in
+      let p = programView s m c in
+      let r = recordOf p (stateView z v w q) in
       let n : c .insns ≡ length (kindsOf z w) = sym (kinds-length z w ∙ sizes) in
       let e₁ : a₁ ≡ over usersAt (concat (r .users)) (over startsAt (startsFrom 0 (r .users)) a₀) =
       uses-written s m c a₀ a₁ ready (b .len) l u o ∙ ap (λ (k : ℕ). over usersAt (concat (usersFrom p 0 k)) (over startsAt (startsFrom 0 (usersFrom p 0 k)) a₀)) n in

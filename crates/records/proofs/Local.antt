@@ -30,7 +30,8 @@ module _ {M : Type 1} (𝓤 : URA M) (H : Heap 𝓤) (A : Atoms 𝓤) (W : Given
   abbrev ty : Ty
   ty = tyArray (lone (R .mir)) n
 
-  pub laid : Single (R .mir) → (u : Val) → ent 𝓤 (sep 𝓤 (H .at fullShare ty b 0 u) (sem 𝓤 H A (Array R n .own xs (u ∷ [])))) (sep 𝓤 (sem 𝓤 H A (feq ℕ (length xs) n)) (sem 𝓤 H A (cells (mem R) xs b 0)))
+  pub laid : Single (R .mir) → (u : Val)
+      → ent 𝓤 (sep 𝓤 (H .at fullShare ty b 0 u) (sem 𝓤 H A (Array R n .own xs (u ∷ [])))) (sep 𝓤 (sem 𝓤 H A (feq ℕ (length xs) n)) (sem 𝓤 H A (cells (mem R) xs b 0)))
   unfolding partOf
   laid one u =
       qed W (‵ (fat fullShare ty b 0 u) ∷ ‵ (Array R n .own xs (u ∷ [])) ∷ []) ∵ use1 W (‵ (fat fullShare (rawTy ty) b 0 u)) (W .laws .at-raw fullShare ty b 0 u) $ fjoin ! $

@@ -6,14 +6,14 @@ use lib.ListN.{length, getD}
 use Rattle.program.specs.Rows.{insnsAt, opFrom}
 use Rattle.program.specs.declared.Counts.{Counts}
 use Rattle.program.specs.declared.Row.{Row}
-use Rattle.records.specs.declared.Insn.{Insn}
+use Rattle.records.specs.declared.Record.{Record}
 
 -- what stands past the end of a table, and at every place of an empty one
-abbrev pub none : Insn
+abbrev pub none : Record
 none = record { tag = 0; block = 0; x = 0; y = 0; first = 0; count = 0 }
 
 -- the record of row i of the program's words
-unfoldable pub recordAt : List ℕ → ℕ → Insn
+unfoldable pub recordAt : List ℕ → ℕ → Record
 recordAt m i =
     record {
       tag = getD m (insnsAt + 6 * i) 0;
@@ -25,10 +25,10 @@ recordAt m i =
     }
 
 -- the row that a record stands for
-unfoldable pub rowOf : Insn → Row
+unfoldable pub rowOf : Record → Row
 rowOf x = record { block = record { 0 = x .block % 2 ^ 32 }; op = opFrom (x .tag) (x .x) (x .y); first = x .first; count = x .count }
 
 -- the table holds the program's instructions
-pub record Holds (t : List Insn) (m : List ℕ) (c : Counts) : Type 0 where
+pub record Holds (t : List Record) (m : List ℕ) (c : Counts) : Type 0 where
   pub len-table : length t ≡ 2048
   pub records : (i : ℕ) → i < c .insns → getD t i none ≡ recordAt m i

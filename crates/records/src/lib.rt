@@ -1,15 +1,15 @@
 // The instructions as records in one lent table.
+use ids::BlockId;
 use program::Counts;
 use program::Row;
-use sets::BlockId;
 ghost use mathlib.Core.Path.{_≡_};
 ghost use Prim.Native.Nat.{_+_, _<_};
 ghost use lib.ListN.{length, getD, set, replicate};
-ghost use Rattle.program.specs.View.{Ready};
+ghost use Rattle.program.specs.View.{ProgramReady};
 ghost use Rattle.records.specs.Records.{none, recordAt, rowOf, Holds};
 
 // An instruction's record, in plain numbers.
-pub struct Insn {
+pub struct Record {
     pub tag: usize,
     pub block: usize,
     pub x: usize,
@@ -19,7 +19,7 @@ pub struct Insn {
 }
 
 // The one function that reads a record of the table.
-pub fn read(t: &[Insn], i: usize) -> Insn
+pub fn read(t: &[Record], i: usize) -> Record
     requires { ⌜ i < length (now t) ⌝ }
     ensures { λ r. ⌜ r ≡ getD (now (t .entry)) i none ⌝ }
 {
@@ -27,7 +27,7 @@ pub fn read(t: &[Insn], i: usize) -> Insn
 }
 
 // The one function that writes a record of the table: x goes to place n; the next place.
-pub fn append(t: &mut [Insn], n: usize, x: Insn) -> usize
+pub fn append(t: &mut [Record], n: usize, x: Record) -> usize
     requires { ⌜ n < length (now t) ⌝ }
     ensures { λ r. ⌜ (r ≡ n + 1) × (now (t .exit) ≡ set (now (t .entry)) n x) ⌝ }
 {
@@ -36,10 +36,10 @@ pub fn append(t: &mut [Insn], n: usize, x: Insn) -> usize
 }
 
 // A table before anything is appended.
-pub fn empty() -> [Insn; 2048]
+pub fn empty() -> [Record; 2048]
     ensures { λ r. ⌜ r ≡ replicate 2048 none ⌝ }
 {
-    let x = Insn {
+    let x = Record {
         tag: 0,
         block: 0,
         x: 0,
@@ -51,23 +51,23 @@ pub fn empty() -> [Insn; 2048]
 }
 
 // The record of an instruction that the parser drafted in the program's words.
-pub fn drafted(m: &[usize], c: Counts, i: usize) -> Insn
-    requires { ⌜ Ready (now m) c × (i < c .insns) ⌝ }
-    ensures { λ r. ⌜ r ≡ recordAt (now (m .entry)) i ⌝ }
+pub fn drafted(program: &[usize], counts: Counts, i: usize) -> Record
+    requires { ⌜ ProgramReady (now program) counts × (i < counts .insns) ⌝ }
+    ensures { λ r. ⌜ r ≡ recordAt (now (program .entry)) i ⌝ }
 {
     let at = program::INSNS + 6 * i;
-    Insn {
-        tag: m[at],
-        block: m[at + 1],
-        x: m[at + 2],
-        y: m[at + 3],
-        first: m[at + 4],
-        count: m[at + 5],
+    Record {
+        tag: program[at],
+        block: program[at + 1],
+        x: program[at + 2],
+        y: program[at + 3],
+        first: program[at + 4],
+        count: program[at + 5],
     }
 }
 
 // What a record means.
-pub fn row(x: Insn) -> Row
+pub fn row(x: Record) -> Row
     ensures { λ r. ⌜ r ≡ rowOf x ⌝ }
 {
     Row {
@@ -79,13 +79,13 @@ pub fn row(x: Insn) -> Row
 }
 
 // The instructions that the parser drafted are appended to the table.
-pub fn commit(t: &mut [Insn], m: &[usize], c: Counts)
-    requires { ⌜ Ready (now m) c × (length (now t) ≡ 2048) ⌝ }
-    ensures { λ _. ⌜ Holds (now (t .exit)) (now (m .entry)) c ⌝ }
+pub fn commit(t: &mut [Record], program: &[usize], counts: Counts)
+    requires { ⌜ ProgramReady (now program) counts × (length (now t) ≡ 2048) ⌝ }
+    ensures { λ _. ⌜ Holds (now (t .exit)) (now (program .entry)) counts ⌝ }
 {
     let mut k = 0;
-    while k < c.insns {
-        let x = drafted(m, c, k);
+    while k < counts.insns {
+        let x = drafted(program, counts, k);
         k = append(t, k, x);
     }
 }

@@ -1,5 +1,7 @@
 // Reads a batch of scripts from standard input, each behind its length in four bytes, and writes the frames of each, one script's behind the other's.
-use batches::Turn;
+mod batches;
+
+use batches::BatchTurn;
 use printing::Told;
 
 // The most scripts that a batch may have.
@@ -15,15 +17,15 @@ fn write_answer(s: &[u8]) -> bool {
 }
 
 // One script of the batch.
-fn one(script: &mut [u8]) -> Turn {
+fn one(script: &mut [u8]) -> BatchTurn {
     let t = batches::read_script(script);
-    let Turn::Script(n) = t else {
+    let BatchTurn::Script(n) = t else {
         return t;
     };
     if write_answer(&script[..n]) {
         return t;
     }
-    Turn::Unwritten
+    BatchTurn::Unwritten
 }
 
 fn main() {
@@ -31,11 +33,11 @@ fn main() {
     let mut k = 0;
     while k < MOST_SCRIPTS {
         let t = one(&mut script);
-        let Turn::Script(_) = t else {
+        let BatchTurn::Script(_) = t else {
             batches::tell(b"replay", t);
             return;
         };
         k += 1;
     }
-    batches::tell(b"replay", Turn::Enough);
+    batches::tell(b"replay", BatchTurn::Enough);
 }

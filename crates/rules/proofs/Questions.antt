@@ -8,7 +8,7 @@ use mathlib.Core.Option.{Option, none, some}
 use mathlib.Core.List.{List, [], _∷_, _++_, map}
 use lib.Dec.{eqb, ltb, leb}
 use lib.ListN.{length, getD}
-use Rattle.sets.specs.Sets.{membersOf}
+use Rattle.ids.specs.Sets.{membersOf}
 use Rattle.kinds.specs.declared.Kind.{Kind}
 use Rattle.kinds.specs.declared.Kind.the-variants.{Empty}
 use Rattle.kinds.specs.declared.Joined.{Joined}

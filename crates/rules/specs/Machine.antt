@@ -5,7 +5,7 @@ use mathlib.Core.List.{List, [], _∷_, _++_, map}
 use Prim.Native.Nat.{ℕ, zero, suc, _+_}
 use lib.Dec.{eqb, ltb, leb}
 use lib.ListN.{length, getD, set, replicate}
-use Rattle.sets.specs.Sets.{membersOf}
+use Rattle.ids.specs.Sets.{membersOf}
 use Rattle.kinds.specs.declared.Kind.{Kind}
 use Rattle.kinds.specs.declared.Kind.the-variants.{Empty}
 use Rattle.kinds.specs.Kinds.{sameOf, isEmpty}

@@ -1,6 +1,6 @@
 -- One name that opens every definition that evaluating a script needs. Assumes nothing.
 use Rattle.numbers.specs.Numbers.{fitOf}
-use Rattle.sets.specs.Sets.{membersFrom, membersOf}
+use Rattle.ids.specs.Sets.{membersFrom, membersOf}
 use Rattle.kinds.specs.Kinds.{sameOf}
 use Rattle.kinds.specs.Union.{mixOf, lub, unionOf, unionAll}
 use Rattle.kinds.specs.Rules.{resultOf, byUnion, arithOf}

@@ -7,7 +7,7 @@ use mathlib.Core.List.{List, [], _∷_, _++_, map}
 use Prim.Native.Nat.{ℕ, suc, _≤_}
 use lib.ListN.{getD}
 use lib.Dec.{eqb, T}
-use Rattle.sets.specs.Sets.{membersOf}
+use Rattle.ids.specs.Sets.{membersOf}
 use Rattle.kinds.specs.Rules.{admits}
 use Rattle.rules.specs.Actions.{Answer, answered, refused}
 use Rattle.rules.specs.Lists.{consIf, toList, concat, any}

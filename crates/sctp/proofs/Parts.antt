@@ -9,17 +9,17 @@ use lib.Seq.{length-take-le, getD-append-add, getD-take, ext-getD, take-at, take
 use borrow.Rule.Slice.PartMut.{putMid, postOf}
 use Rattle.program.specs.View as P
 use Rattle.program.specs.declared.Counts.{Counts}
-use Rattle.index.specs.Chains.{Index, Filled, Carried}
+use Rattle.chains.specs.Chains.{Index, ChainsFilled, Carried}
 use Rattle.memory.specs.Memory.{zeros}
 use Rattle.memory.proofs.Laws.{zeros-at}
 use Rattle.state.specs.declared.Sizes.{Sizes}
-use Rattle.state.specs.declared.Went.{Went}
-use Rattle.state.specs.View.{Held, Cleared}
+use Rattle.state.specs.declared.Acted.{Acted}
+use Rattle.state.specs.View.{StateHeld, StateCleared}
 use Rattle.answer.specs.Layout.{callersAt, answerLen}
-use Rattle.starts.specs.Starts.{Started}
+use Rattle.sctp.specs.starts.Starts.{Started}
 use Rattle.constructors.specs.Walks.{work}
-use Rattle.analysed.specs.Analysed.{Analysed}
-use Rattle.sctp.specs.Sctp.{tablesOf, chainsOf, Chained, Aside, StartsAside, Begins}
+use Rattle.machine.specs.Analysed.{Analysed}
+use Rattle.sctp.specs.Sctp.{tablesOf, chainsOf, SctpChained, SctpAside, StartsAside, Begins}
 
 -- ---- the index: w is what was built in the first words of the state's memory
 
@@ -33,7 +33,7 @@ module _ (m w : List ℕ) (lm : length m ≡ 54272) (lw : length w ≡ length (t
   pub built-taken : length (take 9216 (w ++ drop 9216 m)) ≡ 9216
   built-taken = ap length built ∙ built-length
 
-  pub index-laid : (c : Counts) (p p' : List ℕ) → length p ≡ 57088 → Index (tablesOf p) c w → Carried c 47872 (take 9216 (w ++ drop 9216 m)) p p' → Chained c p p'
+  pub index-laid : (c : Counts) (p p' : List ℕ) → length p ≡ 57088 → Index (tablesOf p) c w → Carried c 47872 (take 9216 (w ++ drop 9216 m)) p p' → SctpChained c p p'
   index-laid c p p' lp i e =
       let l = length-take-le 47872 p (omega arith) in
       let l' = length-take-le 47872 p' (omega (arith, e .only .len-same)) in
@@ -44,8 +44,8 @@ module _ (m w : List ℕ) (lm : length m ≡ 54272) (lw : length w ≡ length (t
       }
 
 -- ---- what the start finds clear
-pub tables-cleared : {z : Sizes} {m m₁ m₂ m₃ m₄ : List ℕ} {a b : ℕ} → Held z m → a ≡ 32 * z .functions → b ≡ 32 * z .classes
-    → Filled 0 (z .insns) 0 m m₁ → Filled 4096 (z .blocks) 0 m₁ m₂ → Filled 13312 a 0 m₂ m₃ → Filled 17408 b 0 m₃ m₄ → Cleared z m₄
+pub tables-cleared : {z : Sizes} {m m₁ m₂ m₃ m₄ : List ℕ} {a b : ℕ} → StateHeld z m → a ≡ 32 * z .functions → b ≡ 32 * z .classes
+    → ChainsFilled 0 (z .insns) 0 m m₁ → ChainsFilled 4096 (z .blocks) 0 m₁ m₂ → ChainsFilled 13312 a 0 m₂ m₃ → ChainsFilled 17408 b 0 m₃ m₄ → StateCleared z m₄
 tables-cleared {z} {m} {m₁} {m₂} {m₃} {m₄} h e f w x y r =
     let len : length m₄ ≡ 52224 = r .only .len-same ∙ y .only .len-same ∙ x .only .len-same ∙ w .only .len-same ∙ h .len in
     record {
@@ -78,20 +78,20 @@ module _ (a : ℕ) (xs : List ℕ) (h : a ≤ length xs) where
 
 -- ---- the answer's callers
 
-pub callers-cleared : (u ys : List ℕ) (n : ℕ) → length u ≡ answerLen → ys ≡ zeros n → Aside u (putMid 18692 (length u - 18692) u ys)
+pub callers-cleared : (u ys : List ℕ) (n : ℕ) → length u ≡ answerLen → ys ≡ zeros n → SctpAside u (putMid 18692 (length u - 18692) u ys)
 callers-cleared u ys n len e = rw e (record {
   same = λ k h. put-same 18692 u (omega arith) (length u - 18692) (zeros n) k h;
   clear = λ k h. put-clear 18692 u (omega arith) (length u - 18692) n k (omega arith) h;
 })
 
-pub callers-used : {s p : List ℕ} {c : Counts} {z : Sizes} {m : List ℕ} {r : Went} (u ys : List ℕ) → length u ≡ answerLen → Started s p c z m r
+pub callers-used : {s p : List ℕ} {c : Counts} {z : Sizes} {m : List ℕ} {r : Acted} (u ys : List ℕ) → length u ≡ answerLen → Started s p c z m r
     → StartsAside s p c z u (putMid 18692 (length u - 18692) u ys) m r
 callers-used u ys len d = record { started = d; same = λ k h. put-same 18692 u (omega arith) (length u - 18692) ys k h }
 
 pub callers-room : (u : List ℕ) → length u ≡ answerLen → work ≤ length (take (length u - 18692) (drop 18692 u))
 callers-room u len = let e = ap length (part-all 18692 u (omega arith)) in let l = length-drop 18692 u in omega arith
 
-pub begun-aside : {s p : List ℕ} {c : Counts} {z : Sizes} {u u₁ u' m : List ℕ} {r : Went} → StartsAside s p c z u u₁ m r → Aside u₁ u' → Begins s p c z u u' m r
+pub begun-aside : {s p : List ℕ} {c : Counts} {z : Sizes} {u u₁ u' m : List ℕ} {r : Acted} → StartsAside s p c z u u₁ m r → SctpAside u₁ u' → Begins s p c z u u' m r
 begun-aside d a = record { started = d .started; aside = record { same = λ k h. a .same k h ∙ d .same k h; clear = a .clear } }
 
 -- ---- tables and chains

@@ -19,62 +19,62 @@ use Rattle.program.proofs.Tables.{tab-ext}
 use Rattle.uses.specs.Users.{words, Uses}
 use Rattle.state.specs.declared.Sizes.{Sizes}
 use Rattle.state.specs.declared.Regs.{Regs}
-use Rattle.state.specs.declared.Went.{Went}
-use Rattle.state.specs.declared.Went.the-variants.{On, No}
-use Rattle.state.specs.View.{Attrs, view, Ready}
+use Rattle.state.specs.declared.Acted.{Acted}
+use Rattle.state.specs.declared.Acted.the-variants.{On, Refused}
+use Rattle.state.specs.View.{Attrs, stateView, StateReady}
 use Rattle.state.specs.Changes.{went}
 use Rattle.answer.specs.Layout.{startsAt, usersAt, usesMost, callersAt, answerLen}
-use Rattle.analysed.specs.Analysed.{sizesOf, Sized, Users, Suited, Indexed, Analysed, Fits, Reached}
-use Rattle.analysed.proofs.Storing.{start-few}
-use Rattle.starts.specs.Starts.{Started}
-use Rattle.index.specs.Chains.{Filled}
-use Rattle.steps.specs.Stamps.{tablesOf as wordsOf, Fresh}
-use Rattle.steps.specs.Runs.{Reaching, Ran}
+use Rattle.machine.specs.Analysed.{sizesOf, MachineSized, Users, Suited, Indexed, Analysed, MachineFits, MachineReached}
+use Rattle.machine.proofs.Storing.{start-few}
+use Rattle.sctp.specs.starts.Starts.{Started}
+use Rattle.chains.specs.Chains.{ChainsFilled}
+use Rattle.run.specs.Stamps.{tablesOf as wordsOf, StampsFresh}
+use Rattle.run.specs.Runs.{Reaching, RunRan}
 use Rattle.settled.proofs.Stamps.{tables-long}
-use Rattle.steps.proofs.Stamps.{back-long}
-use Rattle.sctp.specs.Sctp.{tablesOf, chainsOf, Given, Chained, Aside, Begins, Outcome, Ends, Left, Analyses}
+use Rattle.run.proofs.Stamps.{back-long}
+use Rattle.sctp.specs.Sctp.{tablesOf, chainsOf, Given, SctpChained, SctpAside, Begins, SctpOutcome, Ends, SctpLeft, Analyses}
 
 -- ---- the start, then the run
 
 -- the state after the start is reached
-pub started-reaching : {s p : List ℕ} {c : Counts} {z : Sizes} {m : List ℕ} {r : Went} {q : Regs} → Started s p c z m r → r ≡ On q → Reaching s p c z m q
+pub started-reaching : {s p : List ℕ} {c : Counts} {z : Sizes} {m : List ℕ} {r : Acted} {q : Regs} → Started s p c z m r → r ≡ On q → Reaching s p c z m q
 started-reaching {s} {p} {c} {z} {m} {r} {q} d e =
     let d1 = rw e at d in
     record {
       at = λ L S v f.
           let b = sym (d1 .is L S v f) in
-          record { from = view z v m q; starts = b; there = at-start L (S .room .classes) (P.view s p c) (S .finished) (view z v m q) b .there };
+          record { from = stateView z v m q; starts = b; there = at-start L (S .room .classes) (P.programView s p c) (S .finished) (stateView z v m q) b .there };
     }
 
-pub begun-ready : {s p : List ℕ} {c : Counts} {z : Sizes} {u u' m : List ℕ} {r : Went} {q : Regs} → Begins s p c z u u' m r → r ≡ On q → Ready z m q
+pub begun-ready : {s p : List ℕ} {c : Counts} {z : Sizes} {u u' m : List ℕ} {r : Acted} {q : Regs} → Begins s p c z u u' m r → r ≡ On q → StateReady z m q
 begun-ready d e = let d1 = rw e at d in d1 .started .ok .ready
 
-pub run-ended : {s p : List ℕ} {c : Counts} {z : Sizes} {u u' m w : List ℕ} {b : Went} {q : Regs} {r : Went} → Begins s p c z u u' m b → b ≡ On q → Ran s p c z w r → Ends s p c z u u' w r
+pub run-ended : {s p : List ℕ} {c : Counts} {z : Sizes} {u u' m w : List ℕ} {b : Acted} {q : Regs} {r : Acted} → Begins s p c z u u' m b → b ≡ On q → RunRan s p c z w r → Ends s p c z u u' w r
 run-ended {s} {p} {c} {z} {u} {u'} {m} {w} {b} {q} {r} d e g =
     let d1 = rw e at d in
     record {
       outcome = record {
         is = λ L S v f.
             let h = sym (d1 .started .is L S v f) in
-            g .is L S v f (view z v m q) h ∙ ap (λ (x : Answer State). ifAnswered x (run L (P.view s p c) (bound (P.view s p c)))) (sym h);
+            g .is L S v f (stateView z v m q) h ∙ ap (λ (x : Answer State). ifAnswered x (run L (P.programView s p c) (bound (P.programView s p c)))) (sym h);
         ok = g .ok;
       };
       aside = d .aside;
     }
 
-pub start-ended : {s p : List ℕ} {c : Counts} {z : Sizes} {u u' m : List ℕ} {b : Went} {n : ℕ} → Begins s p c z u u' m b → b ≡ No n → Ends s p c z u u' m (No n)
+pub start-ended : {s p : List ℕ} {c : Counts} {z : Sizes} {u u' m : List ℕ} {b : Acted} {n : ℕ} → Begins s p c z u u' m b → b ≡ Refused n → Ends s p c z u u' m (Refused n)
 start-ended {s} {p} {c} {z} {u} {u'} {m} {b} {n} d e =
     let d1 = rw e at d in
     record {
       outcome = record {
-        is = λ L S v f. ap (λ (x : Answer State). ifAnswered x (run L (P.view s p c) (bound (P.view s p c)))) (d1 .started .is L S v f);
+        is = λ L S v f. ap (λ (x : Answer State). ifAnswered x (run L (P.programView s p c) (bound (P.programView s p c)))) (d1 .started .is L S v f);
         ok = tt;
       };
       aside = d .aside;
     }
 
 -- the state's tables were lent and came back as w, and n stamps behind them were cleared
-module _ {n : ℕ} (m w m' : List ℕ) (long : length m ≡ 54272) (same : length w ≡ length (take 52224 m)) (f : Filled 52224 n 0 (w ++ drop 52224 m) m') where
+module _ {n : ℕ} (m w m' : List ℕ) (long : length m ≡ 54272) (same : length w ≡ length (take 52224 m)) (f : ChainsFilled 52224 n 0 (w ++ drop 52224 m) m') where
   cleared-long : length m' ≡ 54272
   cleared-long = f .only .len-same ∙ back-long m w long same
 
@@ -86,21 +86,22 @@ module _ {n : ℕ} (m w m' : List ℕ) (long : length m ≡ 54272) (same : lengt
       ext-getD 0 w (wordsOf m') (same ∙ tables-long m long ∙ sym (tables-long m' cleared-long))
       (λ k h. let l = same ∙ tables-long m long in sym (getD-take 52224 m' k 0 (omega arith) ∙ f .only .others k (λ a b. omega arith) ∙ List·getD-append w (drop 52224 m) 0 k h))
 
-  pub begun-tables : {s p : List ℕ} {c : Counts} {z : Sizes} {u u' : List ℕ} {b : Went} → Begins s p c z u u' w b → Begins s p c z u u' (wordsOf m') b
+  pub begun-tables : {s p : List ℕ} {c : Counts} {z : Sizes} {u u' : List ℕ} {b : Acted} → Begins s p c z u u' w b → Begins s p c z u u' (wordsOf m') b
   begun-tables {s} {p} {c} {z} {u} {u'} {b} d = subst (λ (l : List ℕ). Begins s p c z u u' l b) cleared-tables d
 
 -- no instruction is stamped
-pub begun-fresh : {s p : List ℕ} {c : Counts} {z : Sizes} {u u' : List ℕ} {b : Went} {q : Regs} (m w m' : List ℕ) → length m ≡ 54272 → length w ≡ length (take 52224 m) → Filled 52224 (z .insns) 0 (w ++ drop 52224 m) m'
-    → Begins s p c z u u' w b → b ≡ On q → Fresh z m' q
+pub begun-fresh : {s p : List ℕ} {c : Counts} {z : Sizes} {u u' : List ℕ} {b : Acted} {q : Regs} (m w m' : List ℕ) → length m ≡ 54272 → length w ≡ length (take 52224 m)
+    → ChainsFilled 52224 (z .insns) 0 (w ++ drop 52224 m) m'
+    → Begins s p c z u u' w b → b ≡ On q → StampsFresh z m' q
 begun-fresh m w m' long same f d e = record { long = cleared-long m w m' long same f; ready = begun-ready (begun-tables m w m' long same f d) e; none = λ i h. f .here i h }
 
 -- ---- the users
 
-pub sized-self : (c : Counts) → Sized c (sizesOf c)
+pub sized-self : (c : Counts) → MachineSized c (sizesOf c)
 sized-self c = record { functions = refl; classes = refl; blocks = refl; insns = refl }
 
 -- users whose places stay
-pub users-kept : {p : List ℕ} {c : Counts} {u u' : List ℕ} → c .insns ≤ 2048 → length u' ≡ length u → Aside u u' → Users p c u → Users p c u'
+pub users-kept : {p : List ℕ} {c : Counts} {u u' : List ℕ} → c .insns ≤ 2048 → length u' ≡ length u → SctpAside u u' → Users p c u → Users p c u'
 users-kept {p} {c} {u} {u'} few len a g = record {
   long = omega (arith, g .long);
   begins = at 0 (omega arith) ∙ g .begins;
@@ -123,30 +124,31 @@ users-laid {p} {c} {u} {u'} len g = record { long = omega (arith, g .len-same); 
 -- ---- the whole
 
 module _ {s p : List ℕ} {c : Counts} {u m : List ℕ} (g : Given s p c u m) where
-  pub tables-ready : {p' : List ℕ} → Chained c p p' → P.Ready (tablesOf p') c
+  pub tables-ready : {p' : List ℕ} → SctpChained c p p' → P.ProgramReady (tablesOf p') c
   tables-ready h = rw (h .tables) (g .ready)
 
-  pub all-analysed : {p' u' : List ℕ} {z : Sizes} → Chained c p p' → z ≡ sizesOf c → Uses (tablesOf p') c startsAt usersAt u u' → Analysed s (tablesOf p') c (chainsOf p') u' z
+  pub all-analysed : {p' u' : List ℕ} {z : Sizes} → SctpChained c p p' → z ≡ sizesOf c → Uses (tablesOf p') c startsAt usersAt u u' → Analysed s (tablesOf p') c (chainsOf p') u' z
   all-analysed {p'} {u'} {z} h e d =
       record {
         indexed = record {
           limits = g .limits;
           suited = subst (λ (t : List ℕ). Suited s t c (g .limits)) (sym (h .tables)) (g .suited);
-          sized = subst (Sized c) (sym e) (sized-self c);
+          sized = subst (MachineSized c) (sym e) (sized-self c);
           ready = tables-ready h;
-          index = subst (λ (t : List ℕ). Rattle.index.specs.Chains.Index t c (chainsOf p')) (sym (h .tables)) (h .index);
+          index = subst (λ (t : List ℕ). Rattle.chains.specs.Chains.Index t c (chainsOf p')) (sym (h .tables)) (h .index);
         };
         users = users-laid (g .answer) d;
       }
 
-  pub analysed-whole : {p' u₁ u' m' : List ℕ} {z : Sizes} {r : Went} → Chained c p p' → z ≡ sizesOf c → Uses (tablesOf p') c startsAt usersAt u u₁ → length u' ≡ length u₁ → Ends s (tablesOf p') c z u₁ u' m' r
+  pub analysed-whole : {p' u₁ u' m' : List ℕ} {z : Sizes} {r : Acted} → SctpChained c p p' → z ≡ sizesOf c → Uses (tablesOf p') c startsAt usersAt u u₁ → length u' ≡ length u₁
+      → Ends s (tablesOf p') c z u₁ u' m' r
       → Analyses s (tablesOf p) c u u' m' r
   analysed-whole {p'} {u₁} {u'} {m'} {z} {r} h e d len f =
       let few = g .ready .insns in
       let k : Users (tablesOf p') c u' = users-kept few len (f .aside) (users-laid (g .answer) d) in
       record {
-        outcome = subst (λ (t : List ℕ). Outcome s t c (sizesOf c) m' r) (h .tables) (subst (λ (y : Sizes). Outcome s (tablesOf p') c y m' r) e (f .outcome));
-        left = subst (λ (t : List ℕ). Left t c u u') (h .tables) (record {
+        outcome = subst (λ (t : List ℕ). SctpOutcome s t c (sizesOf c) m' r) (h .tables) (subst (λ (y : Sizes). SctpOutcome s (tablesOf p') c y m' r) e (f .outcome));
+        left = subst (λ (t : List ℕ). SctpLeft t c u u') (h .tables) (record {
           users = k;
           others = λ j l a b.
               let t : getD u' (startsAt + c .insns) 0 ≡ getD u₁ (startsAt + c .insns) 0 = f .aside .same (startsAt + c .insns) (omega arith) in
@@ -161,14 +163,14 @@ after : {A B : Type 0} (a : Answer A) (k : A → Answer B) {y : B} → answered 
 after (answered x) k e = (x, refl, sym e)
 after (refused n) k e = absurd (let z : _≡_ {A = ℕ} 0 1 = cc in omega arith)
 
-pub exactly : {s p : List ℕ} {c : Counts} {u u' m' : List ℕ} {q : Regs} → Analyses s p c u u' m' (On q) → (L : Limits) (S : Suited s p c L) (v : Attrs) → Fits s p c (P.view s p c) v
-    → Exact (P.view s p c) (view (sizesOf c) v m' q)
+pub exactly : {s p : List ℕ} {c : Counts} {u u' m' : List ℕ} {q : Regs} → Analyses s p c u u' m' (On q) → (L : Limits) (S : Suited s p c L) (v : Attrs) → MachineFits s p c (P.programView s p c) v
+    → Exact (P.programView s p c) (stateView (sizesOf c) v m' q)
 exactly {s} {p} {c} {u} {u'} {m'} {q} d L S v f =
-    let a = after (start L (P.view s p c)) (run L (P.view s p c) (bound (P.view s p c))) (d .outcome .is L S v f) in
-    exact L (S .room .classes) (P.view s p c) (S .finished) (a .0) (view (sizesOf c) v m' q) (a .1) (a .2)
+    let a = after (start L (P.programView s p c)) (run L (P.programView s p c) (bound (P.programView s p c))) (d .outcome .is L S v f) in
+    exact L (S .room .classes) (P.programView s p c) (S .finished) (a .0) (stateView (sizesOf c) v m' q) (a .1) (a .2)
 
-pub stepwise : {s p : List ℕ} {c : Counts} {u u' m' : List ℕ} {q : Regs} → Analyses s p c u u' m' (On q) → (L : Limits) (S : Suited s p c L) (v : Attrs) → Fits s p c (P.view s p c) v
-    → Counted L (P.view s p c) (view (sizesOf c) v m' q)
+pub stepwise : {s p : List ℕ} {c : Counts} {u u' m' : List ℕ} {q : Regs} → Analyses s p c u u' m' (On q) → (L : Limits) (S : Suited s p c L) (v : Attrs) → MachineFits s p c (P.programView s p c) v
+    → Counted L (P.programView s p c) (stateView (sizesOf c) v m' q)
 stepwise {s} {p} {c} {u} {u'} {m'} {q} d L S v f =
-    let a = after (start L (P.view s p c)) (run L (P.view s p c) (bound (P.view s p c))) (d .outcome .is L S v f) in
-    counted L (S .room .classes) (P.view s p c) (S .finished) (a .0) (view (sizesOf c) v m' q) (a .1) (a .2)
+    let a = after (start L (P.programView s p c)) (run L (P.programView s p c) (bound (P.programView s p c))) (d .outcome .is L S v f) in
+    counted L (S .room .classes) (P.programView s p c) (S .finished) (a .0) (stateView (sizesOf c) v m' q) (a .1) (a .2)

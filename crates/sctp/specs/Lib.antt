@@ -1,1 +1,2 @@
+pub mod starts
 pub mod Sctp

@@ -9,17 +9,17 @@ use Rattle.rules.specs.Bound.{bound}
 use Rattle.rules.specs.Machine.{stateOf, start, run}
 use Rattle.program.specs.View as P
 use Rattle.program.specs.declared.Counts.{Counts}
-use Rattle.index.specs.Chains.{Index}
+use Rattle.chains.specs.Chains.{Index}
 use Rattle.state.specs.declared.Sizes.{Sizes}
 use Rattle.state.specs.declared.Regs.{Regs}
-use Rattle.state.specs.declared.Went.{Went}
-use Rattle.state.specs.declared.Went.the-variants.{On, No}
-use Rattle.state.specs.View.{Attrs, Ready}
+use Rattle.state.specs.declared.Acted.{Acted}
+use Rattle.state.specs.declared.Acted.the-variants.{On, Refused}
+use Rattle.state.specs.View.{Attrs, StateReady}
 use Rattle.state.specs.Changes.{went}
 use Rattle.answer.specs.Layout.{startsAt, usersAt, callersAt, answerLen}
-use Rattle.analysed.specs.Analysed.{sizesOf, Users, Suited, Fits}
-use Rattle.starts.specs.Starts.{Started}
-use Rattle.steps.specs.Runs.{RestedIf}
+use Rattle.machine.specs.Analysed.{sizesOf, Users, Suited, MachineFits}
+use Rattle.sctp.specs.starts.Starts.{Started}
+use Rattle.run.specs.Runs.{RestedIf}
 
 -- the program part: its tables, then room for the chains of the index
 abbrev pub tablesOf : List ℕ → List ℕ
@@ -32,46 +32,46 @@ chainsOf p = drop 47872 p
 pub record Given (s p : List ℕ) (c : Counts) (u m : List ℕ) : Type 0 where
   pub limits : Limits
   pub suited : Suited s (tablesOf p) c limits
-  pub ready : P.Ready (tablesOf p) c
+  pub ready : P.ProgramReady (tablesOf p) c
   pub program : length p ≡ 57088
   pub answer : length u ≡ answerLen
   pub state : length m ≡ 54272
 
 -- the chains stand behind the tables
-pub record Chained (c : Counts) (p p' : List ℕ) : Type 0 where
+pub record SctpChained (c : Counts) (p p' : List ℕ) : Type 0 where
   pub tables : tablesOf p' ≡ tablesOf p
   pub index : Index (tablesOf p) c (chainsOf p')
 
 -- the answer's callers are cleared, and the rest of it stays
-pub record Aside (u u' : List ℕ) : Type 0 where
+pub record SctpAside (u u' : List ℕ) : Type 0 where
   pub same : (k : ℕ) → k < callersAt → getD u' k 0 ≡ getD u k 0
   pub clear : (k : ℕ) → callersAt ≤ k → getD u' k 0 ≡ 0
 
 -- the start, which may use the answer's callers
-pub record StartsAside (s p : List ℕ) (c : Counts) (z : Sizes) (u u' m' : List ℕ) (r : Went) : Type 0 where
+pub record StartsAside (s p : List ℕ) (c : Counts) (z : Sizes) (u u' m' : List ℕ) (r : Acted) : Type 0 where
   pub started : Started s p c z m' r
   pub same : (k : ℕ) → k < callersAt → getD u' k 0 ≡ getD u k 0
 
-pub record Begins (s p : List ℕ) (c : Counts) (z : Sizes) (u u' m' : List ℕ) (r : Went) : Type 0 where
+pub record Begins (s p : List ℕ) (c : Counts) (z : Sizes) (u u' m' : List ℕ) (r : Acted) : Type 0 where
   pub started : Started s p c z m' r
-  pub aside : Aside u u'
+  pub aside : SctpAside u u'
 
 -- the outcome is the rules': the start, then the run with the bound as its number of steps
-pub record Outcome (s p : List ℕ) (c : Counts) (z : Sizes) (m' : List ℕ) (r : Went) : Type 0 where
-  pub is : (L : Limits) → Suited s p c L → (v : Attrs) → Fits s p c (P.view s p c) v
-      → stateOf L (P.view s p c) (went z v m' r) ≡ ifAnswered (start L (P.view s p c)) (run L (P.view s p c) (bound (P.view s p c)))
+pub record SctpOutcome (s p : List ℕ) (c : Counts) (z : Sizes) (m' : List ℕ) (r : Acted) : Type 0 where
+  pub is : (L : Limits) → Suited s p c L → (v : Attrs) → MachineFits s p c (P.programView s p c) v
+      → stateOf L (P.programView s p c) (went z v m' r) ≡ ifAnswered (start L (P.programView s p c)) (run L (P.programView s p c) (bound (P.programView s p c)))
   pub ok : RestedIf s p c z m' r
 
-pub record Ends (s p : List ℕ) (c : Counts) (z : Sizes) (u u' m' : List ℕ) (r : Went) : Type 0 where
-  pub outcome : Outcome s p c z m' r
-  pub aside : Aside u u'
+pub record Ends (s p : List ℕ) (c : Counts) (z : Sizes) (u u' m' : List ℕ) (r : Acted) : Type 0 where
+  pub outcome : SctpOutcome s p c z m' r
+  pub aside : SctpAside u u'
 
 -- the users stand in the answer, and its other places are as before; those of the callers are cleared
-pub record Left (p : List ℕ) (c : Counts) (u u' : List ℕ) : Type 0 where
+pub record SctpLeft (p : List ℕ) (c : Counts) (u u' : List ℕ) : Type 0 where
   pub users : Users p c u'
   pub others : (k : ℕ) → k < callersAt → (startsAt ≤ k → k < startsAt + (c .insns + 1) → ⊥) → (usersAt ≤ k → k < usersAt + getD u' (startsAt + c .insns) 0 → ⊥) → getD u' k 0 ≡ getD u k 0
   pub clear : (k : ℕ) → callersAt ≤ k → getD u' k 0 ≡ 0
 
-pub record Analyses (s p : List ℕ) (c : Counts) (u u' m' : List ℕ) (r : Went) : Type 0 where
-  pub outcome : Outcome s p c (sizesOf c) m' r
-  pub left : Left p c u u'
+pub record Analyses (s p : List ℕ) (c : Counts) (u u' m' : List ℕ) (r : Acted) : Type 0 where
+  pub outcome : SctpOutcome s p c (sizesOf c) m' r
+  pub left : SctpLeft p c u u'

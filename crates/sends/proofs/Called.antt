@@ -6,9 +6,9 @@ use mathlib.Core.List.{List, []}
 use Prim.Native.Nat.{ℕ, _<_, _^_}
 use native.Mathlib.Omega.{arith}
 use lib.ListN.{length}
-use Rattle.sets.specs.declared.ClassId.{ClassId}
-use Rattle.sets.specs.declared.FunId.{FunId}
-use Rattle.sets.proofs.Members.{members-below}
+use Rattle.ids.specs.declared.ClassId.{ClassId}
+use Rattle.ids.specs.declared.FunId.{FunId}
+use Rattle.ids.proofs.Members.{members-below}
 use Rattle.rules.specs.Actions.{refused, _>>_, ask}
 use Rattle.rules.specs.Lists.{same, has, isJust}
 use Rattle.rules.specs.Program as P
@@ -29,28 +29,28 @@ use Rattle.lookups.specs.declared.FoundFun.the-variants.{At, Nothing}
 use Rattle.lookups.specs.Look.{funFound}
 use Rattle.state.specs.declared.Sizes.{Sizes}
 use Rattle.state.specs.declared.Regs.{Regs}
-use Rattle.state.specs.declared.Went.{Went}
-use Rattle.state.specs.declared.Went.the-variants.{On, No}
-use Rattle.state.specs.View.{Attrs, calledOf, view, Ready}
-use Rattle.state.specs.Changes.{Did}
-use Rattle.opnds.proofs.Acting.{did-then, did-stop}
-use Rattle.index.specs.Chains.{ChainIs}
-use Rattle.calls.specs.Calls.{CallIs}
-use Rattle.calls.proofs.Adding.{old-is}
-use Rattle.passing.specs.Passing.{HasParams, PassIn, Idle}
-use Rattle.passing.proofs.Given.{has-params, pass-in}
-use Rattle.receivers.proofs.Walk.{Walking}
+use Rattle.state.specs.declared.Acted.{Acted}
+use Rattle.state.specs.declared.Acted.the-variants.{On, Refused}
+use Rattle.state.specs.View.{Attrs, calledOf, stateView, StateReady}
+use Rattle.state.specs.Changes.{StateDid}
+use Rattle.machine.proofs.opnds.Acting.{did-then, did-stop}
+use Rattle.chains.specs.Chains.{ChainIs}
+use Rattle.sends.specs.calls.Calls.{CallIs}
+use Rattle.sends.proofs.calls.Adding.{old-is}
+use Rattle.sends.specs.passing.Passing.{HasParams, PassIn, PassIdle}
+use Rattle.sends.proofs.passing.Given.{has-params, pass-in}
+use Rattle.machine.proofs.receivers.Walk.{Walking}
 use Rattle.sends.specs.Sends.{callTo, callStatic, sendTo, Calling, CallsIn}
 
 -- what holds of the programs that fit holds of fewer
-did-for : {z : Sizes} {fits fewer : Program → Attrs → Type 0} {f : Limits → Program → Acts (Unit {0})} {m : List ℕ} {q : Regs} {w : List ℕ} {r : Went}
-    → ((p : Program) (v : Attrs) → fewer p v → fits p v) → Did z fits f m q w r → Did z fewer f m q w r
+did-for : {z : Sizes} {fits fewer : Program → Attrs → Type 0} {f : Limits → Program → Acts (Unit {0})} {m : List ℕ} {q : Regs} {w : List ℕ} {r : Acted}
+    → ((p : Program) (v : Attrs) → fewer p v → fits p v) → StateDid z fits f m q w r → StateDid z fewer f m q w r
 did-for g d = record { is = λ L room p v h. d .is L room p v (g p v h); ok = d .ok }
 
 -- ---- a function in memory
 
 module _ {z : Sizes} {m : List ℕ} {c : Counts} {x : List ℕ} {i : ℕ} (h : Calling z m c x i) {f : ℕ} (lt : f < c .functions) {r : Function} (d : ReadsFun m c f r) where
-  entered : (s : List ℕ) → entry (Prog.view s m c) f ≡ r .entry .0
+  entered : (s : List ℕ) → entry (Prog.programView s m c) f ≡ r .entry .0
   entered s = ap (λ (y : P.Function). y .entry) (d .is s)
 
   inside : r .entry .0 < c .blocks
@@ -84,27 +84,27 @@ module _ {z : Sizes} {m : List ℕ} {c : Counts} {x : List ℕ} {i : ℕ} (h : C
       args = ap (λ (y : Program). length (about (opOf y i) .listed)) (g .program) ∙ g .args;
     }
 
-    pub call-entered : {w : List ℕ} {q : Regs} {w' : List ℕ} {a : Went} → Did z (CallIs i f (r .entry .0) n k) (λ L p. addCall L p i f) w q w' a
-        → (s : List ℕ) → Did z (CallsIn s m c i k) (λ L p. addCall L p i f) w q w' a
+    pub call-entered : {w : List ℕ} {q : Regs} {w' : List ℕ} {a : Acted} → StateDid z (CallIs i f (r .entry .0) n k) (λ L p. addCall L p i f) w q w' a
+        → (s : List ℕ) → StateDid z (CallsIn s m c i k) (λ L p. addCall L p i f) w q w' a
     call-entered g s = did-for (λ p v b. calls s b) g
 
-  pub args-passed : {w : List ℕ} {q : Regs} {w' : List ℕ} {a : Went}
-      → ((y : ℕ) → Did z (PassIn m c z x i y (r .entry .0)) (λ L p. passArguments L p i y) w q w' a)
-      → (s : List ℕ) (k : ℕ) → Did z (CallsIn s m c i k) (λ L p. passArguments L p i f) w q w' a
+  pub args-passed : {w : List ℕ} {q : Regs} {w' : List ℕ} {a : Acted}
+      → ((y : ℕ) → StateDid z (PassIn m c z x i y (r .entry .0)) (λ L p. passArguments L p i y) w q w' a)
+      → (s : List ℕ) (k : ℕ) → StateDid z (CallsIn s m c i k) (λ L p. passArguments L p i f) w q w' a
   args-passed g s k = did-for (λ p v b. passes s b) (g f)
 
 -- ---- one call
 
-module _ (m : List ℕ) (c : Counts) (i k f : ℕ) {z : Sizes} {w : List ℕ} {q : Regs} {w' : List ℕ} {a : Went}
-    (d : (s : List ℕ) → Did z (CallsIn s m c i k) (λ L p. addCall L p i f) w q w' a) where
-  pub next-ready : {b : Regs} → a ≡ On b → Ready z w' b
+module _ (m : List ℕ) (c : Counts) (i k f : ℕ) {z : Sizes} {w : List ℕ} {q : Regs} {w' : List ℕ} {a : Acted}
+    (d : (s : List ℕ) → StateDid z (CallsIn s m c i k) (λ L p. addCall L p i f) w q w' a) where
+  pub next-ready : {b : Regs} → a ≡ On b → StateReady z w' b
   next-ready e = let d1 = rw e at (d []) in d1 .ok .ready
 
-  pub to-both : {b : Regs} {u : List ℕ} {r : Went} → a ≡ On b → ((s : List ℕ) (n : ℕ) → Did z (CallsIn s m c i n) (λ L p. passArguments L p i f) w' b u r)
-      → (s : List ℕ) → Did z (CallsIn s m c i k) (λ L p. callTo L p i f) w q u r
+  pub to-both : {b : Regs} {u : List ℕ} {r : Acted} → a ≡ On b → ((s : List ℕ) (n : ℕ) → StateDid z (CallsIn s m c i n) (λ L p. passArguments L p i f) w' b u r)
+      → (s : List ℕ) → StateDid z (CallsIn s m c i k) (λ L p. callTo L p i f) w q u r
   to-both e g s = did-then (d s) e (g s k)
 
-  pub to-stop : {n : ℕ} → a ≡ No n → (s : List ℕ) → Did z (CallsIn s m c i k) (λ L p. callTo L p i f) w q w' (No n)
+  pub to-stop : {n : ℕ} → a ≡ Refused n → (s : List ℕ) → StateDid z (CallsIn s m c i k) (λ L p. callTo L p i f) w q w' (Refused n)
   to-stop e s = did-stop (d s) (λ L p. passArguments L p i f) e
 
   -- question 17
@@ -118,56 +118,56 @@ module _ (m : List ℕ) (c : Counts) (i k f : ℕ) {z : Sizes} {w : List ℕ} {q
     owned : (s : List ℕ) {p : Program} {v : Attrs} → CallsIn s m c i k p v → has (function p f .class) ≡ has (ownerIn o)
     owned s h = ap (λ (t : Program). has (function t f .class)) (h .program) ∙ ap (λ (t : P.Function). has (t .class)) (y .is s) ∙ ap (λ (t : Owner). has (ownerIn t)) (sym eo)
 
-    pub static-both : {b : Regs} {u : List ℕ} {t : Went} → a ≡ On b → o ≡ Nobody → ((s : List ℕ) (n : ℕ) → Did z (CallsIn s m c i n) (λ L p. passArguments L p i f) w' b u t)
-        → (s : List ℕ) → Did z (CallsIn s m c i k) (λ L p. callStatic L p i f) w q u t
+    pub static-both : {b : Regs} {u : List ℕ} {t : Acted} → a ≡ On b → o ≡ Nobody → ((s : List ℕ) (n : ℕ) → StateDid z (CallsIn s m c i n) (λ L p. passArguments L p i f) w' b u t)
+        → (s : List ℕ) → StateDid z (CallsIn s m c i k) (λ L p. callStatic L p i f) w q u t
     static-both {b} e n g s = did-then (d s) e (record {
-      is = λ L room p v h. g s k .is L room p v h ∙ sym (asked-yes p (passArguments L p i f) (view z v w' b) (owned s h ∙ ap (λ (t : Owner). has (ownerIn t)) n));
+      is = λ L room p v h. g s k .is L room p v h ∙ sym (asked-yes p (passArguments L p i f) (stateView z v w' b) (owned s h ∙ ap (λ (t : Owner). has (ownerIn t)) n));
       ok = g s k .ok;
     })
 
-    pub static-method : {b : Regs} {x : ClassId} → a ≡ On b → o ≡ Class x → (s : List ℕ) → Did z (CallsIn s m c i k) (λ L p. callStatic L p i f) w q w' (No 17)
+    pub static-method : {b : Regs} {x : ClassId} → a ≡ On b → o ≡ Class x → (s : List ℕ) → StateDid z (CallsIn s m c i k) (λ L p. callStatic L p i f) w q w' (Refused 17)
     static-method {b} e n s =
-        let g : Did z (CallsIn s m c i k) (λ L p. ask 17 (not (has (function p f .class))) >> passArguments L p i f) w' b w' (No 17) =
+        let g : StateDid z (CallsIn s m c i k) (λ L p. ask 17 (not (has (function p f .class))) >> passArguments L p i f) w' b w' (Refused 17) =
         record {
-          is = λ L room p v h. sym (asked-no p (passArguments L p i f) (view z v w' b) (owned s h ∙ ap (λ (t : Owner). has (ownerIn t)) n));
+          is = λ L room p v h. sym (asked-no p (passArguments L p i f) (stateView z v w' b) (owned s h ∙ ap (λ (t : Owner). has (ownerIn t)) n));
           ok = tt;
         } in
         did-then (d s) e g
 
-  pub static-stop : {n : ℕ} → a ≡ No n → (s : List ℕ) → Did z (CallsIn s m c i k) (λ L p. callStatic L p i f) w q w' (No n)
+  pub static-stop : {n : ℕ} → a ≡ Refused n → (s : List ℕ) → StateDid z (CallsIn s m c i k) (λ L p. callStatic L p i f) w q w' (Refused n)
   static-stop e s = did-stop (d s) (λ L p. ask 17 (not (has (function p f .class))) >> passArguments L p i f) e
 
 -- ---- a call that changes nothing
 
 module _ {z : Sizes} {m : List ℕ} {c : Counts} (i f : ℕ) {w : List ℕ} where
-  pub caller-idle : marked (calledOf z w) f i ≡ true → (s : List ℕ) (k : ℕ) → Idle z (CallsIn s m c i k) (λ L p. addCall L p i f) w
+  pub caller-idle : marked (calledOf z w) f i ≡ true → (s : List ℕ) (k : ℕ) → PassIdle z (CallsIn s m c i k) (λ L p. addCall L p i f) w
   caller-idle e s k = record {
-    is = λ q r. record { is = λ L room p v g. sym (old-is L p i f (view z v w q) e); ok = record { ready = r; count = refl } };
+    is = λ q r. record { is = λ L room p v g. sym (old-is L p i f (stateView z v w q) e); ok = record { ready = r; count = refl } };
   }
 
-  pub caller-known : {q : Regs} {b : 𝔹} {k : ℕ} → Ready z w q → b ≡ marked (calledOf z w) f i → b ≡ true → (s : List ℕ) → Did z (CallsIn s m c i k) (λ L p. addCall L p i f) w q w (On q)
+  pub caller-known : {q : Regs} {b : 𝔹} {k : ℕ} → StateReady z w q → b ≡ marked (calledOf z w) f i → b ≡ true → (s : List ℕ) → StateDid z (CallsIn s m c i k) (λ L p. addCall L p i f) w q w (On q)
   caller-known {q} {b} {k} r e t s = caller-idle (sym e ∙ t) s k .is q r
 
   pub call-idle : {x : List ℕ} → Calling z m c x i → f < c .functions → {y : Function} → ReadsFun m c f y → {b : 𝔹} → b ≡ marked (calledOf z w) f i → b ≡ true
-      → ((j : ℕ) → Idle z (PassIn m c z x i j (y .entry .0)) (λ L p. passArguments L p i j) w) → (s : List ℕ) (k : ℕ) → Idle z (CallsIn s m c i k) (λ L p. callTo L p i f) w
+      → ((j : ℕ) → PassIdle z (PassIn m c z x i j (y .entry .0)) (λ L p. passArguments L p i j) w) → (s : List ℕ) (k : ℕ) → PassIdle z (CallsIn s m c i k) (λ L p. callTo L p i f) w
   call-idle h lt d e t g s k = record { is = λ q r. did-then (caller-idle (sym e ∙ t) s k .is q r) refl (args-passed h lt d (λ j. g j .is q r) s k) }
 
 -- ---- one class
 
-module _ (s m : List ℕ) (c : Counts) (k : ℕ) (n : P.Name) {r : FoundFun} (e : funFound r ≡ methodNamed (Prog.view s m c) k n) where
-  method-at : {f : FunId} → r ≡ At f → methodNamed (Prog.view s m c) k n ≡ some (f .0)
+module _ (s m : List ℕ) (c : Counts) (k : ℕ) (n : P.Name) {r : FoundFun} (e : funFound r ≡ methodNamed (Prog.programView s m c) k n) where
+  method-at : {f : FunId} → r ≡ At f → methodNamed (Prog.programView s m c) k n ≡ some (f .0)
   method-at h = sym e ∙ ap funFound h
 
   pub method-below : {f : FunId} → r ≡ At f → f .0 < c .functions
   unfolding methodNamed
   method-below {f} h =
-      let a = places-∈ (record { name = []; class = none; entry = 0 }) (λ (y : P.Function). isJust (y .class) k && same (y .name) n) (Prog.view s m c .functions) (f .0) (first-in _ (method-at h)) in
+      let a = places-∈ (record { name = []; class = none; entry = 0 }) (λ (y : P.Function). isJust (y .class) k && same (y .name) n) (Prog.programView s m c .functions) (f .0) (first-in _ (method-at h)) in
       let b = functions-length s m (c .functions) in
       omega (arith, a .0)
 
   module _ {z : Sizes} {i j : ℕ} {w : List ℕ} {q : Regs} where
-    pub one-found : {f : FunId} {w' : List ℕ} {a : Went} → r ≡ At f → ((t : List ℕ) → Did z (CallsIn t m c i j) (λ L p. callTo L p i (f .0)) w q w' a)
-        → Did z (CallsIn s m c i j) (λ L p. sendTo L p i n k) w q w' a
+    pub one-found : {f : FunId} {w' : List ℕ} {a : Acted} → r ≡ At f → ((t : List ℕ) → StateDid z (CallsIn t m c i j) (λ L p. callTo L p i (f .0)) w q w' a)
+        → StateDid z (CallsIn s m c i j) (λ L p. sendTo L p i n k) w q w' a
     one-found {f} h d = record {
       is = λ L room p v g.
           let t : methodNamed p k n ≡ some (f .0) = ap (λ (y : Program). methodNamed y k n) (g .program) ∙ method-at h in
@@ -175,7 +175,7 @@ module _ (s m : List ℕ) (c : Counts) (k : ℕ) (n : P.Name) {r : FoundFun} (e 
       ok = d s .ok;
     }
 
-  pub one-none : (z : Sizes) (i j : ℕ) (w : List ℕ) (q : Regs) → r ≡ Nothing → Did z (CallsIn s m c i j) (λ L p. sendTo L p i n k) w q w (No 15)
+  pub one-none : (z : Sizes) (i j : ℕ) (w : List ℕ) (q : Regs) → r ≡ Nothing → StateDid z (CallsIn s m c i j) (λ L p. sendTo L p i n k) w q w (Refused 15)
   one-none z i j w q h = record {
     is = λ L room p v g. let t : methodNamed p k n ≡ none = ap (λ (y : Program). methodNamed y k n) (g .program) ∙ sym e ∙ ap funFound h in rw t;
     ok = tt;

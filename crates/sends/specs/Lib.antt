@@ -1,1 +1,3 @@
+pub mod passing
+pub mod calls
 pub mod Sends

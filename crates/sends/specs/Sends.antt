@@ -11,11 +11,11 @@ use Rattle.rules.specs.Program.{Limits, Program, about, opOf, function, methodN
 use Rattle.rules.specs.Machine.{Acts, classesOf, addCall, passArguments}
 use Rattle.program.specs.declared.Counts.{Counts}
 use Rattle.program.specs.Rows.{funAt}
-use Rattle.program.specs.View.{view}
+use Rattle.program.specs.View.{programView}
 use Rattle.state.specs.declared.Sizes.{Sizes}
 use Rattle.state.specs.View.{Attrs}
-use Rattle.index.specs.Chains.{Index}
-use Rattle.passing.specs.Passing.{Caller}
+use Rattle.chains.specs.Chains.{Index}
+use Rattle.sends.specs.passing.Passing.{Caller}
 
 -- instruction i calls f: 16 or 20, then f's Params
 abbrev pub callTo : Limits → Program → ℕ → ℕ → Acts (Unit {0})
@@ -42,6 +42,6 @@ pub record Calling (z : Sizes) (m : List ℕ) (c : Counts) (x : List ℕ) (i : �
 
 -- the program that a script and tables stand for, in which call i has k arguments
 pub record CallsIn (s m : List ℕ) (c : Counts) (i k : ℕ) (p : Program) (v : Attrs) : Type 0 where
-  pub program : p ≡ view s m c
-  pub call : has (about (opOf (view s m c) i) .callee) ≡ true
-  pub args : length (about (opOf (view s m c) i) .listed) ≡ k
+  pub program : p ≡ programView s m c
+  pub call : has (about (opOf (programView s m c) i) .callee) ≡ true
+  pub args : length (about (opOf (programView s m c) i) .listed) ≡ k

@@ -1,184 +1,201 @@
 // Calls: a new caller, the callee's Params, and a receiver's methods.
+pub mod calls;
+pub mod passing;
+
+use ids::FunId;
+use ids::InsnId;
+use ids::NextClass;
 use lookups::FoundFun;
+use machine::receivers::ReceiverClasses;
 use program::Counts;
 use program::Name;
 use program::Opnd;
 use program::Owner;
-use receivers::Receiver;
-use sets::FunId;
-use sets::InsnId;
-use sets::Next;
+use state::Acted;
 use state::Regs;
 use state::Sizes;
-use state::Went;
 ghost use mathlib.Core.Bool.{true};
 ghost use mathlib.Core.Path.{_≡_};
 ghost use mathlib.Core.List.{List};
 ghost use Prim.Native.Nat.{ℕ, _<_};
-ghost use Rattle.sets.specs.Sets.{membersOf};
+ghost use Rattle.ids.specs.Sets.{membersOf};
 ghost use Rattle.rules.specs.Actions.{each};
 ghost use Rattle.rules.specs.Machine.{addCall, passArguments};
 ghost use Rattle.program.specs.Rows.{nameIn, opndOf};
-ghost use Rattle.state.specs.View.{Held, Ready};
-ghost use Rattle.state.specs.Changes.{Did};
-ghost use Rattle.opnds.specs.Reads.{Inside};
-ghost use Rattle.passing.specs.Passing.{Idle};
+ghost use Rattle.state.specs.View.{StateHeld, StateReady};
+ghost use Rattle.state.specs.Changes.{StateDid};
+ghost use Rattle.machine.specs.opnds.Reads.{OperandInside};
+ghost use Rattle.sends.specs.passing.Passing.{PassIdle};
 ghost use Rattle.sends.specs.Sends.{callTo, callStatic, sendTo, sendAll, Calling, CallsIn};
 
 // Call i, which has `args` arguments, is a caller of f, or 16 or 20.
 fn enter_call(
-    p: &[usize],
-    c: Counts,
-    x: &[usize],
-    m: &mut [usize],
-    z: Sizes,
-    q: Regs,
+    program: &[usize],
+    counts: Counts,
+    chains: &[usize],
+    state: &mut [usize],
+    sizes: Sizes,
+    regs: Regs,
     i: InsnId,
     args: usize,
     f: FunId,
-) -> Went
-    requires { ⌜ Ready z (now m) q ⌝ }
-    requires { ⌜ Calling z (now p) c (now x) (i .0) ⌝ }
-    requires { ⌜ f .0 < c .functions ⌝ }
-    ensures { λ r. ⌜ ((s : List ℕ) → Did z (CallsIn s (now (p .entry)) c (i .0) args) (λ L p. addCall L p (i .0) (f .0)) (now (m .entry)) q (now (m .exit)) r) ⌝ }
+) -> Acted
+    requires { ⌜ StateReady sizes (now state) regs ⌝ }
+    requires { ⌜ Calling sizes (now program) counts (now chains) (i .0) ⌝ }
+    requires { ⌜ f .0 < counts .functions ⌝ }
+    ensures { λ r. ⌜ ((s : List ℕ) → StateDid sizes (CallsIn s (now (program .entry)) counts (i .0) args) (λ L program. addCall L program (i .0) (f .0)) (now (state .entry)) regs (now (state .exit)) r) ⌝ }
 {
-    if state::has_called(m, z, f, i) {
-        return Went::On(q);
+    if state::has_called(state, sizes, f, i) {
+        return Acted::On(regs);
     }
-    let row = program::read_fun(p, c, f);
+    let row = program::read_fun(program, counts, f);
     let entry = row.entry;
-    let params = passing::count_params(x, z, entry);
-    calls::add_call(m, z, q, i, f, entry, params, args)
+    let params = passing::count_params(chains, sizes, entry);
+    calls::add_call(state, sizes, regs, i, f, entry, params, args)
 }
 
 // The Params of f wait whose kinds the arguments of call i would change, or 19 or 20.
 fn pass(
-    p: &[usize],
-    c: Counts,
-    x: &[usize],
-    m: &mut [usize],
-    z: Sizes,
-    q: Regs,
+    program: &[usize],
+    counts: Counts,
+    chains: &[usize],
+    state: &mut [usize],
+    sizes: Sizes,
+    regs: Regs,
     i: InsnId,
     f: FunId,
-) -> Went
-    requires { ⌜ Ready z (now m) q ⌝ }
-    requires { ⌜ Calling z (now p) c (now x) (i .0) ⌝ }
-    requires { ⌜ f .0 < c .functions ⌝ }
-    ensures { λ r. ⌜ ((s : List ℕ) (k : ℕ) → Did z (CallsIn s (now (p .entry)) c (i .0) k) (λ L p. passArguments L p (i .0) (f .0)) (now (m .entry)) q (now (m .exit)) r) ⌝ }
+) -> Acted
+    requires { ⌜ StateReady sizes (now state) regs ⌝ }
+    requires { ⌜ Calling sizes (now program) counts (now chains) (i .0) ⌝ }
+    requires { ⌜ f .0 < counts .functions ⌝ }
+    ensures { λ r. ⌜ ((s : List ℕ) (k : ℕ) → StateDid sizes (CallsIn s (now (program .entry)) counts (i .0) k) (λ L program. passArguments L program (i .0) (f .0)) (now (state .entry)) regs (now (state .exit)) r) ⌝ }
 {
-    let row = program::read_fun(p, c, f);
+    let row = program::read_fun(program, counts, f);
     let entry = row.entry;
-    passing::pass_arguments(p, c, x, m, z, q, i, entry)
+    passing::pass_arguments(program, counts, chains, state, sizes, regs, i, entry)
 }
 
 fn call_to(
-    p: &[usize],
-    c: Counts,
-    x: &[usize],
-    m: &mut [usize],
-    z: Sizes,
-    q: Regs,
+    program: &[usize],
+    counts: Counts,
+    chains: &[usize],
+    state: &mut [usize],
+    sizes: Sizes,
+    regs: Regs,
     i: InsnId,
     args: usize,
     f: FunId,
-) -> Went
-    requires { ⌜ Ready z (now m) q ⌝ }
-    requires { ⌜ Calling z (now p) c (now x) (i .0) ⌝ }
-    requires { ⌜ f .0 < c .functions ⌝ }
-    ensures { λ r. ⌜ ((s : List ℕ) → Did z (CallsIn s (now (p .entry)) c (i .0) args) (λ L p. callTo L p (i .0) (f .0)) (now (m .entry)) q (now (m .exit)) r) ⌝ }
+) -> Acted
+    requires { ⌜ StateReady sizes (now state) regs ⌝ }
+    requires { ⌜ Calling sizes (now program) counts (now chains) (i .0) ⌝ }
+    requires { ⌜ f .0 < counts .functions ⌝ }
+    ensures { λ r. ⌜ ((s : List ℕ) → StateDid sizes (CallsIn s (now (program .entry)) counts (i .0) args) (λ L program. callTo L program (i .0) (f .0)) (now (state .entry)) regs (now (state .exit)) r) ⌝ }
 {
-    match enter_call(p, c, x, m, z, q, i, args, f) {
-        Went::On(next) => pass(p, c, x, m, z, next, i, f),
-        Went::No(e) => Went::No(e),
+    match enter_call(program, counts, chains, state, sizes, regs, i, args, f) {
+        Acted::On(next) => pass(program, counts, chains, state, sizes, next, i, f),
+        Acted::Refused(e) => Acted::Refused(e),
     }
 }
 
 // What the bare call i of f sets off: 16 or 20, then 17, then 19 or 20.
 pub fn send_static(
-    p: &[usize],
-    c: Counts,
-    x: &[usize],
-    m: &mut [usize],
-    z: Sizes,
-    q: Regs,
+    program: &[usize],
+    counts: Counts,
+    chains: &[usize],
+    state: &mut [usize],
+    sizes: Sizes,
+    regs: Regs,
     i: InsnId,
     args: usize,
     f: FunId,
-) -> Went
-    requires { ⌜ Ready z (now m) q ⌝ }
-    requires { ⌜ Calling z (now p) c (now x) (i .0) ⌝ }
-    requires { ⌜ f .0 < c .functions ⌝ }
-    ensures { λ r. ⌜ ((s : List ℕ) → Did z (CallsIn s (now (p .entry)) c (i .0) args) (λ L p. callStatic L p (i .0) (f .0)) (now (m .entry)) q (now (m .exit)) r) ⌝ }
+) -> Acted
+    requires { ⌜ StateReady sizes (now state) regs ⌝ }
+    requires { ⌜ Calling sizes (now program) counts (now chains) (i .0) ⌝ }
+    requires { ⌜ f .0 < counts .functions ⌝ }
+    ensures { λ r. ⌜ ((s : List ℕ) → StateDid sizes (CallsIn s (now (program .entry)) counts (i .0) args) (λ L program. callStatic L program (i .0) (f .0)) (now (state .entry)) regs (now (state .exit)) r) ⌝ }
 {
-    let row = program::read_fun(p, c, f);
+    let row = program::read_fun(program, counts, f);
     let class = row.class;
-    match enter_call(p, c, x, m, z, q, i, args, f) {
-        Went::On(next) => match class {
-            Owner::Class(_) => Went::No(17),
-            Owner::Nobody => pass(p, c, x, m, z, next, i, f),
+    match enter_call(program, counts, chains, state, sizes, regs, i, args, f) {
+        Acted::On(next) => match class {
+            Owner::Class(_) => Acted::Refused(17),
+            Owner::Nobody => pass(program, counts, chains, state, sizes, next, i, f),
         },
-        Went::No(e) => Went::No(e),
+        Acted::Refused(e) => Acted::Refused(e),
     }
 }
 
 // A quick test that call i of f changes nothing: it is no new caller, and its arguments leave the kinds of f's Params as they are.
-fn settled(p: &[usize], c: Counts, x: &[usize], m: &[usize], z: Sizes, i: InsnId, f: FunId) -> bool
-    requires { ⌜ Held z (now m) ⌝ }
-    requires { ⌜ Calling z (now p) c (now x) (i .0) ⌝ }
-    requires { ⌜ f .0 < c .functions ⌝ }
-    ensures { λ r. ⌜ (r ≡ true → (s : List ℕ) (k : ℕ) → Idle z (CallsIn s (now (p .entry)) c (i .0) k) (λ L p. callTo L p (i .0) (f .0)) (now (m .entry))) ⌝ }
+fn settled(
+    program: &[usize],
+    counts: Counts,
+    chains: &[usize],
+    state: &[usize],
+    sizes: Sizes,
+    i: InsnId,
+    f: FunId,
+) -> bool
+    requires { ⌜ StateHeld sizes (now state) ⌝ }
+    requires { ⌜ Calling sizes (now program) counts (now chains) (i .0) ⌝ }
+    requires { ⌜ f .0 < counts .functions ⌝ }
+    ensures { λ r. ⌜ (r ≡ true → (s : List ℕ) (k : ℕ) → PassIdle sizes (CallsIn s (now (program .entry)) counts (i .0) k) (λ L program. callTo L program (i .0) (f .0)) (now (state .entry))) ⌝ }
 {
-    if state::has_called(m, z, f, i) {
-        let row = program::read_fun(p, c, f);
+    if state::has_called(state, sizes, f, i) {
+        let row = program::read_fun(program, counts, f);
         let entry = row.entry;
-        return passing::surely_keeps_all(p, c, x, m, z, i, entry);
+        return passing::surely_keeps_all(program, counts, chains, state, sizes, i, entry);
     }
     false
 }
 
 // Call i of the method n of each class of a set, or 15.
 fn send_each(
-    s: &[u8],
-    p: &[usize],
-    c: Counts,
-    x: &[usize],
-    m: &mut [usize],
-    z: Sizes,
-    q: Regs,
+    script: &[u8],
+    program: &[usize],
+    counts: Counts,
+    chains: &[usize],
+    state: &mut [usize],
+    sizes: Sizes,
+    regs: Regs,
     i: InsnId,
     args: usize,
     n: Name,
     set: u64,
-) -> Went
-    requires { ⌜ Ready z (now m) q ⌝ }
-    requires { ⌜ Calling z (now p) c (now x) (i .0) ⌝ }
-    ensures { λ r. ⌜ Did z (CallsIn (now (s .entry)) (now (p .entry)) c (i .0) args) (λ L p. each (membersOf set) (sendTo L p (i .0) (nameIn (now (s .entry)) n))) (now (m .entry)) q (now (m .exit)) r ⌝ }
+) -> Acted
+    requires { ⌜ StateReady sizes (now state) regs ⌝ }
+    requires { ⌜ Calling sizes (now program) counts (now chains) (i .0) ⌝ }
+    ensures { λ r. ⌜ StateDid sizes (CallsIn (now (script .entry)) (now (program .entry)) counts (i .0) args) (λ L program. each (membersOf set) (sendTo L program (i .0) (nameIn (now (script .entry)) n))) (now (state .entry)) regs (now (state .exit)) r ⌝ }
 {
-    let mut at = q;
+    let mut at = regs;
     let mut left = set;
     loop {
-        match sets::smallest(left) {
-            Next::Member(k, rest) => match lookups::method_named(s, p, c, k, n) {
+        match ids::smallest(left) {
+            NextClass::Member(k, rest) => match lookups::method_named(
+                script,
+                program,
+                counts,
+                k,
+                n,
+            ) {
                 FoundFun::At(f) => {
-                    if !settled(p, c, x, m, z, i, f) {
-                        match call_to(p, c, x, m, z, at, i, args, f) {
-                            Went::On(next) => {
+                    if !settled(program, counts, chains, state, sizes, i, f) {
+                        match call_to(program, counts, chains, state, sizes, at, i, args, f) {
+                            Acted::On(next) => {
                                 at = next;
                             }
-                            Went::No(e) => {
-                                return Went::No(e);
+                            Acted::Refused(e) => {
+                                return Acted::Refused(e);
                             }
                         }
                     }
                     left = rest;
                 }
                 FoundFun::Nothing => {
-                    return Went::No(15);
+                    return Acted::Refused(15);
                 }
             },
-            Next::Done => {
-                return Went::On(at);
+            NextClass::Done => {
+                return Acted::On(at);
             }
         }
     }
@@ -186,25 +203,37 @@ fn send_each(
 
 // What call i of the method n of receiver o sets off: 14, then for each class 15, 16 or 20, 19 or 20.
 pub fn send_dynamic(
-    s: &[u8],
-    p: &[usize],
-    c: Counts,
-    x: &[usize],
-    m: &mut [usize],
-    z: Sizes,
-    q: Regs,
+    script: &[u8],
+    program: &[usize],
+    counts: Counts,
+    chains: &[usize],
+    state: &mut [usize],
+    sizes: Sizes,
+    regs: Regs,
     i: InsnId,
     args: usize,
     n: Name,
     o: Opnd,
-) -> Went
-    requires { ⌜ Ready z (now m) q ⌝ }
-    requires { ⌜ Calling z (now p) c (now x) (i .0) ⌝ }
-    requires { ⌜ Inside z o ⌝ }
-    ensures { λ r. ⌜ Did z (CallsIn (now (s .entry)) (now (p .entry)) c (i .0) args) (λ L p. sendAll L p (i .0) (nameIn (now (s .entry)) n) (opndOf o)) (now (m .entry)) q (now (m .exit)) r ⌝ }
+) -> Acted
+    requires { ⌜ StateReady sizes (now state) regs ⌝ }
+    requires { ⌜ Calling sizes (now program) counts (now chains) (i .0) ⌝ }
+    requires { ⌜ OperandInside sizes o ⌝ }
+    ensures { λ r. ⌜ StateDid sizes (CallsIn (now (script .entry)) (now (program .entry)) counts (i .0) args) (λ L program. sendAll L program (i .0) (nameIn (now (script .entry)) n) (opndOf o)) (now (state .entry)) regs (now (state .exit)) r ⌝ }
 {
-    match receivers::classes_of(m, z, o) {
-        Receiver::Classes(set) => send_each(s, p, c, x, m, z, q, i, args, n, set),
-        Receiver::Refused(e) => Went::No(e),
+    match machine::receivers::classes_of(state, sizes, o) {
+        ReceiverClasses::Classes(set) => send_each(
+            script,
+            program,
+            counts,
+            chains,
+            state,
+            sizes,
+            regs,
+            i,
+            args,
+            n,
+            set,
+        ),
+        ReceiverClasses::Refused(e) => Acted::Refused(e),
     }
 }

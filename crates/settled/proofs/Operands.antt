@@ -9,26 +9,26 @@ use Rattle.kinds.specs.Kinds.{kindFrom}
 use Rattle.program.specs.declared.Counts.{Counts}
 use Rattle.program.specs.declared.Opnd.{Opnd}
 use Rattle.program.specs.Rows.{opndAt, opndOf, nth}
-use Rattle.program.specs.View.{Ready}
-use Rattle.records.specs.declared.Insn.{Insn}
+use Rattle.program.specs.View.{ProgramReady}
+use Rattle.records.specs.declared.Record.{Record}
 use Rattle.records.specs.Records.{rowOf}
 use Rattle.program.proofs.Reading.{operand-read}
 use Rattle.state.specs.declared.Sizes.{Sizes}
-use Rattle.opnds.specs.Reads.{Inside, kindIn}
+use Rattle.machine.specs.opnds.Reads.{OperandInside, kindIn}
 use Rattle.flows.specs.Flows.{standing}
 use Rattle.flows.proofs.Standing.{stands}
 use Rattle.visits.specs.Visits.{operandsOf}
 use Rattle.visits.proofs.Given.{operand-none}
 
-module _ {p : List ℕ} {c : Counts} (insn : Insn) (j : ℕ) (r : Ready p c) (range : insn .first + insn .count ≤ c .opnds) where
+module _ {p : List ℕ} {c : Counts} (insn : Record) (j : ℕ) (r : ProgramReady p c) (range : insn .first + insn .count ≤ c .opnds) where
   pub word-inside : j < insn .count → 12288 + 2 * insn .first + 2 * j + 1 < length p
   word-inside h = let a = r .len-mem in let b = r .opnds in let d = r .listed in let e = r .insns in omega arith
 
   stands-there : standing p (12288 + 2 * insn .first + 2 * j) ≡ opndAt p (12288 + 2 * insn .first + 2 * j)
   stands-there = stands p (λ e. omega arith)
 
-  pub stands-inside : (z : Sizes) → Inside z (opndAt p (12288 + 2 * insn .first + 2 * j)) → Inside z (standing p (12288 + 2 * insn .first + 2 * j))
-  stands-inside z h = subst (Inside z) (sym stands-there) h
+  pub stands-inside : (z : Sizes) → OperandInside z (opndAt p (12288 + 2 * insn .first + 2 * j)) → OperandInside z (standing p (12288 + 2 * insn .first + 2 * j))
+  stands-inside z h = subst (OperandInside z) (sym stands-there) h
 
   -- the operand that stands there, and Nil where there is none
   pub operand-kind : (ks : List Kind) {k : Kind} → j < insn .count → k ≡ kindIn ks (opndOf (standing p (12288 + 2 * insn .first + 2 * j))) → k ≡ kindIn ks (nth (operandsOf p (rowOf insn)) j)

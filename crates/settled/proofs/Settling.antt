@@ -7,8 +7,8 @@ use Prim.Native.Nat.{ℕ, _<_}
 use borrow.Author.Tests.{eqb-false, not-false}
 use lib.Dec.{eqb}
 use lib.ListN.{getD}
-use Rattle.sets.specs.Sets.{membersOf}
-use Rattle.sets.proofs.Walk.{Step, members-done}
+use Rattle.ids.specs.Sets.{membersOf}
+use Rattle.ids.proofs.Walk.{Step, members-done}
 use Rattle.kinds.specs.declared.Kind.{Kind}
 use Rattle.kinds.specs.declared.Kind.the-variants.{Empty}
 use Rattle.kinds.specs.declared.Joined.the-variants.{Of}
@@ -27,12 +27,12 @@ use Rattle.lookups.specs.declared.FoundIvar.the-variants.{At}
 use Rattle.lookups.specs.Look.{ivarFound}
 use Rattle.state.specs.declared.Sizes.{Sizes}
 use Rattle.state.specs.View.{Attrs, kindsOf, ivarsOf, readsOf}
-use Rattle.receivers.specs.Receivers.{Matches}
-use Rattle.receivers.proofs.Walk.{Walking, walk-on}
-use Rattle.passing.proofs.Passes.{no-name-from}
+use Rattle.machine.specs.receivers.Receivers.{StateMatches}
+use Rattle.machine.proofs.receivers.Walk.{Walking, walk-on}
+use Rattle.sends.proofs.passing.Passes.{no-name-from}
 use Rattle.attributes.specs.Attributes.{ProgramIs}
 use Rattle.attributes.proofs.Found.{at-place, at-counted}
-use Rattle.analysed.specs.Analysed.{Fits}
+use Rattle.machine.specs.Analysed.{MachineFits}
 use Rattle.settled.specs.Reads.{SettledAt, SettledFor}
 
 -- ---- covers
@@ -48,11 +48,11 @@ covers-plain s x t y h e =
 
 -- ---- one class
 
-pub program-is : {s p : List ℕ} {c : Counts} {P : Program} {v : Attrs} → Fits s p c P v → ProgramIs s p c P v
+pub program-is : {s p : List ℕ} {c : Counts} {P : Program} {v : Attrs} → MachineFits s p c P v → ProgramIs s p c P v
 program-is f = record { program = f .is; attrs = λ k _. f .attrs k }
 
 module _ {z : Sizes} {s p : List ℕ} {c : Counts} {m : List ℕ} {i x : ℕ} {n : Name} {k j : Kind} {r : FoundIvar} {a : ℕ} where
-  pub settled-at : Matches z p c → x < z .classes → {t : 𝔹} → t ≡ marked (readsOf z m) x i → not t ≡ false → ivarFound r ≡ ivarNamed (Prog.view s p c) x (nameIn s n) → r ≡ At a
+  pub settled-at : StateMatches z p c → x < z .classes → {t : 𝔹} → t ≡ marked (readsOf z m) x i → not t ≡ false → ivarFound r ≡ ivarNamed (Prog.programView s p c) x (nameIn s n) → r ≡ At a
       → ((v : Attrs) → a < v .count x → j ≡ getD (getD (ivarsOf z v m) x []) a Empty) → Covered k j → SettledAt s p c z m n i k x
   settled-at M below {t} met so found e kind covered = record {
     is = λ P v f. record {
@@ -92,6 +92,7 @@ module _ {s p : List ℕ} {c : Counts} {z : Sizes} {m : List ℕ} {n : Name} {i 
     pub settling-done : k ≡ getD (kindsOf z m) i Empty → membersOf left ≡ [] → SettledFor s p c z m n i b
     settling-done e done = record { is = λ P v f x h. go P v f x (g .each x h) }
       where
-        go : (P : Program) (v : Attrs) → Fits s p c P v → (x : ℕ) → List·Memᴰ x (membersOf left) ⊎ SettledAt s p c z m n i k x → SettledIn P (nameIn s n) (getD (kindsOf z m) i Empty) i (ivarsOf z v m) (readsOf z m) x
+        go : (P : Program) (v : Attrs) → MachineFits s p c P v → (x : ℕ) → List·Memᴰ x (membersOf left) ⊎ SettledAt s p c z m n i k x
+            → SettledIn P (nameIn s n) (getD (kindsOf z m) i Empty) i (ivarsOf z v m) (readsOf z m) x
         go P v f x (inl a) = absurd (List·Memᴰ·not-nil (subst (List·Memᴰ x) done a))
         go P v f x (inr a) = subst (λ (y : Kind). SettledIn P (nameIn s n) y i (ivarsOf z v m) (readsOf z m) x) e (a .is P v f)

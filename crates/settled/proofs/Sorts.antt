@@ -21,22 +21,22 @@ use Rattle.program.specs.declared.Op.the-variants as O
 use Rattle.program.specs.declared.Opnd.{Opnd}
 use Rattle.program.specs.declared.Opnd.the-variants.{Const, Insn}
 use Rattle.program.specs.Rows.{opndOf, opndAt, opFrom, opIn, nth, nameIn}
-use Rattle.program.specs.View.{view, ReadsInsn}
+use Rattle.program.specs.View.{programView, ReadsInsn}
 use Rattle.program.proofs.Forms.{op-13, op-past}
 use Rattle.program.proofs.Reading.{operand-read}
-use Rattle.records.specs.declared.Insn.{Insn as Record}
+use Rattle.records.specs.declared.Record.{Record}
 use Rattle.records.specs.Records.{rowOf}
 use Rattle.state.specs.declared.Sizes.{Sizes}
 use Rattle.state.specs.declared.Regs.{Regs}
 use Rattle.state.specs.View.{Attrs, kindsOf}
 use Rattle.state.specs.View as State
-use Rattle.opnds.specs.Reads.{Inside, kindIn}
-use Rattle.opnds.proofs.Given.{kind-of}
+use Rattle.machine.specs.opnds.Reads.{OperandInside, kindIn}
+use Rattle.machine.proofs.opnds.Given.{kind-of}
 use Rattle.flows.specs.declared.Words.{Words}
 use Rattle.flows.specs.Flows.{wordsOf}
-use Rattle.receivers.specs.Receivers.{ClassesBelow}
-use Rattle.passing.proofs.Passes.{objects-from}
-use Rattle.analysed.specs.Analysed.{Fits}
+use Rattle.machine.specs.receivers.Receivers.{ClassesBelow}
+use Rattle.sends.proofs.passing.Passes.{objects-from}
+use Rattle.machine.specs.Analysed.{MachineFits}
 use Rattle.visits.specs.Visits.{operandsOf, Visiting}
 use Rattle.visits.proofs.Given.{first-good, second-good, opnd-inside, opnd-within}
 use Rattle.settled.specs.Reads.{nameOf, SettledFor}
@@ -69,7 +69,7 @@ past-13 t x y h =
 -- ---- an instruction of a program by its record n
 
 module _ {p : List ℕ} {c : Counts} {i : ℕ} (n : Record) (r : ReadsInsn p c i (rowOf n)) where
-  module _ {s : List ℕ} {P : Program} {v : Attrs} (f : Fits s p c P v) where
+  module _ {s : List ℕ} {P : Program} {v : Attrs} (f : MachineFits s p c P v) where
     op-by : {o : Op} → o ≡ opFrom (n .tag) (n .x) (n .y) → opOf P i ≡ opIn s o (operandsOf p (rowOf n))
     unfolding rowOf
     op-by {o} e = ap (λ (Q : Program). opOf Q i) (f .is) ∙ ap (λ (y : Instruction). y .op) (r .is s) ∙ ap (λ (y : Op). opIn s y (operandsOf p (rowOf n))) (sym e)
@@ -115,16 +115,16 @@ back-is (R.Insn j) = refl
 classes-of : (o : Words) → o .tag ≡ 8 → classesIn (wordsOf o) ≡ some (o .bits)
 classes-of o e = ap classesIn (objects-from (o .bits) e)
 
-module _ {s p : List ℕ} {c : Counts} {x : List ℕ} {z : Sizes} {m : List ℕ} {q : Regs} {i : ℕ} (n : Record) (g : Visiting s p c x z m q i (rowOf n)) {v : Attrs} (f : Fits s p c (view s p c) v) where
+module _ {s p : List ℕ} {c : Counts} {x : List ℕ} {z : Sizes} {m : List ℕ} {q : Regs} {i : ℕ} (n : Record) (g : Visiting s p c x z m q i (rowOf n)) {v : Attrs} (f : MachineFits s p c (programView s p c) v) where
   pub range : n .first + n .count ≤ c .opnds
   unfolding rowOf
   range = g .read .range
 
   module _ (e : n .tag ≡ 13) where
-    receiver-good : goodOpnd (view s p c) i (nth (operandsOf p (rowOf n)) 0) ≡ true
+    receiver-good : goodOpnd (programView s p c) i (nth (operandsOf p (rowOf n)) 0) ≡ true
     receiver-good = first-good g (read-op n (g .read) f e) refl
 
-    pub read-inside : 0 < n .count → Inside z (opndAt p (12288 + 2 * n .first + 2 * 0))
+    pub read-inside : 0 < n .count → OperandInside z (opndAt p (12288 + 2 * n .first + 2 * 0))
     unfolding rowOf
     read-inside h = opnd-inside g (opndAt p (12288 + 2 * n .first + 2 * 0)) (operand-read p (12288 + 2 * n .first) (n .count) 0 h refl) receiver-good
 
@@ -134,14 +134,16 @@ module _ {s p : List ℕ} {c : Counts} {x : List ℕ} {z : Sizes} {m : List ℕ}
         let v = nth (operandsOf p (rowOf n)) 0 in
         opnd-within g (back v) (back-is v) receiver-good .classes (o .bits) (ap (λ (y : R.Opnd). classesIn (kindIn (kindsOf z m) y)) (back-is v) ∙ ap classesIn (sym k) ∙ classes-of o t)
 
-  pub set-inside : 13 < n .tag → 1 < n .count → Inside z (opndAt p (12288 + 2 * n .first + 2 * 1))
+  pub set-inside : 13 < n .tag → 1 < n .count → OperandInside z (opndAt p (12288 + 2 * n .first + 2 * 1))
   unfolding rowOf
   set-inside l h = opnd-inside g (opndAt p (12288 + 2 * n .first + 2 * 1)) (operand-read p (12288 + 2 * n .first) (n .count) 1 h refl) (second-good g (set-op n (g .read) f l) refl)
 
 -- ---- a read whose stamp is its receiver's classes
 
-pub read-passes : {s p : List ℕ} {c : Counts} {i : ℕ} {z : Sizes} {m : List ℕ} (n : Record) (r : ReadsInsn p c i (rowOf n)) → n .tag ≡ 13 → (o : Words) → wordsOf o ≡ kindIn (kindsOf z m) (nth (operandsOf p (rowOf n)) 0) → o .tag ≡ 8
-    → SettledFor s p c z m (nameOf n) i (o .bits) → (L : Limits) (P : Program) (v : Attrs) → Fits s p c P v → (q : Regs) → visit L P i (State.view z v m q) ≡ answered (tt, State.view z v m q)
+pub read-passes : {s p : List ℕ} {c : Counts} {i : ℕ} {z : Sizes} {m : List ℕ} (n : Record) (r : ReadsInsn p c i (rowOf n)) → n .tag ≡ 13 → (o : Words)
+    → wordsOf o ≡ kindIn (kindsOf z m) (nth (operandsOf p (rowOf n)) 0) → o .tag ≡ 8
+    → SettledFor s p c z m (nameOf n) i (o .bits) → (L : Limits) (P : Program) (v : Attrs) → MachineFits s p c P v → (q : Regs) → visit L P i (State.stateView z v m q) ≡ answered
+    (tt, State.stateView z v m q)
 read-passes {s} {p} {c} {i} {z} {m} n r e o k t S L P v f q =
     let w = nth (operandsOf p (rowOf n)) 0 in
-    settled-idle L P i (nameIn s (nameOf n)) w (o .bits) (State.view z v m q) (read-op n r f e) (ap classesIn (kind-of (State.view z v m q) w ∙ sym k) ∙ classes-of o t) (S .is P v f)
+    settled-idle L P i (nameIn s (nameOf n)) w (o .bits) (State.stateView z v m q) (read-op n r f e) (ap classesIn (kind-of (State.stateView z v m q) w ∙ sym k) ∙ classes-of o t) (S .is P v f)

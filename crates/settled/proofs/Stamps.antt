@@ -15,14 +15,14 @@ use Rattle.kinds.specs.Kinds.{kindFrom}
 use Rattle.idle.specs.Settled.{Covered}
 use Rattle.records.specs.Records.{recordAt}
 use Rattle.state.specs.declared.Sizes.{Sizes}
-use Rattle.state.specs.View.{kindsOf, Held}
+use Rattle.state.specs.View.{kindsOf, StateHeld}
 use Rattle.state.proofs.Tables.{kind-at}
 use Rattle.settled.specs.Reads.{tablesOf, stampOf, Touched, Unsettled}
 
 pub tables-long : (m : List ℕ) → length m ≡ 54272 → length (tablesOf m) ≡ 52224
 tables-long m h = length-take-le 52224 m (omega arith)
 
-pub long-tables : {z : Sizes} (m : List ℕ) → Held z (tablesOf m) → 52224 ≤ length m
+pub long-tables : {z : Sizes} (m : List ℕ) → StateHeld z (tablesOf m) → 52224 ≤ length m
 long-tables m h = let a = h .len in let b = length-take 52224 m in omega arith
 
 pub same-or : (k i : ℕ) → (k ≡ i) ⊎ (k ≡ i → ⊥)
@@ -58,12 +58,14 @@ module _ (p : List ℕ) {z : Sizes} (m : List ℕ) {j : ℕ} {k : Kind} where
   pub touched-none : (getD p (0 + 6 * j) 0 ≡ 13 → ⊥) → Touched p z (tablesOf m) j k false
   touched-none h = record { read = λ e. absurd (false≢true e); covers = λ _ e. absurd (h (sym (tag-word p j) ∙ e)) }
 
-  pub touched-read : Held z (tablesOf m) → j < z .insns → getD p (0 + 6 * j) 0 ≡ 13 → {t : 𝔹} → (t ≡ true → Covered (kindFrom (getD m j 0) (getD m (2048 + j) 0)) k) → Touched p z (tablesOf m) j k (not t)
+  pub touched-read : StateHeld z (tablesOf m) → j < z .insns → getD p (0 + 6 * j) 0 ≡ 13 → {t : 𝔹} → (t ≡ true → Covered (kindFrom (getD m j 0) (getD m (2048 + j) 0)) k)
+      → Touched p z (tablesOf m) j k (not t)
   touched-read H l e {t} f = record { read = λ _. tag-word p j ∙ e; covers = λ n _. subst (λ (a : Kind). Covered a k) own (f (not-false t n)) }
     where
       own : kindFrom (getD m j 0) (getD m (2048 + j) 0) ≡ getD (kindsOf z (tablesOf m)) j Empty
       own = let a = H .insns in
-          ap (λ (x : ℕ). kindFrom x (getD m (2048 + j) 0)) (sym (getD-take 52224 m j 0 (omega arith))) ∙ ap (kindFrom (getD (tablesOf m) j 0)) (sym (getD-take 52224 m (2048 + j) 0 (omega arith))) ∙ sym (kind-at z (tablesOf m) j l)
+          ap (λ (x : ℕ). kindFrom x (getD m (2048 + j) 0)) (sym (getD-take 52224 m j 0 (omega arith))) ∙ ap (kindFrom (getD (tablesOf m) j 0))
+          (sym (getD-take 52224 m (2048 + j) 0 (omega arith))) ∙ sym (kind-at z (tablesOf m) j l)
 
 -- ---- unsettle, at its loop's head
 
@@ -74,14 +76,16 @@ module _ {p : List ℕ} {z : Sizes} {k : Kind} {n : ℕ} {m w : List ℕ} (U : U
   pub unsettled-done : {l : ℕ} → l ≤ n → Unsettled p z k l m w
   unsettled-done h = record { long = U .long; tables = U .tables; stamps = U .stamps; reads = λ j a. U .reads j (omega arith) }
 
-  pub unsettled-held : Held z (tablesOf m) → Held z (tablesOf w)
-  unsettled-held h = subst (Held z) (sym (U .tables)) h
+  pub unsettled-held : StateHeld z (tablesOf m) → StateHeld z (tablesOf w)
+  unsettled-held h = subst (StateHeld z) (sym (U .tables)) h
 
   pub unsettled-keep : {t : 𝔹} {w′ : List ℕ} → Touched p z (tablesOf w) n k t → t ≡ false → w′ ≡ w → Unsettled p z k (n + 1) m w′
   unsettled-keep {t} T f e = subst (Unsettled p z k (n + 1) m) (sym e) (record { long = U .long; tables = U .tables; stamps = U .stamps; reads = λ j h r. go j h r (same-or j n) })
     where
       go : (j : ℕ) → j < n + 1 → recordAt p j .tag ≡ 13 → (j ≡ n) ⊎ (j ≡ n → ⊥) → (stampOf w j ≡ 0) ⊎ Covered (getD (kindsOf z (tablesOf m)) j Empty) k
-      go j h r (inl a) = inr (subst (λ (l : List ℕ). Covered (getD (kindsOf z l) j Empty) k) (U .tables) (subst (λ (i : ℕ). Covered (getD (kindsOf z (tablesOf w)) i Empty) k) (sym a) (T .covers f (subst (λ (i : ℕ). recordAt p i .tag ≡ 13) a r))))
+      go j h r (inl a) =
+          inr
+          (subst (λ (l : List ℕ). Covered (getD (kindsOf z l) j Empty) k) (U .tables) (subst (λ (i : ℕ). Covered (getD (kindsOf z (tablesOf w)) i Empty) k) (sym a) (T .covers f (subst (λ (i : ℕ). recordAt p i .tag ≡ 13) a r))))
       go j h r (inr a) = U .reads j (omega arith) r
 
   pub unsettled-put : {t : 𝔹} {w′ : List ℕ} → length m ≡ 54272 → n < 2048 → Touched p z (tablesOf w) n k t → t ≡ true → w′ ≡ set w (52224 + n) 0 → Unsettled p z k (n + 1) m w′
@@ -95,7 +99,8 @@ module _ {p : List ℕ} {z : Sizes} {k : Kind} {n : ℕ} {m w : List ℕ} (U : U
       zero-here : (j : ℕ) → j ≡ n → stampOf (set w (52224 + n) 0) j ≡ 0
       zero-here j a = ap (stampOf (set w (52224 + n) 0)) a ∙ put-here w n 0 (U .long ∙ long) few
 
-      all : (j : ℕ) → (j ≡ n) ⊎ (j ≡ n → ⊥) → (stampOf w j ≡ stampOf m j) ⊎ ((stampOf w j ≡ 0) × (recordAt p j .tag ≡ 13)) → (stampOf (set w (52224 + n) 0) j ≡ stampOf m j) ⊎ ((stampOf (set w (52224 + n) 0) j ≡ 0) × (recordAt p j .tag ≡ 13))
+      all : (j : ℕ) → (j ≡ n) ⊎ (j ≡ n → ⊥) → (stampOf w j ≡ stampOf m j) ⊎ ((stampOf w j ≡ 0) × (recordAt p j .tag ≡ 13))
+          → (stampOf (set w (52224 + n) 0) j ≡ stampOf m j) ⊎ ((stampOf (set w (52224 + n) 0) j ≡ 0) × (recordAt p j .tag ≡ 13))
       all j (inl a) s = inr (zero-here j a, ap (λ (i : ℕ). recordAt p i .tag) a ∙ T .read f)
       all j (inr a) (inl s) = inl (put-other w n 0 (U .long ∙ long) j a ∙ s)
       all j (inr a) (inr s) = inr (put-other w n 0 (U .long ∙ long) j a ∙ s .0, s .1)

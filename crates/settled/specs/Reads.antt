@@ -12,13 +12,13 @@ use Rattle.idle.specs.Settled.{Covered, SettledIn, Settled}
 use Rattle.program.specs.declared.Counts.{Counts}
 use Rattle.program.specs.declared.Name.{Name}
 use Rattle.program.specs.Rows.{opndAt, nameIn, nth}
-use Rattle.program.specs.View.{Ready}
-use Rattle.records.specs.declared.Insn.{Insn}
+use Rattle.program.specs.View.{ProgramReady}
+use Rattle.records.specs.declared.Record.{Record}
 use Rattle.records.specs.Records.{recordAt, rowOf}
 use Rattle.state.specs.declared.Sizes.{Sizes}
 use Rattle.state.specs.View.{Attrs, kindsOf, ivarsOf, readsOf}
-use Rattle.opnds.specs.Reads.{Inside, kindIn}
-use Rattle.analysed.specs.Analysed.{Fits}
+use Rattle.machine.specs.opnds.Reads.{OperandInside, kindIn}
+use Rattle.machine.specs.Analysed.{MachineFits}
 use Rattle.visits.specs.Visits.{operandsOf}
 
 -- the state's tables, and the place of the stamps behind them
@@ -32,26 +32,26 @@ abbrev pub stampOf : List ℕ → ℕ → ℕ
 stampOf m i = getD m (stampsAt + i) 0
 
 -- the name that an instruction's record has
-abbrev pub nameOf : Insn → Name
+abbrev pub nameOf : Record → Name
 nameOf x = record { start = x .x; len = x .y }
 
 -- read i of attribute n, whose kind is k, is settled in class x
 pub record SettledAt (s p : List ℕ) (c : Counts) (z : Sizes) (m : List ℕ) (n : Name) (i : ℕ) (k : Kind) (x : ℕ) : Type 0 where
-  pub is : (P : Program) (v : Attrs) → Fits s p c P v → SettledIn P (nameIn s n) k i (ivarsOf z v m) (readsOf z m) x
+  pub is : (P : Program) (v : Attrs) → MachineFits s p c P v → SettledIn P (nameIn s n) k i (ivarsOf z v m) (readsOf z m) x
 
 -- in each class of set b, with the kind that it has
 pub record SettledFor (s p : List ℕ) (c : Counts) (z : Sizes) (m : List ℕ) (n : Name) (i b : ℕ) : Type 0 where
-  pub is : (P : Program) (v : Attrs) → Fits s p c P v → Settled P (nameIn s n) i b (kindsOf z m) (ivarsOf z v m) (readsOf z m)
+  pub is : (P : Program) (v : Attrs) → MachineFits s p c P v → Settled P (nameIn s n) i b (kindsOf z m) (ivarsOf z v m) (readsOf z m)
 
 -- the operands of an instruction are in the tables; a read's receiver and a setting's value are the program's
-pub record Operands (p : List ℕ) (c : Counts) (z : Sizes) (x : Insn) : Type 0 where
-  pub ready : Ready p c
+pub record Operands (p : List ℕ) (c : Counts) (z : Sizes) (x : Record) : Type 0 where
+  pub ready : ProgramReady p c
   pub range : x .first + x .count ≤ c .opnds
-  pub receiver : x .tag ≡ 13 → 0 < x .count → Inside z (opndAt p (12288 + 2 * x .first + 2 * 0))
-  pub value : 13 < x .tag → 1 < x .count → Inside z (opndAt p (12288 + 2 * x .first + 2 * 1))
+  pub receiver : x .tag ≡ 13 → 0 < x .count → OperandInside z (opndAt p (12288 + 2 * x .first + 2 * 0))
+  pub value : 13 < x .tag → 1 < x .count → OperandInside z (opndAt p (12288 + 2 * x .first + 2 * 1))
 
 -- k is the kind of a read's receiver, or of a setting's value
-pub record Decides (p : List ℕ) (z : Sizes) (m : List ℕ) (x : Insn) (k : Kind) : Type 0 where
+pub record Decides (p : List ℕ) (z : Sizes) (m : List ℕ) (x : Record) (k : Kind) : Type 0 where
   pub receiver : x .tag ≡ 13 → k ≡ kindIn (kindsOf z m) (nth (operandsOf p (rowOf x)) 0)
   pub value : 13 < x .tag → k ≡ kindIn (kindsOf z m) (nth (operandsOf p (rowOf x)) 1)
 

@@ -1,12 +1,12 @@
 // Reads of attributes that are settled: a visit would find nothing new in the classes of a set, which is the read's stamp.
 use flows::Words;
+use ids::ClassId;
+use ids::InsnId;
+use ids::NextClass;
 use lookups::FoundIvar;
 use program::Counts;
 use program::Name;
-use records::Insn;
-use sets::ClassId;
-use sets::InsnId;
-use sets::Next;
+use records::Record;
 use state::Sizes;
 ghost use mathlib.Core.Bool.{true, false};
 ghost use mathlib.Core.Path.{_≡_};
@@ -16,12 +16,12 @@ ghost use lib.ListN.{length, getD};
 ghost use Rattle.kinds.specs.declared.Kind.{Kind};
 ghost use Rattle.idle.specs.Settled.{Covered};
 ghost use Rattle.program.specs.Rows.{size, opndAt, nth};
-ghost use Rattle.program.specs.View.{Ready};
+ghost use Rattle.program.specs.View.{ProgramReady};
 ghost use Rattle.records.specs.Records.{recordAt, rowOf};
-ghost use Rattle.state.specs.View.{Attrs, kindsOf, ivarsOf, Held};
-ghost use Rattle.opnds.specs.Reads.{Inside, kindIn};
+ghost use Rattle.state.specs.View.{Attrs, kindsOf, ivarsOf, StateHeld};
+ghost use Rattle.machine.specs.opnds.Reads.{OperandInside, kindIn};
 ghost use Rattle.flows.specs.Flows.{wordsOf};
-ghost use Rattle.receivers.specs.Receivers.{Matches, ClassesBelow};
+ghost use Rattle.machine.specs.receivers.Receivers.{StateMatches, ClassesBelow};
 ghost use Rattle.visits.specs.Visits.{operandsOf};
 ghost use Rattle.settled.specs.Reads.{tablesOf, SettledAt, SettledFor, Operands, Decides, Touched, Unsettled};
 
@@ -35,45 +35,45 @@ fn covers(a: Words, k: Words) -> bool
     if (k.tag == 4) | (k.tag == 5) {
         return false;
     }
-    passing::surely_covers(a, k)
+    sends::passing::surely_covers(a, k)
 }
 
 // The kind of the attribute at place a of class x, in words.
-fn ivar_words(m: &[usize], z: Sizes, x: ClassId, a: usize) -> Words
-    requires { ⌜ Held z (now m) ⌝ }
-    requires { ⌜ (x .0 < z .classes) × (a < 64) ⌝ }
-    ensures { λ r. ⌜ ((v : Attrs) → a < v .count (x .0) → wordsOf r ≡ getD (getD (ivarsOf z v (now (m .entry))) (x .0) []) a Kind.Empty) ⌝ }
+fn ivar_words(state: &[usize], sizes: Sizes, x: ClassId, a: usize) -> Words
+    requires { ⌜ StateHeld sizes (now state) ⌝ }
+    requires { ⌜ (x .0 < sizes .classes) × (a < 64) ⌝ }
+    ensures { λ r. ⌜ ((v : Attrs) → a < v .count (x .0) → wordsOf r ≡ getD (getD (ivarsOf sizes v (now (state .entry))) (x .0) []) a Kind.Empty) ⌝ }
 {
     let at = x.0 as usize * 64 + a;
     Words {
-        tag: m[state::IVARS + at],
-        bits: m[state::IVAR_BITS + at],
+        tag: state[state::IVARS + at],
+        bits: state[state::IVAR_BITS + at],
     }
 }
 
 // A quick test that read i of attribute n, whose kind is k, is settled in class x.
 fn settled_in(
-    s: &[u8],
-    p: &[usize],
-    c: Counts,
-    m: &[usize],
-    z: Sizes,
+    script: &[u8],
+    program: &[usize],
+    counts: Counts,
+    state: &[usize],
+    sizes: Sizes,
     n: Name,
     i: InsnId,
     k: Words,
     x: ClassId,
 ) -> bool
-    requires { ⌜ Held z (now m) ⌝ }
-    requires { ⌜ Matches z (now p) c ⌝ }
-    requires { ⌜ (x .0 < z .classes) × (i .0 < z .insns) ⌝ }
-    ensures { λ r. ⌜ (r ≡ true → SettledAt (now (s .entry)) (now (p .entry)) c z (now (m .entry)) n (i .0) (wordsOf k) (x .0)) ⌝ }
+    requires { ⌜ StateHeld sizes (now state) ⌝ }
+    requires { ⌜ StateMatches sizes (now program) counts ⌝ }
+    requires { ⌜ (x .0 < sizes .classes) × (i .0 < sizes .insns) ⌝ }
+    ensures { λ r. ⌜ (r ≡ true → SettledAt (now (script .entry)) (now (program .entry)) counts sizes (now (state .entry)) n (i .0) (wordsOf k) (x .0)) ⌝ }
 {
-    if !state::has_read(m, z, x, i) {
+    if !state::has_read(state, sizes, x, i) {
         return false;
     }
-    match lookups::ivar_named(s, p, c, x, n) {
+    match lookups::ivar_named(script, program, counts, x, n) {
         FoundIvar::At(a) => {
-            let j = ivar_words(m, z, x, a);
+            let j = ivar_words(state, sizes, x, a);
             covers(k, j)
         }
         FoundIvar::Nothing => false,
@@ -82,32 +82,32 @@ fn settled_in(
 
 // A quick test that read i of attribute n is settled in each class of a set.
 fn settled(
-    s: &[u8],
-    p: &[usize],
-    c: Counts,
-    m: &[usize],
-    z: Sizes,
+    script: &[u8],
+    program: &[usize],
+    counts: Counts,
+    state: &[usize],
+    sizes: Sizes,
     n: Name,
     i: InsnId,
     set: u64,
 ) -> bool
-    requires { ⌜ Held z (now m) ⌝ }
-    requires { ⌜ Matches z (now p) c ⌝ }
-    requires { ⌜ ClassesBelow (z .classes) set ⌝ }
-    requires { ⌜ i .0 < z .insns ⌝ }
-    ensures { λ r. ⌜ (r ≡ true → SettledFor (now (s .entry)) (now (p .entry)) c z (now (m .entry)) n (i .0) set) ⌝ }
+    requires { ⌜ StateHeld sizes (now state) ⌝ }
+    requires { ⌜ StateMatches sizes (now program) counts ⌝ }
+    requires { ⌜ ClassesBelow (sizes .classes) set ⌝ }
+    requires { ⌜ i .0 < sizes .insns ⌝ }
+    ensures { λ r. ⌜ (r ≡ true → SettledFor (now (script .entry)) (now (program .entry)) counts sizes (now (state .entry)) n (i .0) set) ⌝ }
 {
-    let k = flows::insn_words(m, z, i);
+    let k = flows::insn_words(state, sizes, i);
     let mut left = set;
     loop {
-        match sets::smallest(left) {
-            Next::Member(x, rest) => {
-                if !settled_in(s, p, c, m, z, n, i, k, x) {
+        match ids::smallest(left) {
+            NextClass::Member(x, rest) => {
+                if !settled_in(script, program, counts, state, sizes, n, i, k, x) {
                     return false;
                 }
                 left = rest;
             }
-            Next::Done => {
+            NextClass::Done => {
                 return true;
             }
         }
@@ -116,23 +116,23 @@ fn settled(
 
 // A set of classes for which read i of attribute n is settled: those of the kind o, or none.
 pub fn stamp(
-    s: &[u8],
-    p: &[usize],
-    c: Counts,
-    m: &[usize],
-    z: Sizes,
+    script: &[u8],
+    program: &[usize],
+    counts: Counts,
+    state: &[usize],
+    sizes: Sizes,
     n: Name,
     i: InsnId,
     o: Words,
 ) -> usize
-    requires { ⌜ Held z (now m) ⌝ }
-    requires { ⌜ Matches z (now p) c ⌝ }
-    requires { ⌜ (o .tag ≡ 8 → ClassesBelow (z .classes) (o .bits)) ⌝ }
-    requires { ⌜ i .0 < z .insns ⌝ }
-    ensures { λ r. ⌜ SettledFor (now (s .entry)) (now (p .entry)) c z (now (m .entry)) n (i .0) r ⌝ }
+    requires { ⌜ StateHeld sizes (now state) ⌝ }
+    requires { ⌜ StateMatches sizes (now program) counts ⌝ }
+    requires { ⌜ (o .tag ≡ 8 → ClassesBelow (sizes .classes) (o .bits)) ⌝ }
+    requires { ⌜ i .0 < sizes .insns ⌝ }
+    ensures { λ r. ⌜ SettledFor (now (script .entry)) (now (program .entry)) counts sizes (now (state .entry)) n (i .0) r ⌝ }
 {
     if o.tag == 8 {
-        if settled(s, p, c, m, z, n, i, o.bits as u64) {
+        if settled(script, program, counts, state, sizes, n, i, o.bits as u64) {
             return o.bits;
         }
     }
@@ -140,46 +140,64 @@ pub fn stamp(
 }
 
 // The kind of operand j of an instruction, in words; Nil where it has none.
-pub fn operand_words(p: &[usize], c: Counts, m: &[usize], z: Sizes, insn: Insn, j: usize) -> Words
-    requires { ⌜ Ready (now p) c ⌝ }
-    requires { ⌜ insn .first + insn .count ≤ c .opnds ⌝ }
-    requires { ⌜ Held z (now m) ⌝ }
-    requires { ⌜ (j < insn .count → Inside z (opndAt (now p) (12288 + 2 * insn .first + 2 * j))) ⌝ }
-    ensures { λ r. ⌜ wordsOf r ≡ kindIn (kindsOf z (now (m .entry))) (nth (operandsOf (now (p .entry)) (rowOf insn)) j) ⌝ }
+pub fn operand_words(
+    program: &[usize],
+    counts: Counts,
+    state: &[usize],
+    sizes: Sizes,
+    insn: Record,
+    j: usize,
+) -> Words
+    requires { ⌜ ProgramReady (now program) counts ⌝ }
+    requires { ⌜ insn .first + insn .count ≤ counts .opnds ⌝ }
+    requires { ⌜ StateHeld sizes (now state) ⌝ }
+    requires { ⌜ (j < insn .count → OperandInside sizes (opndAt (now program) (12288 + 2 * insn .first + 2 * j))) ⌝ }
+    ensures { λ r. ⌜ wordsOf r ≡ kindIn (kindsOf sizes (now (state .entry))) (nth (operandsOf (now (program .entry)) (rowOf insn)) j) ⌝ }
 {
     if j < insn.count {
-        return flows::opnd_words(p, m, z, program::OPNDS + 2 * insn.first + 2 * j);
+        return flows::opnd_words(
+            program,
+            state,
+            sizes,
+            program::OPNDS + 2 * insn.first + 2 * j,
+        );
     }
     Words { tag: 1, bits: 0 }
 }
 
 // The kind, in words, by which stamps of reads are made or kept: of a read its receiver's, of a setting its value's.
-pub fn decisive_words(p: &[usize], c: Counts, m: &[usize], z: Sizes, insn: Insn) -> Words
-    requires { ⌜ Operands (now p) c z insn ⌝ }
-    requires { ⌜ Held z (now m) ⌝ }
-    ensures { λ r. ⌜ Decides (now (p .entry)) z (now (m .entry)) insn (wordsOf r) ⌝ }
+pub fn decisive_words(
+    program: &[usize],
+    counts: Counts,
+    state: &[usize],
+    sizes: Sizes,
+    insn: Record,
+) -> Words
+    requires { ⌜ Operands (now program) counts sizes insn ⌝ }
+    requires { ⌜ StateHeld sizes (now state) ⌝ }
+    ensures { λ r. ⌜ Decides (now (program .entry)) sizes (now (state .entry)) insn (wordsOf r) ⌝ }
 {
     if insn.tag < 13 {
         return Words { tag: 0, bits: 0 };
     }
     if insn.tag == 13 {
-        return operand_words(p, c, m, z, insn, 0);
+        return operand_words(program, counts, state, sizes, insn, 0);
     }
-    operand_words(p, c, m, z, insn, 1)
+    operand_words(program, counts, state, sizes, insn, 1)
 }
 
 // Whether instruction j is a read whose kind may not cover k.
-fn touched(p: &[usize], m: &[usize], z: Sizes, j: usize, k: Words) -> bool
-    requires { ⌜ size ≤ length (now p) ⌝ }
-    requires { ⌜ Held z (tablesOf (now m)) ⌝ }
-    requires { ⌜ j < z .insns ⌝ }
-    ensures { λ r. ⌜ Touched (now (p .entry)) z (tablesOf (now (m .entry))) j (wordsOf k) r ⌝ }
+fn touched(program: &[usize], state: &[usize], sizes: Sizes, j: usize, k: Words) -> bool
+    requires { ⌜ size ≤ length (now program) ⌝ }
+    requires { ⌜ StateHeld sizes (tablesOf (now state)) ⌝ }
+    requires { ⌜ j < sizes .insns ⌝ }
+    ensures { λ r. ⌜ Touched (now (program .entry)) sizes (tablesOf (now (state .entry))) j (wordsOf k) r ⌝ }
 {
-    if p[program::INSNS + 6 * j] == 13 {
+    if program[program::INSNS + 6 * j] == 13 {
         return !covers(
             Words {
-                tag: m[j],
-                bits: m[state::BITS + j],
+                tag: state[j],
+                bits: state[state::BITS + j],
             },
             k,
         );
@@ -188,17 +206,17 @@ fn touched(p: &[usize], m: &[usize], z: Sizes, j: usize, k: Words) -> bool
 }
 
 // Where kind k went into an attribute and reads were woken, a read whose kind may not cover k is settled in no class.
-pub fn unsettle(p: &[usize], m: &mut [usize], z: Sizes, k: Words)
-    requires { ⌜ size ≤ length (now p) ⌝ }
-    requires { ⌜ length (now m) ≡ 54272 ⌝ }
-    requires { ⌜ Held z (tablesOf (now m)) ⌝ }
-    ensures { λ _. ⌜ Unsettled (now (p .entry)) z (wordsOf k) (z .insns) (now (m .entry)) (now (m .exit)) ⌝ }
+pub fn unsettle(program: &[usize], state: &mut [usize], sizes: Sizes, k: Words)
+    requires { ⌜ size ≤ length (now program) ⌝ }
+    requires { ⌜ length (now state) ≡ 54272 ⌝ }
+    requires { ⌜ StateHeld sizes (tablesOf (now state)) ⌝ }
+    ensures { λ _. ⌜ Unsettled (now (program .entry)) sizes (wordsOf k) (sizes .insns) (now (state .entry)) (now (state .exit)) ⌝ }
 {
-    let n = z.insns;
+    let n = sizes.insns;
     let mut j = 0;
     while j < n {
-        if touched(p, m, z, j, k) {
-            m[STAMPS + j] = 0;
+        if touched(program, state, sizes, j, k) {
+            state[STAMPS + j] = 0;
         }
         j += 1;
     }

@@ -9,9 +9,9 @@ use Rattle.kinds.specs.declared.Kind.{Kind}
 use Rattle.kinds.specs.Kinds.{kindFrom}
 use Rattle.rules.specs.Program.{Program}
 use Rattle.rules.specs.Machine.{State}
-use Rattle.tables.specs.Tables.{listed, rows}
-use Rattle.tables.specs.Bits.{bitAt}
-use Rattle.tables.specs.Rings.{waiting, Below}
+use Rattle.memory.specs.tables.Tables.{listed, rows}
+use Rattle.memory.specs.tables.Bits.{bitAt}
+use Rattle.memory.specs.tables.Rings.{waiting, RingBelow}
 use Rattle.state.specs.declared.Sizes.{Sizes}
 use Rattle.state.specs.declared.Regs.{Regs}
 
@@ -43,8 +43,8 @@ insnsOf m q = waiting m 19456 (q .insns .head) (q .insns .len)
 unfoldable pub blocksOf : List ℕ → Regs → List ℕ
 blocksOf m q = waiting m 35840 (q .blocks .head) (q .blocks .len)
 
-abbrev pub view : Sizes → Attrs → List ℕ → Regs → State
-view z v m q = record {
+abbrev pub stateView : Sizes → Attrs → List ℕ → Regs → State
+stateView z v m q = record {
   kinds = kindsOf z m;
   live = liveOf z m;
   calledBy = calledOf z m;
@@ -57,7 +57,7 @@ view z v m q = record {
 }
 
 -- the memory's length, and sizes that it has room for
-pub record Held (z : Sizes) (m : List ℕ) : Type 0 where
+pub record StateHeld (z : Sizes) (m : List ℕ) : Type 0 where
   pub len : length m ≡ 52224
   pub functions : z .functions ≤ 128
   pub classes : z .classes ≤ 64
@@ -65,18 +65,18 @@ pub record Held (z : Sizes) (m : List ℕ) : Type 0 where
   pub insns : z .insns ≤ 2048
 
 -- what each function may rely on
-pub record Ready (z : Sizes) (m : List ℕ) (q : Regs) : Type 0 where
-  pub held : Held z m
+pub record StateReady (z : Sizes) (m : List ℕ) (q : Regs) : Type 0 where
+  pub held : StateHeld z m
   pub insnHead : q .insns .head < 16384
   pub insnLen : q .insns .len ≤ 16384
   pub blockHead : q .blocks .head < 16384
   pub blockLen : q .blocks .len ≤ 16384
-  pub insnsBelow : Below m 19456 (q .insns .head) (q .insns .len) (z .insns)
-  pub blocksBelow : Below m 35840 (q .blocks .head) (q .blocks .len) (z .blocks)
+  pub insnsBelow : RingBelow m 19456 (q .insns .head) (q .insns .len) (z .insns)
+  pub blocksBelow : RingBelow m 35840 (q .blocks .head) (q .blocks .len) (z .blocks)
 
 -- a memory before the start: no instruction has a kind, no block is live, nothing was called or read; what else it has may hold anything
-pub record Cleared (z : Sizes) (m : List ℕ) : Type 0 where
-  pub held : Held z m
+pub record StateCleared (z : Sizes) (m : List ℕ) : Type 0 where
+  pub held : StateHeld z m
   pub kinds : (i : ℕ) → i < z .insns → getD m i 0 ≡ 0
   pub live : (b : ℕ) → b < z .blocks → getD m (4096 + b) 0 ≡ 0
   pub called : (j : ℕ) → j < 32 * z .functions → getD m (13312 + j) 0 ≡ 0

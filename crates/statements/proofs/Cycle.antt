@@ -5,17 +5,17 @@ use mathlib.Core.List.{List}
 use Prim.Native.Nat.{ℕ, zero, suc, _+_, _-_, _*_, _≤_, _<_}
 use native.Mathlib.Omega.{arith}
 use lib.ListN.{length}
-use Rattle.sets.specs.declared.BlockId.{BlockId}
+use Rattle.ids.specs.declared.BlockId.{BlockId}
 use Rattle.kinds.specs.declared.Kind.the-variants.{Nil}
 use Rattle.rules.specs.Actions.{Answer, answered, refused, ifAnswered, choose, Turn, again, ends, loop}
 use Rattle.rules.specs.Words as Words
 use Rattle.rules.specs.Program as P
 use Rattle.rules.specs.Reading as R
 use Rattle.rules.specs.Reading.{Parser, Reads, newBlock, endBlock, parseExpr, parseNext, parseStatements, parseReturn, parseIf, statementBy, parseStatement}
-use Rattle.scopes.specs.Made.{Bindings, over, envOf, env-sorted}
-use Rattle.scopes.specs.Sorted.{Sorted}
-use Rattle.env.specs.Memory.{made, vars, row}
-use Rattle.env.proofs.Entries.{row-move, vars-split}
+use Rattle.variables.specs.scopes.Made.{Bindings, over, envOf, env-sorted}
+use Rattle.variables.specs.scopes.Sorted.{Sorted}
+use Rattle.variables.specs.Memory.{made, vars, row}
+use Rattle.variables.proofs.Entries.{row-move, vars-split}
 use Rattle.program.specs.Rows.{opndOf}
 use Rattle.program.specs.View as View
 use Rattle.program.specs.declared.Given.the-variants.{Zero}
@@ -23,59 +23,62 @@ use Rattle.program.specs.declared.Limits.{Limits}
 use Rattle.program.specs.declared.Op.the-variants.{Jump}
 use Rattle.program.specs.declared.Opnd.{Opnd}
 use Rattle.program.specs.declared.Opnd.the-variants.{Const}
-use Rattle.words.specs.declared.Lexed.the-variants as W
-use Rattle.words.specs.declared.Word.{Word}
-use Rattle.words.proofs.Texts.{fixed-kind}
-use Rattle.parser.specs.Cursor.{parserOf, moveCur, In, Step}
-use Rattle.parser.specs.Promises.{Out, done, stop, outcome, Did, Sees, Spelt, Matches, parsedOf, movedOf, matchedOf}
-use Rattle.parser.specs.declared.Cur.{Cur}
-use Rattle.parser.specs.declared.Matched.{Matched}
-use Rattle.parser.specs.declared.Matched.the-variants as M
-use Rattle.parser.specs.declared.Moved.{Moved}
-use Rattle.parser.specs.declared.Moved.the-variants as On
-use Rattle.parser.specs.declared.Parsed.{Parsed}
-use Rattle.parser.specs.declared.Parsed.the-variants.{Done, Refused}
-use Rattle.parser.proofs.Laws.{after-step, Went, got, gave, refuses, arrives, ends-as, moved-did, added-did, in-moved, step-moved, step-less, step-trans, step-none}
-use Rattle.parser.proofs.Wording.{spelt-else, is-yes, is-no, word-read, peek-found, pass-found}
+use Rattle.lexer.specs.declared.Lexed.the-variants as W
+use Rattle.lexer.specs.declared.Word.{Word}
+use Rattle.lexer.proofs.Texts.{fixed-kind}
+use Rattle.cursor.specs.Cursor.{parserOf, moveCur, In, CursorStep}
+use Rattle.cursor.specs.Promises.{Out, done, stop, outcome, CursorDid, Sees, Spelt, CursorMatches, parsedOf, movedOf, matchedOf}
+use Rattle.cursor.specs.declared.Cursor.{Cursor}
+use Rattle.cursor.specs.declared.Matched.{Matched}
+use Rattle.cursor.specs.declared.Matched.the-variants as M
+use Rattle.cursor.specs.declared.Moved.{Moved}
+use Rattle.cursor.specs.declared.Moved.the-variants as On
+use Rattle.cursor.specs.declared.Parsed.{Parsed}
+use Rattle.cursor.specs.declared.Parsed.the-variants.{Done, Refused}
+use Rattle.cursor.proofs.Laws.{after-step, Acted, got, gave, refuses, arrives, ends-as, moved-did, added-did, in-moved, step-moved, step-less, step-trans, step-none}
+use Rattle.cursor.proofs.Wording.{spelt-else, is-yes, is-no, word-read, peek-found, pass-found}
 use Rattle.statements.specs.declared.Branch.{Branch}
 use Rattle.statements.specs.declared.Opened.{Opened}
 use Rattle.statements.specs.declared.Opened.the-variants as O
 use Rattle.statements.specs.declared.Stops.{Stops}
 use Rattle.statements.specs.declared.Stops.the-variants as H
 use Rattle.statements.specs.Acts.{stopsAt, parseArm, openElse, finishIf, finishElse, parseElse, ifOf}
-use Rattle.statements.specs.Shape.{blockCur, openedOf, stopsOf, halts, Halts, Opens, EndsBlock, Inside, DidFrom, Aside, OpensElse, FinishesElse, Arm}
+use Rattle.statements.specs.Shape.{blockCur, openedOf, stopsOf, halts, Halts, Opens, EndsBlock, StatementInside, DidFrom, StatementAside, OpensElse, FinishesElse, Arm}
 use Rattle.statements.proofs.Ifs.{if-is}
-use Rattle.statements.proofs.Steps.{block-of, env-of, block-to, Keeps, keeps-step, keeps-low, keeps-then, keeps-later, keeps-vars, after-over, inside-step, inside-then, few-vars, arm-then, opens-did, in-block, step-block}
+use Rattle.statements.proofs.Steps.{block-of, env-of, block-to, Keeps, keeps-step, keeps-low, keeps-then, keeps-later, keeps-vars, after-over, inside-step, inside-then, few-vars, arm-then}
+use Rattle.statements.proofs.Steps.{opens-did, in-block, step-block}
 
 -- ---- parse_statements
 
 next-is : (L : P.Limits) (s : List ℕ) (arm : 𝔹) (S : Reads P.Opnd) (v : P.Opnd) (r : Parser)
-    → parseNext L s (stopsAt arm) S v r ≡ ifAnswered {B = Turn P.Opnd P.Opnd × Parser} (halts s arm r) (λ t. choose (t .0) (λ _. answered (ends v, t .1)) (λ _. ifAnswered (S (t .1)) (λ x. answered (again (x .0), x .1))))
+    → parseNext L s (stopsAt arm) S v r ≡ ifAnswered {B = Turn P.Opnd P.Opnd × Parser} (halts s arm r)
+    (λ t. choose (t .0) (λ _. answered (ends v, t .1)) (λ _. ifAnswered (S (t .1)) (λ x. answered (again (x .0), x .1))))
 unfolding parseNext halts
 next-is L s arm S v r = go (R.peek s r)
   where
     go : (a : Answer (Words.Word × Parser))
         → ifAnswered {B = Turn P.Opnd P.Opnd × Parser} a (λ w. choose (stopsAt arm (w .0)) (λ _. answered (ends v, w .1)) (λ _. ifAnswered (S (w .1)) (λ x. answered (again (x .0), x .1))))
-        ≡ ifAnswered {A = 𝔹 × Parser} {B = Turn P.Opnd P.Opnd × Parser} (ifAnswered a (λ w. answered (stopsAt arm (w .0), w .1))) (λ t. choose (t .0) (λ _. answered (ends v, t .1)) (λ _. ifAnswered (S (t .1)) (λ x. answered (again (x .0), x .1))))
+        ≡ ifAnswered {A = 𝔹 × Parser} {B = Turn P.Opnd P.Opnd × Parser} (ifAnswered a (λ w. answered (stopsAt arm (w .0), w .1)))
+        (λ t. choose (t .0) (λ _. answered (ends v, t .1)) (λ _. ifAnswered (S (t .1)) (λ x. answered (again (x .0), x .1))))
     go (answered w) = refl
     go (refused n) = refl
 
 -- where a turn begins, the rest of the loop comes to what the whole comes to, and the turns left are enough for the bytes left
-pub record Going (l : Limits) (s : List ℕ) (arm : 𝔹) (d : ℕ) (m₀ w₀ : List ℕ) (c₀ : Cur) (m w : List ℕ) (c : Cur) (v : Opnd) : Type 0 where
+pub record Going (l : Limits) (s : List ℕ) (arm : 𝔹) (d : ℕ) (m₀ w₀ : List ℕ) (c₀ : Cursor) (m w : List ℕ) (c : Cursor) (v : Opnd) : Type 0 where
   pub turns : ℕ
   pub same : loop (parseNext (View.limitsOf l) s (stopsAt arm) (parseStatement (View.limitsOf l) s d)) turns (opndOf v) (parserOf s m w c)
       ≡ parseStatements (View.limitsOf l) s (stopsAt arm) (parseStatement (View.limitsOf l) s d) (parserOf s m₀ w₀ c₀)
   pub enough : length s < turns + c .at
   pub here : In s m w c
-  pub step : Step 0 c₀ w₀ c w
+  pub step : CursorStep 0 c₀ w₀ c w
   pub long-m : length m ≡ length m₀
   pub long-w : length w ≡ length w₀
 
-pub going-start : (l : Limits) (s : List ℕ) (arm : 𝔹) (d : ℕ) (m w : List ℕ) (c : Cur) → In s m w c → Going l s arm d m w c m w c (Const Nil)
+pub going-start : (l : Limits) (s : List ℕ) (arm : 𝔹) (d : ℕ) (m w : List ℕ) (c : Cursor) → In s m w c → Going l s arm d m w c m w c (Const Nil)
 unfolding parseStatements
 going-start l s arm d m w c h = record { turns = suc (length s); same = refl; enough = omega arith; here = h; step = step-none c w; long-m = refl; long-w = refl }
 
-module _ {l : Limits} {s : List ℕ} {arm : 𝔹} {d : ℕ} {m₀ w₀ : List ℕ} {c₀ : Cur} {m w : List ℕ} {c : Cur} {v : Opnd} (i : Going l s arm d m₀ w₀ c₀ m w c v) {r : Stops} (a : Halts s arm c r) where
+module _ {l : Limits} {s : List ℕ} {arm : 𝔹} {d : ℕ} {m₀ w₀ : List ℕ} {c₀ : Cursor} {m w : List ℕ} {c : Cursor} {v : Opnd} (i : Going l s arm d m₀ w₀ c₀ m w c v) {r : Stops} (a : Halts s arm c r) where
   abbrev L : P.Limits
   L = View.limitsOf l
 
@@ -83,7 +86,7 @@ module _ {l : Limits} {s : List ℕ} {arm : 𝔹} {d : ℕ} {m₀ w₀ : List �
   S = parseStatement (View.limitsOf l) s d
 
   abbrev All : List ℕ → List ℕ → Out P.Opnd → Type 0
-  All m' w' o = Did (parseStatements L s (stopsAt arm) S) 0 s m₀ w₀ c₀ m' w' o
+  All m' w' o = CursorDid (parseStatements L s (stopsAt arm) S) 0 s m₀ w₀ c₀ m' w' o
 
   pub going-none : {e : ℕ} → r ≡ H.Refused e → All m w (parsedOf (Refused e))
   going-none {e} f = refuses (go (i .turns) (i .same) (i .enough))
@@ -101,7 +104,7 @@ module _ {l : Limits} {s : List ℕ} {arm : 𝔹} {d : ℕ} {m₀ w₀ : List �
       go zero x y = absurd (omega (arith, i .here .ready .inside))
       go (suc k) x y = let h = rw f at (a .is m w) in rw (next-is L s arm S (opndOf v) (parserOf s m w c), ← h) at x
 
-  module _ {x : Word} (f : r ≡ H.Not x) {p : Parsed} {m1 w1 : List ℕ} (b : Did S 1 s m w c m1 w1 (parsedOf p)) where
+  module _ {x : Word} (f : r ≡ H.Not x) {p : Parsed} {m1 w1 : List ℕ} (b : CursorDid S 1 s m w c m1 w1 (parsedOf p)) where
     pub going-no : {e : ℕ} → p ≡ Refused e → All m1 w1 (parsedOf (Refused e))
     going-no {e} g = refuses (go (i .turns) (i .same) (i .enough))
       where
@@ -110,7 +113,7 @@ module _ {l : Limits} {s : List ℕ} {arm : 𝔹} {d : ℕ} {m₀ w₀ : List �
         go zero x y = absurd (omega (arith, i .here .ready .inside))
         go (suc k) x y = let h = rw f at (a .is m w) in rw (next-is L s arm S (opndOf v) (parserOf s m w c), ← h, ← gave b (ap parsedOf g)) at x
 
-    module _ {c1 : Cur} {v1 : Opnd} (g : p ≡ Done c1 v1) where
+    module _ {c1 : Cursor} {v1 : Opnd} (g : p ≡ Done c1 v1) where
       pub going-less : length s - c1 .at < length s - c .at
       going-less = let z = got b (ap parsedOf g) in omega (arith, z .step .on, z .here .ready .inside)
 
@@ -135,28 +138,28 @@ module _ {l : Limits} {s : List ℕ} {arm : 𝔹} {d : ℕ} {m₀ w₀ : List �
 
 -- ---- parse_block
 
-abbrev Arms : Limits → ℕ → BlockId → List ℕ → List ℕ → List ℕ → Cur → List ℕ → List ℕ → Out P.Opnd → Type 0
-Arms l d j s m w c m' w' o = Did (parseArm (View.limitsOf l) s (parseStatement (View.limitsOf l) s d) (j .0)) 0 s m w c m' w' o
+abbrev Arms : Limits → ℕ → BlockId → List ℕ → List ℕ → List ℕ → Cursor → List ℕ → List ℕ → Out P.Opnd → Type 0
+Arms l d j s m w c m' w' o = CursorDid (parseArm (View.limitsOf l) s (parseStatement (View.limitsOf l) s d) (j .0)) 0 s m w c m' w' o
 
-module _ (l : Limits) {s : List ℕ} (d : ℕ) {m w : List ℕ} {c : Cur} {p : Parsed} {m1 w1 : List ℕ}
-    (a : Did (parseStatements (View.limitsOf l) s (stopsAt true) (parseStatement (View.limitsOf l) s d)) 0 s m w c m1 w1 (parsedOf p)) where
+module _ (l : Limits) {s : List ℕ} (d : ℕ) {m w : List ℕ} {c : Cursor} {p : Parsed} {m1 w1 : List ℕ}
+    (a : CursorDid (parseStatements (View.limitsOf l) s (stopsAt true) (parseStatement (View.limitsOf l) s d)) 0 s m w c m1 w1 (parsedOf p)) where
   pub block-no : (j : BlockId) {e : ℕ} → p ≡ Refused e → Arms l d j s m w c m1 w1 (parsedOf (Refused e))
   unfolding parseArm
   block-no j e = refuses (rw (← gave a (ap parsedOf e)))
 
-  module _ {c1 : Cur} {v : Opnd} (e : p ≡ Done c1 v) where
+  module _ {c1 : Cursor} {v : Opnd} (e : p ≡ Done c1 v) where
     pub block-in : In s m1 w1 c1
     block-in = got a (ap parsedOf e) .here
 
     module _ {j : BlockId} {m2 : List ℕ} {x : Moved} (b : EndsBlock l (Jump j) Zero m1 c1 m2 x) where
-      arm-ended : Did (endBlock (View.limitsOf l) s (P.Jump (j .0))) 0 s m1 w1 c1 m2 w1 (movedOf x)
+      arm-ended : CursorDid (endBlock (View.limitsOf l) s (P.Jump (j .0))) 0 s m1 w1 c1 m2 w1 (movedOf x)
       arm-ended = added-did (b .adds s w1 (P.Jump (j .0)) refl) block-in
 
       pub block-no2 : {k : ℕ} → x ≡ On.Refused k → Arms l d j s m w c m2 w1 (parsedOf (Refused k))
       unfolding parseArm
       block-no2 i = refuses (rw (← got a (ap parsedOf e) .is, ← gave arm-ended (ap movedOf i)))
 
-      pub block-yes : {c2 : Cur} → x ≡ On.On c2 → Arms l d j s m w c m2 w1 (parsedOf (Done c2 v))
+      pub block-yes : {c2 : Cursor} → x ≡ On.On c2 → Arms l d j s m w c m2 w1 (parsedOf (Done c2 v))
       unfolding parseArm
       block-yes i =
           let g = got arm-ended (ap movedOf i) in
@@ -164,13 +167,13 @@ module _ (l : Limits) {s : List ℕ} (d : ℕ) {m w : List ℕ} {c : Cur} {p : P
 
 -- ---- parse_else
 
-module _ (l : Limits) {s : List ℕ} (d : ℕ) {m w : List ℕ} {c₀ c : Cur} (q : Branch) (h : In s m w c) (a : Arm c₀ c q) {r : Matched} (t : Matches s 8 c r) where
+module _ (l : Limits) {s : List ℕ} (d : ℕ) {m w : List ℕ} {c₀ c : Cursor} (q : Branch) (h : In s m w c) (a : Arm c₀ c q) {r : Matched} (t : CursorMatches s 8 c r) where
   abbrev Rest : List ℕ → List ℕ → Out P.Opnd → Type 0
   Rest m' w' o =
       DidFrom (parseElse (View.limitsOf l) s (parseStatement (View.limitsOf l) s d) (c₀ .block .0) (vars s w (c₀ .vars)) (opndOf (q .cond)) (q .first .0) (q .join .0) (q .last .0) (opndOf (q .value)))
       1 s m w c₀ c m' w' o
 
-  matched : Did (R.matchToken s "else") 0 s m w c m w (matchedOf c r)
+  matched : CursorDid (R.matchToken s "else") 0 s m w c m w (matchedOf c r)
   matched = moved-did (t .moves "else" spelt-else) h
 
   pub else-none : {e : ℕ} → r ≡ M.Refused e → Rest m w (parsedOf (Refused e))
@@ -178,13 +181,14 @@ module _ (l : Limits) {s : List ℕ} (d : ℕ) {m w : List ℕ} {c₀ c : Cur} (
   else-none e = record { is = rw (← gave matched (ap (matchedOf c) e)); ok = tt }
 
   pub else-bare : {m' w' : List ℕ} {o : Out P.Opnd} → r ≡ M.Not
-      → DidFrom (finishIf (View.limitsOf l) s (c₀ .block .0) (vars s w (c₀ .vars)) (opndOf (q .cond)) (q .first .0) (q .join .0) (q .last .0) (opndOf (q .value)) (vars s w (c .vars))) 1 s m w c₀ c m' w' o
+      → DidFrom (finishIf (View.limitsOf l) s (c₀ .block .0) (vars s w (c₀ .vars)) (opndOf (q .cond)) (q .first .0) (q .join .0) (q .last .0) (opndOf (q .value)) (vars s w (c .vars))) 1 s m w c₀ c m'
+      w' o
       → Rest m' w' o
   unfolding parseElse parserOf
   else-bare e b = record { is = rw (← got matched (ap (matchedOf c) e) .is) (b .is); ok = b .ok }
 
-  module _ {c1 : Cur} (e : r ≡ M.Yes c1) where
-    else-went : Went (R.matchToken s "else") 0 s m w c m w true c1
+  module _ {c1 : Cursor} (e : r ≡ M.Yes c1) where
+    else-went : Acted (R.matchToken s "else") 0 s m w c m w true c1
     else-went = got matched (ap (matchedOf c) e)
 
     pub else-in : In s m w c1
@@ -194,33 +198,33 @@ module _ (l : Limits) {s : List ℕ} (d : ℕ) {m w : List ℕ} {c₀ c : Cur} (
     else-arm = arm-then a (else-went .step)
 
     else-vars : c1 .vars ≡ c .vars
-    else-vars = let k = rw e at (t .moves "else" spelt-else .ok) in ap (λ (z : Cur). z .vars) (k .0)
+    else-vars = let k = rw e at (t .moves "else" spelt-else .ok) in ap (λ (z : Cursor). z .vars) (k .0)
 
     module _ {m1 w1 : List ℕ} {x : Opened} (g : OpensElse l s m w c₀ c1 q m1 w1 x) where
       pub else-no : {k : ℕ} → x ≡ O.Refused k → Rest m1 w1 (parsedOf (Refused k))
       unfolding parseElse
       else-no i = let k = rw i at (g .is) in record { is = rw (← else-went .is, ← k); ok = tt }
 
-      module _ {c2 : Cur} {b : BlockId} (i : x ≡ O.On c2 b) where
-        else-aside : Aside s w c₀ c1 m1 w1 (b .0) c2
+      module _ {c2 : Cursor} {b : BlockId} (i : x ≡ O.On c2 b) where
+        else-aside : StatementAside s w c₀ c1 m1 w1 (b .0) c2
         else-aside = rw i at (g .ok)
 
         pub else-in2 : In s m1 w1 c2
         else-in2 = else-aside .here
 
-        module _ {m2 w2 : List ℕ} {p : Parsed} (u : Did (parseArm (View.limitsOf l) s (parseStatement (View.limitsOf l) s d) (q .join .0)) 0 s m1 w1 c2 m2 w2 (parsedOf p)) where
+        module _ {m2 w2 : List ℕ} {p : Parsed} (u : CursorDid (parseArm (View.limitsOf l) s (parseStatement (View.limitsOf l) s d) (q .join .0)) 0 s m1 w1 c2 m2 w2 (parsedOf p)) where
           pub else-no2 : {k : ℕ} → p ≡ Refused k → Rest m2 w2 (parsedOf (Refused k))
           unfolding parseElse
           else-no2 j = let k = rw i at (g .is) in record { is = rw (← else-went .is, ← k, ← gave u (ap parsedOf j)); ok = tt }
 
-          module _ {c3 : Cur} {y : Opnd} (j : p ≡ Done c3 y) where
-            arm-went : Went (parseArm (View.limitsOf l) s (parseStatement (View.limitsOf l) s d) (q .join .0)) 0 s m1 w1 c2 m2 w2 (opndOf y) c3
+          module _ {c3 : Cursor} {y : Opnd} (j : p ≡ Done c3 y) where
+            arm-went : Acted (parseArm (View.limitsOf l) s (parseStatement (View.limitsOf l) s d) (q .join .0)) 0 s m1 w1 c2 m2 w2 (opndOf y) c3
             arm-went = got u (ap parsedOf j)
 
             pub else-in3 : In s m2 w2 c3
             else-in3 = arm-went .here
 
-            pub else-inside : Inside c₀ c3
+            pub else-inside : StatementInside c₀ c3
             else-inside = inside-then (else-aside .inside) (arm-went .step)
 
             pub else-join : q .join .0 < c3 .counts .blocks
@@ -254,51 +258,51 @@ module _ (l : Limits) {s : List ℕ} (d : ℕ) {m w : List ℕ} {c₀ c : Cur} (
 
 -- ---- parse_if
 
-abbrev If : Limits → ℕ → List ℕ → List ℕ → List ℕ → Cur → List ℕ → List ℕ → Out P.Opnd → Type 0
-If l d s m w c m' w' o = Did (parseIf (View.limitsOf l) s (parseExpr (View.limitsOf l) s d) (parseStatement (View.limitsOf l) s d)) 1 s m w c m' w' o
+abbrev If : Limits → ℕ → List ℕ → List ℕ → List ℕ → Cursor → List ℕ → List ℕ → Out P.Opnd → Type 0
+If l d s m w c m' w' o = CursorDid (parseIf (View.limitsOf l) s (parseExpr (View.limitsOf l) s d) (parseStatement (View.limitsOf l) s d)) 1 s m w c m' w' o
 
-is-if : (l : Limits) (d : ℕ) (s m w : List ℕ) (c : Cur)
+is-if : (l : Limits) (d : ℕ) (s m w : List ℕ) (c : Cursor)
     → ifOf (View.limitsOf l) s (parseExpr (View.limitsOf l) s d) (parseStatement (View.limitsOf l) s d) (parserOf s m w c)
     ≡ parseIf (View.limitsOf l) s (parseExpr (View.limitsOf l) s d) (parseStatement (View.limitsOf l) s d) (parserOf s m w c)
 is-if l d s m w c = sym (if-is (View.limitsOf l) s (parseExpr (View.limitsOf l) s d) (parseStatement (View.limitsOf l) s d) (parserOf s m w c))
 
-module _ (l : Limits) {s : List ℕ} (d : ℕ) {m w : List ℕ} {c : Cur} {p : Parsed} {m1 w1 : List ℕ} (a : Did (parseExpr (View.limitsOf l) s d 0) 1 s m w c m1 w1 (parsedOf p)) where
+module _ (l : Limits) {s : List ℕ} (d : ℕ) {m w : List ℕ} {c : Cursor} {p : Parsed} {m1 w1 : List ℕ} (a : CursorDid (parseExpr (View.limitsOf l) s d 0) 1 s m w c m1 w1 (parsedOf p)) where
   pub if-no : {e : ℕ} → p ≡ Refused e → If l d s m w c m1 w1 (parsedOf (Refused e))
   unfolding ifOf parserOf
   if-no e = refuses (rw (← gave a (ap parsedOf e)) at (is-if l d s m w c))
 
-  module _ {c1 : Cur} {v : Opnd} (e : p ≡ Done c1 v) where
-    if-went : Went (parseExpr (View.limitsOf l) s d 0) 1 s m w c m1 w1 (opndOf v) c1
+  module _ {c1 : Cursor} {v : Opnd} (e : p ≡ Done c1 v) where
+    if-went : Acted (parseExpr (View.limitsOf l) s d 0) 1 s m w c m1 w1 (opndOf v) c1
     if-went = got a (ap parsedOf e)
 
     pub if-in : In s m1 w1 c1
     if-in = if-went .here
 
     module _ {m2 : List ℕ} {x : Opened} (b : Opens l m1 c1 m2 x) where
-      first-opened : Did (newBlock (View.limitsOf l)) 0 s m1 w1 c1 m2 w1 (openedOf x)
+      first-opened : CursorDid (newBlock (View.limitsOf l)) 0 s m1 w1 c1 m2 w1 (openedOf x)
       first-opened = opens-did b if-in
 
       pub if-no2 : {k : ℕ} → x ≡ O.Refused k → If l d s m w c m2 w1 (parsedOf (Refused k))
       unfolding ifOf parserOf
       if-no2 f = refuses (rw (← if-went .is, ← gave first-opened (ap openedOf f)) at (is-if l d s m w c))
 
-      module _ {c2 : Cur} {n : BlockId} (f : x ≡ O.On c2 n) where
-        first-went : Went (newBlock (View.limitsOf l)) 0 s m1 w1 c1 m2 w1 (n .0) c2
+      module _ {c2 : Cursor} {n : BlockId} (f : x ≡ O.On c2 n) where
+        first-went : Acted (newBlock (View.limitsOf l)) 0 s m1 w1 c1 m2 w1 (n .0) c2
         first-went = got first-opened (ap openedOf f)
 
         pub if-in2 : In s m2 w1 c2
         if-in2 = first-went .here
 
         module _ {m3 : List ℕ} {y : Opened} (g : Opens l m2 c2 m3 y) where
-          join-opened : Did (newBlock (View.limitsOf l)) 0 s m2 w1 c2 m3 w1 (openedOf y)
+          join-opened : CursorDid (newBlock (View.limitsOf l)) 0 s m2 w1 c2 m3 w1 (openedOf y)
           join-opened = opens-did g if-in2
 
           pub if-no3 : {k : ℕ} → y ≡ O.Refused k → If l d s m w c m3 w1 (parsedOf (Refused k))
           unfolding ifOf parserOf
           if-no3 i = refuses (rw (← if-went .is, ← first-went .is, ← gave join-opened (ap openedOf i)) at (is-if l d s m w c))
 
-          module _ {c3 : Cur} {j : BlockId} (i : y ≡ O.On c3 j) {c4 : Cur} (k : c4 ≡ blockCur n c3) where
-            join-went : Went (newBlock (View.limitsOf l)) 0 s m2 w1 c2 m3 w1 (j .0) c3
+          module _ {c3 : Cursor} {j : BlockId} (i : y ≡ O.On c3 j) {c4 : Cursor} (k : c4 ≡ blockCur n c3) where
+            join-went : Acted (newBlock (View.limitsOf l)) 0 s m2 w1 c2 m3 w1 (j .0) c3
             join-went = got join-opened (ap openedOf i)
 
             first-there : n .0 < c3 .counts .blocks
@@ -310,19 +314,19 @@ module _ (l : Limits) {s : List ℕ} (d : ℕ) {m w : List ℕ} {c : Cur} {p : P
             pub if-in3 : In s m3 w1 c4
             if-in3 = rw k (in-block (join-went .here) n first-there)
 
-            module _ {m4 w4 : List ℕ} {o : Parsed} (u : Did (parseArm (View.limitsOf l) s (parseStatement (View.limitsOf l) s d) (j .0)) 0 s m3 w1 c4 m4 w4 (parsedOf o)) where
+            module _ {m4 w4 : List ℕ} {o : Parsed} (u : CursorDid (parseArm (View.limitsOf l) s (parseStatement (View.limitsOf l) s d) (j .0)) 0 s m3 w1 c4 m4 w4 (parsedOf o)) where
               pub if-no4 : {z : ℕ} → o ≡ Refused z → If l d s m w c m4 w4 (parsedOf (Refused z))
               unfolding ifOf parserOf
               if-no4 z = let t = rw k at (gave u (ap parsedOf z)) in refuses (rw (← if-went .is, ← first-went .is, ← join-went .is, ← t) at (is-if l d s m w c))
 
-              module _ {c5 : Cur} {y1 : Opnd} (z : o ≡ Done c5 y1) where
-                then-went : Went (parseArm (View.limitsOf l) s (parseStatement (View.limitsOf l) s d) (j .0)) 0 s m3 w1 c4 m4 w4 (opndOf y1) c5
+              module _ {c5 : Cursor} {y1 : Opnd} (z : o ≡ Done c5 y1) where
+                then-went : Acted (parseArm (View.limitsOf l) s (parseStatement (View.limitsOf l) s d) (j .0)) 0 s m3 w1 c4 m4 w4 (opndOf y1) c5
                 then-went = got u (ap parsedOf z)
 
                 pub if-in4 : In s m4 w4 c5
                 if-in4 = then-went .here
 
-                since : Step 0 c1 w1 c5 w4
+                since : CursorStep 0 c1 w1 c5 w4
                 since = step-less (omega arith) (step-trans (step-trans (first-went .step) (join-went .step)) (step-block n (rw k at (then-went .step))))
 
                 pub if-arm : {q : Branch} → q .join ≡ j → Arm c1 c5 q
@@ -334,7 +338,8 @@ module _ (l : Limits) {s : List ℕ} (d : ℕ) {m w : List ℕ} {c : Cur} {p : P
                       join = rw t (let y = rw k at (then-went .step) in omega (arith, join-there, y .blocks));
                     }
 
-                pub if-yes : {m' w' : List ℕ} {r : Out P.Opnd} → DidFrom (parseElse (View.limitsOf l) s (parseStatement (View.limitsOf l) s d) (c1 .block .0) (vars s w4 (c1 .vars)) (opndOf v) (n .0) (j .0) (c5 .block .0) (opndOf y1)) 1 s m4 w4 c1 c5 m' w' r
+                pub if-yes : {m' w' : List ℕ} {r : Out P.Opnd}
+                    → DidFrom (parseElse (View.limitsOf l) s (parseStatement (View.limitsOf l) s d) (c1 .block .0) (vars s w4 (c1 .vars)) (opndOf v) (n .0) (j .0) (c5 .block .0) (opndOf y1)) 1 s m4 w4 c1 c5 m' w' r
                     → If l d s m w c m' w' r
                 unfolding ifOf parserOf
                 if-yes {m'} {w'} {r} t =
@@ -353,21 +358,21 @@ spelt-return x = fixed-kind x 3 (omega arith)
 spelt-if : Spelt 7 "if"
 spelt-if x = fixed-kind x 4 (omega arith)
 
-module _ (l : Limits) {s : List ℕ} {m w : List ℕ} {c : Cur} (h : In s m w c) {x : Word} (v : Sees s c (W.Found x)) where
+module _ (l : Limits) {s : List ℕ} {m w : List ℕ} {c : Cursor} (h : In s m w c) {x : Word} (v : Sees s c (W.Found x)) where
   abbrev States : ℕ → List ℕ → List ℕ → Out P.Opnd → Type 0
-  States d m' w' o = Did (parseStatement (View.limitsOf l) s d) 1 s m w c m' w' o
+  States d m' w' o = CursorDid (parseStatement (View.limitsOf l) s d) 1 s m w c m' w' o
 
-  further : c .at + 1 ≤ x .next → Step 1 c w (moveCur (x .next) c) w
+  further : c .at + 1 ≤ x .next → CursorStep 1 c w (moveCur (x .next) c) w
   further = step-moved c w 1 (x .next)
 
   past : (x .kind ≡ 0 → ⊥) → (c .at + 1 ≤ x .next) × (x .next ≤ length s)
   past z = let k = word-read v refl in (omega (arith, k .on z), k .inside (h .ready .inside))
 
-  pub state-in : {c1 : Cur} → (x .kind ≡ 0 → ⊥) → c1 ≡ moveCur (x .next) c → In s m w c1
+  pub state-in : {c1 : Cursor} → (x .kind ≡ 0 → ⊥) → c1 ≡ moveCur (x .next) c → In s m w c1
   state-in z i = rw i (in-moved h (x .next) (omega (arith, past z)) (past z .1))
 
-  pub state-return : (d : ℕ) {c1 : Cur} {m' w' : List ℕ} {o : Out P.Opnd} → x .kind ≡ 6 → c1 ≡ moveCur (x .next) c
-      → Did (parseReturn (View.limitsOf l) s (parseExpr (View.limitsOf l) s d)) 1 s m w c1 m' w' o → States d m' w' o
+  pub state-return : (d : ℕ) {c1 : Cursor} {m' w' : List ℕ} {o : Out P.Opnd} → x .kind ≡ 6 → c1 ≡ moveCur (x .next) c
+      → CursorDid (parseReturn (View.limitsOf l) s (parseExpr (View.limitsOf l) s d)) 1 s m w c1 m' w' o → States d m' w' o
   unfolding parseStatement statementBy
   state-return zero k i a =
       let b = rw i at a in
@@ -380,16 +385,17 @@ module _ (l : Limits) {s : List ℕ} {m w : List ℕ} {c : Cur} (h : In s m w c)
   unfolding parseStatement statementBy
   state-deep d n k z = rw z (refuses (rw (← peek-found v m w refl, is-no x (word-read v refl) "return" spelt-return n, is-yes x (word-read v refl) "if" spelt-if k, ← pass-found v m w refl)))
 
-  pub state-if : (d : ℕ) {c1 : Cur} {m' w' : List ℕ} {o : Out P.Opnd} → (x .kind ≡ 6 → ⊥) → x .kind ≡ 7 → (d ≡ 0 → ⊥) → c1 ≡ moveCur (x .next) c
-      → Did (parseIf (View.limitsOf l) s (parseExpr (View.limitsOf l) s (d - 1)) (parseStatement (View.limitsOf l) s (d - 1))) 1 s m w c1 m' w' o → States d m' w' o
+  pub state-if : (d : ℕ) {c1 : Cursor} {m' w' : List ℕ} {o : Out P.Opnd} → (x .kind ≡ 6 → ⊥) → x .kind ≡ 7 → (d ≡ 0 → ⊥) → c1 ≡ moveCur (x .next) c
+      → CursorDid (parseIf (View.limitsOf l) s (parseExpr (View.limitsOf l) s (d - 1)) (parseStatement (View.limitsOf l) s (d - 1))) 1 s m w c1 m' w' o → States d m' w' o
   unfolding parseStatement statementBy
   state-if zero n k z i a = absurd (z refl)
   state-if (suc d) n k z i a =
       let j : suc d - 1 ≡ d = omega arith in
       let b = rw (i, j) at a in
-      ends-as (further (past (λ z. omega arith) .0)) (omega arith) b (rw (← peek-found v m w refl, is-no x (word-read v refl) "return" spelt-return n, is-yes x (word-read v refl) "if" spelt-if k, ← pass-found v m w refl))
+      ends-as (further (past (λ z. omega arith) .0)) (omega arith) b
+      (rw (← peek-found v m w refl, is-no x (word-read v refl) "return" spelt-return n, is-yes x (word-read v refl) "if" spelt-if k, ← pass-found v m w refl))
 
-  pub state-expr : (d : ℕ) {m' w' : List ℕ} {o : Out P.Opnd} → (x .kind ≡ 6 → ⊥) → (x .kind ≡ 7 → ⊥) → Did (parseExpr (View.limitsOf l) s d 0) 1 s m w c m' w' o → States d m' w' o
+  pub state-expr : (d : ℕ) {m' w' : List ℕ} {o : Out P.Opnd} → (x .kind ≡ 6 → ⊥) → (x .kind ≡ 7 → ⊥) → CursorDid (parseExpr (View.limitsOf l) s d 0) 1 s m w c m' w' o → States d m' w' o
   unfolding parseStatement statementBy
   state-expr zero n k a = record { is = a .is ∙ rw (← peek-found v m w refl, is-no x (word-read v refl) "return" spelt-return n, is-no x (word-read v refl) "if" spelt-if k); ok = a .ok }
   state-expr (suc d) n k a = record { is = a .is ∙ rw (← peek-found v m w refl, is-no x (word-read v refl) "return" spelt-return n, is-no x (word-read v refl) "if" spelt-if k); ok = a .ok }

@@ -12,10 +12,6 @@ then-same : {A B : Type 0} (a : Answer A) (f g : A → Answer B) → ((x : A) �
 then-same (answered x) f g h = h x
 then-same (refused n) f g h = refl
 
-then-then : {A B C : Type 0} (a : Answer A) (f : A → Answer B) (g : B → Answer C) → ifAnswered a (λ x. ifAnswered (f x) g) ≡ ifAnswered (ifAnswered a f) g
-then-then (answered x) f g = refl
-then-then (refused n) f g = refl
-
 either-same : {A : Type 0} (b : 𝔹) (f g h k : Unit {0} → Answer A) → f tt ≡ h tt → g tt ≡ k tt → choose b f g ≡ choose b h k
 either-same true f g h k p q = p
 either-same false f g h k p q = q
@@ -47,7 +43,9 @@ module _ (L : Limits) (s : List ℕ) where
 
   module _ (S : Reads Opnd) (before : ℕ) (old : Env) (v : Opnd) (then₀ join last : ℕ) (x : Opnd) (l : Env) where
     abbrev joined : ℕ → (ℕ × Opnd) × Parser → Answer (Opnd × Parser)
-    joined e u = ifAnswered (joinVars L then₀ l e (u .1 .env) (allKeys l (u .1 .env)) (withEnv old (withBlock join (u .1)))) (λ p. ifAnswered (expect s "end" (p .1)) (λ q. phi L last x (u .0 .0) (u .0 .1) (q .1)))
+    joined e u =
+        ifAnswered (joinVars L then₀ l e (u .1 .env) (allKeys l (u .1 .env)) (withEnv old (withBlock join (u .1))))
+        (λ p. ifAnswered (expect s "end" (p .1)) (λ q. phi L last x (u .0 .0) (u .0 .1) (q .1)))
 
     abbrev behind : ℕ × Parser → Answer (Opnd × Parser)
     behind n = ifAnswered (parseArm L s S join (n .1)) (λ u. finishElse L s old join then₀ l last x (n .0) (u .0) (u .1))
@@ -76,7 +74,8 @@ module _ (L : Limits) (s : List ℕ) where
     else-is r = opened (newBlock L r)
 
     bare : (a : Answer (ℕ × Parser))
-        → ifAnswered a (λ i. ifAnswered (joinVars L before old then₀ l (allKeys old l) (withEnv old (withBlock join (i .1)))) (λ p. ifAnswered (expect s "end" (p .1)) (λ q. phi L before nil last x (q .1))))
+        → ifAnswered a
+        (λ i. ifAnswered (joinVars L before old then₀ l (allKeys old l) (withEnv old (withBlock join (i .1)))) (λ p. ifAnswered (expect s "end" (p .1)) (λ q. phi L before nil last x (q .1))))
         ≡ ifAnswered {A = Unit {0} × Parser} (ifAnswered a (λ i. answered (tt, i .1))) (λ i. ifAnswered (joinArms L s join old before old then₀ l (i .1)) (λ p. joinValue L s before nil last x (p .1)))
     bare (answered i) = join-end join old before old then₀ l before nil last x (i .1)
     bare (refused n) = refl

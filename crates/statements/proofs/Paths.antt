@@ -6,20 +6,20 @@ use Prim.Native.Nat.{ℕ, zero, suc, _+_, _-_, _*_, _≤_, _<_}
 use native.Mathlib.Omega.{arith}
 use lib.Dec.{ltb, leb}
 use lib.ListN.{length, getD}
-use Rattle.sets.specs.declared.BlockId.{BlockId}
-use Rattle.sets.specs.declared.InsnId.{InsnId}
+use Rattle.ids.specs.declared.BlockId.{BlockId}
+use Rattle.ids.specs.declared.InsnId.{InsnId}
 use Rattle.kinds.specs.declared.Kind.the-variants.{Nil}
 use Rattle.rules.specs.Actions.{Answer, answered, refused, ifAnswered, loop}
 use Rattle.rules.specs.Program as P
 use Rattle.rules.specs.Program.{terminated, listedCount, about}
 use Rattle.rules.specs.Reading as R
 use Rattle.rules.specs.Reading.{Parser, Reads, pushInsn, push, newBlock, newBlockOf, endBlock, parseExpr, parseNext, parseStatements, parseReturn, parseIf, statementBy, parseStatement}
-use Rattle.scopes.specs.Made.{Bindings, over, envOf, env-sorted}
-use Rattle.scopes.specs.Sorted.{Sorted}
-use Rattle.env.specs.Memory.{size, made, vars, row, Kept}
-use Rattle.env.specs.Promises.{Leaves}
-use Rattle.env.proofs.Entries.{row-move, vars-split, vars-kept}
-use Rattle.lookups.specs.Look.{Tells}
+use Rattle.variables.specs.scopes.Made.{Bindings, over, envOf, env-sorted}
+use Rattle.variables.specs.scopes.Sorted.{Sorted}
+use Rattle.variables.specs.Memory.{size, made, vars, row, Kept}
+use Rattle.variables.specs.Promises.{Leaves}
+use Rattle.variables.proofs.Entries.{row-move, vars-split, vars-kept}
+use Rattle.lookups.specs.Look.{LookTells}
 use Rattle.program.specs.Rows.{opndOf, given, opIn}
 use Rattle.program.specs.View as View
 use Rattle.program.specs.declared.Counts.{Counts}
@@ -34,52 +34,54 @@ use Rattle.program.specs.declared.Op.{Op}
 use Rattle.program.specs.declared.Op.the-variants.{Jump, IfTrue, Return}
 use Rattle.program.specs.declared.Opnd.{Opnd}
 use Rattle.program.specs.declared.Opnd.the-variants.{Const}
-use Rattle.joins.specs.Joining.{Phis, Arms, IfEnd}
-use Rattle.joins.specs.declared.Blocks.{Blocks}
-use Rattle.joins.specs.declared.Joined.{Joined}
-use Rattle.joins.specs.declared.Joined.the-variants as J
-use Rattle.joins.specs.declared.Phied.{Phied}
-use Rattle.joins.specs.declared.Phied.the-variants as F
-use Rattle.words.specs.Lexed.{wordIn}
-use Rattle.words.specs.declared.Lexed.{Lexed}
-use Rattle.words.specs.declared.Lexed.the-variants as W
-use Rattle.words.specs.declared.Word.{Word}
-use Rattle.words.proofs.Texts.{fixed-kind}
-use Rattle.parser.specs.Cursor.{parserOf, moveCur, countCur, In, Step}
-use Rattle.parser.specs.Promises.{Out, done, stop, outcome, After, Did, Longer, Adds, Sees, Spelt, Expects, Matches, parsedOf, movedOf, matchedOf}
-use Rattle.parser.specs.declared.Cur.{Cur}
-use Rattle.parser.specs.declared.Matched.{Matched}
-use Rattle.parser.specs.declared.Matched.the-variants as M
-use Rattle.parser.specs.declared.Moved.{Moved}
-use Rattle.parser.specs.declared.Moved.the-variants as On
-use Rattle.parser.specs.declared.Parsed.{Parsed}
-use Rattle.parser.specs.declared.Parsed.the-variants.{Done, Refused}
-use Rattle.parser.proofs.Laws.{after-step, in-counted, Went, got, gave, refuses, arrives, ends-as, moved-did, added-did, in-moved, step-moved, step-less, step-trans, step-none}
-use Rattle.parser.proofs.Wording.{spelt-end, spelt-else, is-yes, is-no, word-read, peek-found, peek-none, pass-found}
+use Rattle.phis.specs.Joining.{Phis, Arms, IfEnd}
+use Rattle.phis.specs.declared.Blocks.{Blocks}
+use Rattle.phis.specs.declared.JoinedVars.{JoinedVars}
+use Rattle.phis.specs.declared.JoinedVars.the-variants as J
+use Rattle.phis.specs.declared.NewPhi.{NewPhi}
+use Rattle.phis.specs.declared.NewPhi.the-variants as F
+use Rattle.lexer.specs.Lexed.{wordIn}
+use Rattle.lexer.specs.declared.Lexed.{Lexed}
+use Rattle.lexer.specs.declared.Lexed.the-variants as W
+use Rattle.lexer.specs.declared.Word.{Word}
+use Rattle.lexer.proofs.Texts.{fixed-kind}
+use Rattle.cursor.specs.Cursor.{parserOf, moveCur, countCur, In, CursorStep}
+use Rattle.cursor.specs.Promises.{Out, done, stop, outcome, CursorAfter, CursorDid, Longer, CursorAdds, Sees, Spelt, Expects, CursorMatches, parsedOf, movedOf, matchedOf}
+use Rattle.cursor.specs.declared.Cursor.{Cursor}
+use Rattle.cursor.specs.declared.Matched.{Matched}
+use Rattle.cursor.specs.declared.Matched.the-variants as M
+use Rattle.cursor.specs.declared.Moved.{Moved}
+use Rattle.cursor.specs.declared.Moved.the-variants as On
+use Rattle.cursor.specs.declared.Parsed.{Parsed}
+use Rattle.cursor.specs.declared.Parsed.the-variants.{Done, Refused}
+use Rattle.cursor.proofs.Laws.{after-step, in-counted, Acted, got, gave, refuses, arrives, ends-as, moved-did, added-did, in-moved, step-moved, step-less, step-trans, step-none}
+use Rattle.cursor.proofs.Wording.{spelt-end, spelt-else, is-yes, is-no, word-read, peek-found, peek-none, pass-found}
 use Rattle.statements.specs.declared.Branch.{Branch}
 use Rattle.statements.specs.declared.Opened.{Opened}
 use Rattle.statements.specs.declared.Opened.the-variants as O
 use Rattle.statements.specs.declared.Stops.{Stops}
 use Rattle.statements.specs.declared.Stops.the-variants as H
 use Rattle.statements.specs.Acts.{addEnd, stopsAt, parseArm, openElse, joinArms, joinValue, finishIf, finishElse, parseElse, ifOf}
-use Rattle.statements.specs.Shape.{blockCur, varsCur, openedOf, stopsOf, halts, Halts, Wider, Widened, Opens, AddsEnd, EndsBlock, Inside, DidFrom, Aside, AsideIf, OpensElse, JoinsArms, FinishesElse, Arm}
+use Rattle.statements.specs.Shape.{blockCur, varsCur, openedOf, stopsOf, halts, Halts, Wider, Widened, Opens, AddsEnd, EndsBlock, StatementInside, DidFrom, StatementAside, AsideIf, OpensElse}
+use Rattle.statements.specs.Shape.{JoinsArms, FinishesElse, Arm}
 use Rattle.statements.proofs.Ifs.{if-is}
-use Rattle.statements.proofs.Steps.{block-of, env-of, block-to, Keeps, keeps-step, keeps-low, keeps-then, keeps-later, keeps-vars, after-over, inside-step, inside-then, few-vars, arm-then, opens-did, in-block, step-block}
+use Rattle.statements.proofs.Steps.{block-of, env-of, block-to, Keeps, keeps-step, keeps-low, keeps-then, keeps-later, keeps-vars, after-over, inside-step, inside-then, few-vars, arm-then}
+use Rattle.statements.proofs.Steps.{opens-did, in-block, step-block}
 
 -- ---- a cursor with several parts changed
 
-module _ {s m w : List ℕ} {c : Cur} (h : In s m w c) where
-  pub placed : {x y z : Cur} {b : BlockId} {n t : ℕ} {d : Counts} → x ≡ blockCur b y → y ≡ varsCur n t z → z ≡ countCur d c → x ≡ blockCur b (varsCur n t (countCur d c))
-  placed {b = b} {n = n} {t = t} e f g = e ∙ ap (λ (u : Cur). blockCur b u) (f ∙ ap (λ (u : Cur). varsCur n t u) g)
+module _ {s m w : List ℕ} {c : Cursor} (h : In s m w c) where
+  pub placed : {x y z : Cursor} {b : BlockId} {n t : ℕ} {d : Counts} → x ≡ blockCur b y → y ≡ varsCur n t z → z ≡ countCur d c → x ≡ blockCur b (varsCur n t (countCur d c))
+  placed {b = b} {n = n} {t = t} e f g = e ∙ ap (λ (u : Cursor). blockCur b u) (f ∙ ap (λ (u : Cursor). varsCur n t u) g)
 
-  pub placed2 : {x y : Cur} {b : BlockId} {n t : ℕ} → x ≡ blockCur b y → y ≡ varsCur n t c → x ≡ blockCur b (varsCur n t c)
-  placed2 {b = b} e f = e ∙ ap (λ (u : Cur). blockCur b u) f
+  pub placed2 : {x y : Cursor} {b : BlockId} {n t : ℕ} → x ≡ blockCur b y → y ≡ varsCur n t c → x ≡ blockCur b (varsCur n t c)
+  placed2 {b = b} e f = e ∙ ap (λ (u : Cursor). blockCur b u) f
 
 -- ---- additions to the tables
 
-module _ (l : Limits) (m : List ℕ) (c : Cur) {m' : List ℕ} {r : NewBlock}
-    (g : View.Did (View.nextBlock (View.limitsOf l)) View.unchanged (c .counts .blocks) (View.moreBlocks (c .counts)) m (c .counts) m' (View.blockOf r)) where
-  pub new-on : {b : BlockId} {d : Counts} {x : Cur} → r ≡ B.Added b d → x ≡ countCur d c → Opens l m c m' (O.On x b)
+module _ (l : Limits) (m : List ℕ) (c : Cursor) {m' : List ℕ} {r : NewBlock}
+    (g : View.ProgramDid (View.nextBlock (View.limitsOf l)) View.unchanged (c .counts .blocks) (View.moreBlocks (c .counts)) m (c .counts) m' (View.blockOf r)) where
+  pub new-on : {b : BlockId} {d : Counts} {x : Cursor} → r ≡ B.Added b d → x ≡ countCur d c → Opens l m c m' (O.On x b)
   unfolding parserOf
   new-on {b} {d} {x} o i =
       let ok = rw o at (g .ok) in
@@ -105,9 +107,9 @@ module _ (l : Limits) (m : List ℕ) (c : Cur) {m' : List ℕ} {r : NewBlock}
 abbrev unnumbered : Answer (ℕ × Parser) → Answer (Unit {0} × Parser)
 unnumbered a = ifAnswered a (λ i. answered (tt, i .1))
 
-module _ (l : Limits) (b : BlockId) (op : Op) (v : Given) (m : List ℕ) (c : Cur) {m' : List ℕ} {r : NewInsn}
-    (g : View.Did (View.pushOf (View.limitsOf l) (b .0) op (given v)) View.unchanged (c .counts .insns) (View.moreInsns op (length (given v)) (c .counts)) m (c .counts) m' (View.insnOf r)) where
-  pub end-on : {i : InsnId} {d : Counts} {x : Cur} → r ≡ I.Added i d → x ≡ countCur d c → AddsEnd l b op v m c m' (On.On x)
+module _ (l : Limits) (b : BlockId) (op : Op) (v : Given) (m : List ℕ) (c : Cursor) {m' : List ℕ} {r : NewInsn}
+    (g : View.ProgramDid (View.pushOf (View.limitsOf l) (b .0) op (given v)) View.unchanged (c .counts .insns) (View.moreInsns op (length (given v)) (c .counts)) m (c .counts) m' (View.insnOf r)) where
+  pub end-on : {i : InsnId} {d : Counts} {x : Cursor} → r ≡ I.Added i d → x ≡ countCur d c → AddsEnd l b op v m c m' (On.On x)
   unfolding addEnd parserOf
   end-on {i} {d} {x} o e =
       let ok = rw o at (g .ok) in
@@ -139,7 +141,7 @@ module _ (L : P.Limits) (s : List ℕ) (t : P.Terminator) (r : Parser) where
   unfolding endBlock addEnd
   end-open h = rw h
 
-module _ (l : Limits) (op : Op) (v : Given) (m : List ℕ) (c : Cur) {t : 𝔹} (g : View.Ready m (c .counts)) (u : Tells m (c .counts) (c .block .0) t) where
+module _ (l : Limits) (op : Op) (v : Given) (m : List ℕ) (c : Cursor) {t : 𝔹} (g : View.ProgramReady m (c .counts)) (u : LookTells m (c .counts) (c .block .0) t) where
   pub ends-shut : t ≡ true → EndsBlock l op v m c m (On.On c)
   unfolding parserOf
   ends-shut e =
@@ -173,24 +175,24 @@ return-rest L op r = go (pushInsn L (r .block) op r)
     go (answered i) = refl
     go (refused n) = refl
 
-module _ (l : Limits) (s : List ℕ) (d : ℕ) {m w : List ℕ} {c : Cur} {p : Parsed} {m1 w1 : List ℕ} (a : Did (parseExpr (View.limitsOf l) s d 0) 1 s m w c m1 w1 (parsedOf p)) where
-  pub return-no : {e : ℕ} → p ≡ Refused e → Did (parseReturn (View.limitsOf l) s (parseExpr (View.limitsOf l) s d)) 1 s m w c m1 w1 (parsedOf (Refused e))
+module _ (l : Limits) (s : List ℕ) (d : ℕ) {m w : List ℕ} {c : Cursor} {p : Parsed} {m1 w1 : List ℕ} (a : CursorDid (parseExpr (View.limitsOf l) s d 0) 1 s m w c m1 w1 (parsedOf p)) where
+  pub return-no : {e : ℕ} → p ≡ Refused e → CursorDid (parseReturn (View.limitsOf l) s (parseExpr (View.limitsOf l) s d)) 1 s m w c m1 w1 (parsedOf (Refused e))
   unfolding parseReturn
   return-no e = refuses (rw (← gave a (ap parsedOf e)))
 
-  module _ {c1 : Cur} {v : Opnd} (e : p ≡ Done c1 v) where
+  module _ {c1 : Cursor} {v : Opnd} (e : p ≡ Done c1 v) where
     pub return-in : In s m1 w1 c1
     return-in = got a (ap parsedOf e) .here
 
     module _ {m2 : List ℕ} {x : Moved} (b : AddsEnd l (c1 .block) Return (One v) m1 c1 m2 x) where
-      added : Did (addEnd (View.limitsOf l) (c1 .block .0) (P.Ends (P.Return (opndOf v)))) 0 s m1 w1 c1 m2 w1 (movedOf x)
+      added : CursorDid (addEnd (View.limitsOf l) (c1 .block .0) (P.Ends (P.Return (opndOf v)))) 0 s m1 w1 c1 m2 w1 (movedOf x)
       added = added-did (b .adds s w1) return-in
 
-      pub return-no2 : {k : ℕ} → x ≡ On.Refused k → Did (parseReturn (View.limitsOf l) s (parseExpr (View.limitsOf l) s d)) 1 s m w c m2 w1 (parsedOf (Refused k))
+      pub return-no2 : {k : ℕ} → x ≡ On.Refused k → CursorDid (parseReturn (View.limitsOf l) s (parseExpr (View.limitsOf l) s d)) 1 s m w c m2 w1 (parsedOf (Refused k))
       unfolding parseReturn parserOf
       return-no2 i = refuses (rw (← got a (ap parsedOf e) .is, ← return-rest (View.limitsOf l) (P.Ends (P.Return (opndOf v))) (parserOf s m1 w1 c1), ← gave added (ap movedOf i)))
 
-      pub return-yes : {c2 : Cur} → x ≡ On.On c2 → Did (parseReturn (View.limitsOf l) s (parseExpr (View.limitsOf l) s d)) 1 s m w c m2 w1 (parsedOf (Done c2 (Const Nil)))
+      pub return-yes : {c2 : Cursor} → x ≡ On.On c2 → CursorDid (parseReturn (View.limitsOf l) s (parseExpr (View.limitsOf l) s d)) 1 s m w c m2 w1 (parsedOf (Done c2 (Const Nil)))
       unfolding parseReturn parserOf
       return-yes i =
           let g = got added (ap movedOf i) in
@@ -199,7 +201,7 @@ module _ (l : Limits) (s : List ℕ) (d : ℕ) {m w : List ℕ} {c : Cur} {p : P
 
 -- ---- at_end
 
-module _ {s : List ℕ} {c : Cur} {r : Lexed} (v : Sees s c r) where
+module _ {s : List ℕ} {c : Cursor} {r : Lexed} (v : Sees s c r) where
   pub halts-none : (arm : 𝔹) {e : ℕ} → r ≡ W.Refused e → Halts s arm c (H.Refused e)
   unfolding halts
   halts-none arm f = record { is = λ m w. rw (← peek-none v m w f); next = λ y g. let z : _≡_ {A = ℕ} 0 1 = cc in absurd (omega arith) }
@@ -224,17 +226,17 @@ module _ {s : List ℕ} {c : Cur} {r : Lexed} (v : Sees s c r) where
 
 -- ---- join_vars
 
-module _ {s m w : List ℕ} {c₀ c : Cur} (h : In s m w c) (i : Inside c₀ c) where
+module _ {s m w : List ℕ} {c₀ c : Cursor} (h : In s m w c) (i : StatementInside c₀ c) where
   pub joins-fit : Arms (c₀ .vars) (c .vars) (c₀ .aside) (c .aside - c₀ .aside)
   joins-fit = record { old = i .old; low = i .low; room = omega (arith, h .ready .room .law, h .ready .room .script, i .above) }
 
-  module _ (l : Limits) (q : Blocks) (b : q .at .0 < c .counts .blocks) {w' m' : List ℕ} {j : Joined}
+  module _ (l : Limits) (q : Blocks) (b : q .at .0 < c .counts .blocks) {w' m' : List ℕ} {j : JoinedVars}
       (g : IfEnd s l q (c₀ .vars) (c .vars) (c₀ .aside) (c .aside - c₀ .aside) w m (c .counts) w' m' j) where
     pub vars-no : {e : ℕ} → j ≡ J.Refused e → JoinsArms l s m w c₀ c q m' w' (On.Refused e)
     unfolding joinArms parserOf
     vars-no o = record { is = λ left z. rw o at (g .is left z (R.withBlock (q .at .0) (parserOf s m w c)) refl); ok = tt }
 
-    pub vars-on : {n : ℕ} {d : Counts} {x : Cur} → j ≡ J.On n d → x ≡ blockCur (q .at) (varsCur n (c₀ .aside) (countCur d c)) → JoinsArms l s m w c₀ c q m' w' (On.On x)
+    pub vars-on : {n : ℕ} {d : Counts} {x : Cursor} → j ≡ J.On n d → x ≡ blockCur (q .at) (varsCur n (c₀ .aside) (countCur d c)) → JoinsArms l s m w c₀ c q m' w' (On.On x)
     unfolding joinArms parserOf
     vars-on {n} {d} {x} o e =
         let ok = rw o at (g .ready) in
@@ -274,26 +276,26 @@ module _ {s m w : List ℕ} {c₀ c : Cur} (h : In s m w c) (i : Inside c₀ c) 
 
 -- ---- join_value
 
-module _ {s m w : List ℕ} {c : Cur} {x : Moved} (h : In s m w c) (a : Expects s 5 c x) where
-  expected : Did (R.expect s "end") 1 s m w c m w (movedOf x)
+module _ {s m w : List ℕ} {c : Cursor} {x : Moved} (h : In s m w c) (a : Expects s 5 c x) where
+  expected : CursorDid (R.expect s "end") 1 s m w c m w (movedOf x)
   expected = moved-did (a .moves "end" spelt-end) h
 
-  pub value-in : {c1 : Cur} → x ≡ On.On c1 → In s m w c1
+  pub value-in : {c1 : Cursor} → x ≡ On.On c1 → In s m w c1
   value-in e = got expected (ap movedOf e) .here
 
-module _ (l : Limits) {s m w : List ℕ} {c : Cur} {x : Moved} (left : BlockId) (v : Opnd) (right : BlockId) (y : Opnd) (h : In s m w c) (a : Expects s 5 c x) where
-  pub value-no : {e : ℕ} → x ≡ On.Refused e → Did (joinValue (View.limitsOf l) s (left .0) (opndOf v) (right .0) (opndOf y)) 1 s m w c m w (parsedOf (Refused e))
+module _ (l : Limits) {s m w : List ℕ} {c : Cursor} {x : Moved} (left : BlockId) (v : Opnd) (right : BlockId) (y : Opnd) (h : In s m w c) (a : Expects s 5 c x) where
+  pub value-no : {e : ℕ} → x ≡ On.Refused e → CursorDid (joinValue (View.limitsOf l) s (left .0) (opndOf v) (right .0) (opndOf y)) 1 s m w c m w (parsedOf (Refused e))
   unfolding joinValue
   value-no e = refuses (rw (← gave (expected h a) (ap movedOf e)))
 
-  module _ {c1 : Cur} (e : x ≡ On.On c1) where
-    module _ {m' : List ℕ} {z : Phied} (g : Phis l (record { at = c1 .block; left = left; right = right }) v y m (c1 .counts) m' z) where
-      pub value-no2 : {k : ℕ} → z ≡ F.Refused k → Did (joinValue (View.limitsOf l) s (left .0) (opndOf v) (right .0) (opndOf y)) 1 s m w c m' w (parsedOf (Refused k))
+  module _ {c1 : Cursor} (e : x ≡ On.On c1) where
+    module _ {m' : List ℕ} {z : NewPhi} (g : Phis l (record { at = c1 .block; left = left; right = right }) v y m (c1 .counts) m' z) where
+      pub value-no2 : {k : ℕ} → z ≡ F.Refused k → CursorDid (joinValue (View.limitsOf l) s (left .0) (opndOf v) (right .0) (opndOf y)) 1 s m w c m' w (parsedOf (Refused k))
       unfolding joinValue parserOf
       value-no2 o = refuses (rw (← got (expected h a) (ap movedOf e) .is) (rw o at (g .is s (parserOf s m w c1) refl)))
 
-      pub value-yes : {u : Opnd} {d : Counts} {t : Cur} → z ≡ F.Of u d → t ≡ countCur d c1
-          → Did (joinValue (View.limitsOf l) s (left .0) (opndOf v) (right .0) (opndOf y)) 1 s m w c m' w (parsedOf (Done t u))
+      pub value-yes : {u : Opnd} {d : Counts} {t : Cursor} → z ≡ F.Of u d → t ≡ countCur d c1
+          → CursorDid (joinValue (View.limitsOf l) s (left .0) (opndOf v) (right .0) (opndOf y)) 1 s m w c m' w (parsedOf (Done t u))
       unfolding joinValue parserOf
       value-yes {u} {d} {t} o i =
           let ok = rw o at (g .ready) in
@@ -303,20 +305,20 @@ module _ (l : Limits) {s m w : List ℕ} {c : Cur} {x : Moved} (left : BlockId) 
 
 -- ---- open_else
 
-open-state : (s m w w' : List ℕ) (c : Cur) (f : BlockId) (n top : ℕ) → vars s w' n ≡ vars s w n
+open-state : (s m w w' : List ℕ) (c : Cursor) (f : BlockId) (n top : ℕ) → vars s w' n ≡ vars s w n
     → R.withBlock (f .0) (R.withEnv (vars s w n) (parserOf s m w c)) ≡ parserOf s m w' (blockCur f (varsCur n top c))
 unfolding parserOf
 open-state s m w w' c f n top e = rw e
 
-module _ (l : Limits) {s m w : List ℕ} {c₀ c : Cur} (q : Branch) (h : In s m w c) (a : Arm c₀ c q) {m1 : List ℕ} {x : Opened} (b : Opens l m c m1 x) where
-  else-opened : Did (newBlock (View.limitsOf l)) 0 s m w c m1 w (openedOf x)
+module _ (l : Limits) {s m w : List ℕ} {c₀ c : Cursor} (q : Branch) (h : In s m w c) (a : Arm c₀ c q) {m1 : List ℕ} {x : Opened} (b : Opens l m c m1 x) where
+  else-opened : CursorDid (newBlock (View.limitsOf l)) 0 s m w c m1 w (openedOf x)
   else-opened = opens-did b h
 
   pub open-no : {e : ℕ} → x ≡ O.Refused e → OpensElse l s m w c₀ c q m1 w (O.Refused e)
   unfolding openElse
   open-no e = record { is = rw (← gave else-opened (ap openedOf e)); ok = tt }
 
-  module _ {c1 : Cur} {f : BlockId} (e : x ≡ O.On c1 f) where
+  module _ {c1 : Cursor} {f : BlockId} (e : x ≡ O.On c1 f) where
     pub open-in : In s m1 w c1
     open-in = got else-opened (ap openedOf e) .here
 
@@ -324,27 +326,27 @@ module _ (l : Limits) {s m w : List ℕ} {c₀ c : Cur} (q : Branch) (h : In s m
     open-before = omega (arith, a .before, got else-opened (ap openedOf e) .step .blocks)
 
     open-vars : c1 .vars ≡ c .vars
-    open-vars = let k = rw e at (b .ok) in ap (λ (z : Cur). z .vars) (k .0 .cur)
+    open-vars = let k = rw e at (b .ok) in ap (λ (z : Cursor). z .vars) (k .0 .cur)
 
     open-block : f .0 < c1 .counts .blocks
     open-block = let k = rw e at (b .ok) in k .1
 
     module _ {m2 : List ℕ} {y : Moved} (g : AddsEnd l (c₀ .block) (IfTrue (q .first) f) (One (q .cond)) m1 c1 m2 y) where
-      else-chosen : Did (addEnd (View.limitsOf l) (c₀ .block .0) (P.Ends (P.IfTrue (opndOf (q .cond)) (q .first .0) (f .0)))) 0 s m1 w c1 m2 w (movedOf y)
+      else-chosen : CursorDid (addEnd (View.limitsOf l) (c₀ .block .0) (P.Ends (P.IfTrue (opndOf (q .cond)) (q .first .0) (f .0)))) 0 s m1 w c1 m2 w (movedOf y)
       else-chosen = added-did (g .adds s w) open-in
 
       pub open-no2 : {k : ℕ} → y ≡ On.Refused k → OpensElse l s m w c₀ c q m2 w (O.Refused k)
       unfolding openElse
       open-no2 i = record { is = rw (← got else-opened (ap openedOf e) .is, ← gave else-chosen (ap movedOf i)); ok = tt }
 
-      module _ {c2 : Cur} (i : y ≡ On.On c2) where
-        chosen : Went (addEnd (View.limitsOf l) (c₀ .block .0) (P.Ends (P.IfTrue (opndOf (q .cond)) (q .first .0) (f .0)))) 0 s m1 w c1 m2 w tt c2
+      module _ {c2 : Cursor} (i : y ≡ On.On c2) where
+        chosen : Acted (addEnd (View.limitsOf l) (c₀ .block .0) (P.Ends (P.IfTrue (opndOf (q .cond)) (q .first .0) (f .0)))) 0 s m1 w c1 m2 w tt c2
         chosen = got else-chosen (ap movedOf i)
 
         chosen-vars : c2 .vars ≡ c .vars
-        chosen-vars = let k = rw i at (g .adds s w .ok) in ap (λ (z : Cur). z .vars) (k .cur) ∙ open-vars
+        chosen-vars = let k = rw i at (g .adds s w .ok) in ap (λ (z : Cursor). z .vars) (k .cur) ∙ open-vars
 
-        steps : Step 0 c w c2 w
+        steps : CursorStep 0 c w c2 w
         steps = step-less (omega arith) (step-trans (got else-opened (ap openedOf e) .step) (chosen .step))
 
         pub open-old : c₀ .vars ≤ c2 .vars
@@ -360,14 +362,14 @@ module _ (l : Limits) {s m w : List ℕ} {c₀ c : Cur} (q : Branch) (h : In s m
             let o : c₀ .vars ≤ c2 .vars = omega (arith, a .inside .old, chosen-vars) in
             (omega (arith, k .scratch), (omega (arith, k .room .law, k .room .script, k .room .aside), omega (arith, k .room .law, k .room .script, k .room .aside)))
 
-        pub open-yes : {n : ℕ} {w' : List ℕ} {t : Cur} → Leaves s (c₀ .vars) (c2 .vars - c₀ .vars) (c₀ .aside) w w' n → t ≡ blockCur f (varsCur (c₀ .vars) (c₀ .aside + n) c2)
+        pub open-yes : {n : ℕ} {w' : List ℕ} {t : Cursor} → Leaves s (c₀ .vars) (c2 .vars - c₀ .vars) (c₀ .aside) w w' n → t ≡ blockCur f (varsCur (c₀ .vars) (c₀ .aside + n) c2)
             → OpensElse l s m w c₀ c q m2 w' (O.On t f)
         unfolding openElse
         open-yes {n} {w'} {t} v u =
             let k = chosen .here .ready in
             let z : c2 .aside ≡ c₀ .aside = steps .aside ∙ a .aside in
             let o : c₀ .vars ≤ c2 .vars = omega (arith, a .inside .old, chosen-vars) in
-            let i2 : Inside c₀ c2 = inside-then (a .inside) steps in
+            let i2 : StatementInside c₀ c2 = inside-then (a .inside) steps in
             let kept : vars s w' (c₀ .vars) ≡ vars s w (c₀ .vars) = keeps-vars s (keeps-low {c₀ = c₀} (few-vars h (a .inside)) (v .low)) in
             let behind : (c₀ .aside + n) - c₀ .aside ≡ n = omega arith in
             rw u (record {
@@ -407,28 +409,28 @@ module _ (l : Limits) {s m w : List ℕ} {c₀ c : Cur} (q : Branch) (h : In s m
 
 -- ---- finish_if
 
-module _ (l : Limits) {s m w : List ℕ} {c₀ c : Cur} (q : Branch) (h : In s m w c) (a : Arm c₀ c q) {m1 : List ℕ} {x : Moved}
+module _ (l : Limits) {s m w : List ℕ} {c₀ c : Cursor} (q : Branch) (h : In s m w c) (a : Arm c₀ c q) {m1 : List ℕ} {x : Moved}
     (b : AddsEnd l (c₀ .block) (IfTrue (q .first) (q .join)) (One (q .cond)) m c m1 x) where
   abbrev BareIf : List ℕ → List ℕ → Out P.Opnd → Type 0
   BareIf m' w' o =
       DidFrom (finishIf (View.limitsOf l) s (c₀ .block .0) (vars s w (c₀ .vars)) (opndOf (q .cond)) (q .first .0) (q .join .0) (q .last .0) (opndOf (q .value)) (vars s w (c .vars)))
       1 s m w c₀ c m' w' o
 
-  bare-chosen : Did (addEnd (View.limitsOf l) (c₀ .block .0) (P.Ends (P.IfTrue (opndOf (q .cond)) (q .first .0) (q .join .0)))) 0 s m w c m1 w (movedOf x)
+  bare-chosen : CursorDid (addEnd (View.limitsOf l) (c₀ .block .0) (P.Ends (P.IfTrue (opndOf (q .cond)) (q .first .0) (q .join .0)))) 0 s m w c m1 w (movedOf x)
   bare-chosen = added-did (b .adds s w) h
 
   pub bare-no : {e : ℕ} → x ≡ On.Refused e → BareIf m1 w (parsedOf (Refused e))
   unfolding finishIf
   bare-no e = record { is = rw (← gave bare-chosen (ap movedOf e)); ok = tt }
 
-  module _ {c1 : Cur} (e : x ≡ On.On c1) where
-    bare-went : Went (addEnd (View.limitsOf l) (c₀ .block .0) (P.Ends (P.IfTrue (opndOf (q .cond)) (q .first .0) (q .join .0)))) 0 s m w c m1 w tt c1
+  module _ {c1 : Cursor} (e : x ≡ On.On c1) where
+    bare-went : Acted (addEnd (View.limitsOf l) (c₀ .block .0) (P.Ends (P.IfTrue (opndOf (q .cond)) (q .first .0) (q .join .0)))) 0 s m w c m1 w tt c1
     bare-went = got bare-chosen (ap movedOf e)
 
     pub bare-in : In s m1 w c1
     bare-in = bare-went .here
 
-    pub bare-inside : Inside c₀ c1
+    pub bare-inside : StatementInside c₀ c1
     bare-inside = inside-then (a .inside) (bare-went .step)
 
     pub bare-join : q .join .0 < c1 .counts .blocks
@@ -442,7 +444,7 @@ module _ (l : Limits) {s m w : List ℕ} {c₀ c : Cur} (q : Branch) (h : In s m
     bare-sorted = rw bare-row (env-sorted [])
 
     bare-vars : c1 .vars ≡ c .vars
-    bare-vars = let k = rw e at (b .adds s w .ok) in ap (λ (z : Cur). z .vars) (k .cur)
+    bare-vars = let k = rw e at (b .adds s w .ok) in ap (λ (z : Cursor). z .vars) (k .cur)
 
     module _ {m2 w2 : List ℕ} {y : Moved} (g : JoinsArms l s m1 w c₀ c1 (record { at = q .join; left = c₀ .block; right = q .first }) m2 w2 y) where
       bare-joined : outcome s m2 w2 (movedOf y)
@@ -456,11 +458,11 @@ module _ (l : Limits) {s m w : List ℕ} {c₀ c : Cur} (q : Branch) (h : In s m
       unfolding finishIf
       bare-no2 i = let k = rw i at bare-joined in record { is = rw (← bare-went .is, ← k); ok = tt }
 
-      module _ {c2 : Cur} (i : y ≡ On.On c2) where
+      module _ {c2 : Cursor} (i : y ≡ On.On c2) where
         pub bare-in2 : In s m2 w2 c2
         bare-in2 = let k = rw i at (g .ok) in k .0
 
-        pub bare-yes : {m3 : List ℕ} {p : Out P.Opnd} → Did (joinValue (View.limitsOf l) s (c₀ .block .0) R.nil (q .last .0) (opndOf (q .value))) 1 s m2 w2 c2 m3 w2 p
+        pub bare-yes : {m3 : List ℕ} {p : Out P.Opnd} → CursorDid (joinValue (View.limitsOf l) s (c₀ .block .0) R.nil (q .last .0) (opndOf (q .value))) 1 s m2 w2 c2 m3 w2 p
             → BareIf m3 w2 p
         unfolding finishIf
         bare-yes {m3} {p} d =
@@ -470,17 +472,17 @@ module _ (l : Limits) {s m w : List ℕ} {c₀ c : Cur} (q : Branch) (h : In s m
 
 -- ---- finish_else
 
-module _ (l : Limits) {s m w : List ℕ} {c₀ c : Cur} (q : Branch) (b : BlockId) (z : Opnd) {m1 w1 : List ℕ} {y : Moved}
+module _ (l : Limits) {s m w : List ℕ} {c₀ c : Cursor} (q : Branch) (b : BlockId) (z : Opnd) {m1 w1 : List ℕ} {y : Moved}
     (g : JoinsArms l s m w c₀ c (record { at = q .join; left = q .first; right = b }) m1 w1 y) where
   pub both-no : {e : ℕ} → y ≡ On.Refused e → FinishesElse l s m w c₀ c q b z m1 w1 (Refused e)
   unfolding finishElse parserOf
   both-no e = record { is = λ left r. let k = rw e at (g .is left r) in rw (← k); ok = tt }
 
-  module _ {c1 : Cur} (e : y ≡ On.On c1) where
+  module _ {c1 : Cursor} (e : y ≡ On.On c1) where
     pub both-in : In s m1 w1 c1
     both-in = let k = rw e at (g .ok) in k .0
 
-    pub both-yes : {m2 : List ℕ} {p : Parsed} → Did (joinValue (View.limitsOf l) s (q .last .0) (opndOf (q .value)) (c .block .0) (opndOf z)) 1 s m1 w1 c1 m2 w1 (parsedOf p)
+    pub both-yes : {m2 : List ℕ} {p : Parsed} → CursorDid (joinValue (View.limitsOf l) s (q .last .0) (opndOf (q .value)) (c .block .0) (opndOf z)) 1 s m1 w1 c1 m2 w1 (parsedOf p)
         → FinishesElse l s m w c₀ c q b z m2 w1 p
     unfolding finishElse parserOf
     both-yes {m2} {p} d =

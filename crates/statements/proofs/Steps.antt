@@ -4,30 +4,30 @@ use mathlib.Core.List.{List}
 use Prim.Native.Nat.{ℕ, _+_, _-_, _*_, _≤_, _<_}
 use native.Mathlib.Omega.{arith}
 use lib.ListN.{length, getD}
-use Rattle.sets.specs.declared.BlockId.{BlockId}
+use Rattle.ids.specs.declared.BlockId.{BlockId}
 use Rattle.rules.specs.Actions.{answered, refused}
 use Rattle.rules.specs.Reading.{Reads, withBlock, newBlock}
-use Rattle.scopes.specs.Made.{envOf}
-use Rattle.env.specs.Memory.{entry, made, vars, row, Kept}
-use Rattle.env.specs.Rooms.{Room}
-use Rattle.env.proofs.Entries.{made-move, row-move}
+use Rattle.variables.specs.scopes.Made.{envOf}
+use Rattle.variables.specs.Memory.{entry, made, vars, row, Kept}
+use Rattle.variables.specs.Rooms.{VariablesRoom}
+use Rattle.variables.proofs.Entries.{made-move, row-move}
 use Rattle.program.specs.View as View
 use Rattle.program.specs.declared.Counts.{Counts}
 use Rattle.program.specs.declared.Limits.{Limits}
-use Rattle.parser.specs.Cursor.{parserOf, countCur, stackAt, Ready, In, Step}
-use Rattle.parser.specs.Promises.{Out, done, stop, outcome, After, Did, Moves, Matches, matchedOf}
-use Rattle.parser.specs.declared.Cur.{Cur}
-use Rattle.parser.specs.declared.Matched.{Matched}
-use Rattle.parser.specs.declared.Matched.the-variants as Matched
-use Rattle.parser.proofs.Laws.{in-counted, Went, got, moved-did, step-less, step-trans, step-none}
-use Rattle.parser.proofs.Wording.{spelt-else}
+use Rattle.cursor.specs.Cursor.{parserOf, countCur, stackAt, CursorReady, In, CursorStep}
+use Rattle.cursor.specs.Promises.{Out, done, stop, outcome, CursorAfter, CursorDid, Moves, CursorMatches, matchedOf}
+use Rattle.cursor.specs.declared.Cursor.{Cursor}
+use Rattle.cursor.specs.declared.Matched.{Matched}
+use Rattle.cursor.specs.declared.Matched.the-variants as Matched
+use Rattle.cursor.proofs.Laws.{in-counted, Acted, got, moved-did, step-less, step-trans, step-none}
+use Rattle.cursor.proofs.Wording.{spelt-else}
 use Rattle.statements.specs.declared.Branch.{Branch}
 use Rattle.statements.specs.declared.Opened.{Opened}
-use Rattle.statements.specs.Shape.{blockCur, varsCur, openedOf, Wider, Widened, Opens, Inside, Arm, Aside}
+use Rattle.statements.specs.Shape.{blockCur, varsCur, openedOf, Wider, Widened, Opens, StatementInside, Arm, StatementAside}
 
 -- ---- the parser's state
 
-module _ (s m w : List ℕ) (c : Cur) where
+module _ (s m w : List ℕ) (c : Cursor) where
   pub block-of : parserOf s m w c .block ≡ c .block .0
   unfolding parserOf
   block-of = refl
@@ -42,22 +42,22 @@ module _ (s m w : List ℕ) (c : Cur) where
 
 -- ---- what a step from c₀ keeps of scratch memory
 
-pub record Keeps (c₀ : Cur) (w w' : List ℕ) : Type 0 where
+pub record Keeps (c₀ : Cursor) (w w' : List ℕ) : Type 0 where
   pub old : (i : ℕ) → i < c₀ .vars → entry w' i ≡ entry w i
   pub rows : (i : ℕ) → 8192 ≤ i → i < c₀ .aside → entry w' i ≡ entry w i
   pub stack : (i : ℕ) → stackAt ≤ i → i < stackAt + 2 * c₀ .args → getD w' i 0 ≡ getD w i 0
 
-pub keeps-step : {k : ℕ} {c₀ c : Cur} {w w' : List ℕ} → Step k c₀ w c w' → Keeps c₀ w w'
+pub keeps-step : {k : ℕ} {c₀ c : Cursor} {w w' : List ℕ} → CursorStep k c₀ w c w' → Keeps c₀ w w'
 keeps-step a = record { old = a .old; rows = a .rows; stack = a .stack }
 
-pub keeps-low : {c₀ : Cur} {w w' : List ℕ} → c₀ .vars ≤ c₀ .aside → Kept 0 (c₀ .aside) w w' → Keeps c₀ w w'
+pub keeps-low : {c₀ : Cursor} {w w' : List ℕ} → c₀ .vars ≤ c₀ .aside → Kept 0 (c₀ .aside) w w' → Keeps c₀ w w'
 keeps-low l a = record { old = λ i h. a .same i (omega arith) (omega arith); rows = λ i g h. a .same i (omega arith) h; stack = λ i g h. a .beyond i g }
 
-pub keeps-then : {c₀ : Cur} {w w1 w2 : List ℕ} → Keeps c₀ w w1 → Keeps c₀ w1 w2 → Keeps c₀ w w2
+pub keeps-then : {c₀ : Cursor} {w w1 w2 : List ℕ} → Keeps c₀ w w1 → Keeps c₀ w1 w2 → Keeps c₀ w w2
 keeps-then a b = record { old = λ i h. b .old i h ∙ a .old i h; rows = λ i g h. b .rows i g h ∙ a .rows i g h; stack = λ i g h. b .stack i g h ∙ a .stack i g h }
 
 -- the same of a step from a later place
-pub keeps-later : {k : ℕ} {c₀ c c' : Cur} {w w' : List ℕ} → Inside c₀ c → Step k c w c' w' → Keeps c₀ w w'
+pub keeps-later : {k : ℕ} {c₀ c c' : Cursor} {w w' : List ℕ} → StatementInside c₀ c → CursorStep k c w c' w' → Keeps c₀ w w'
 keeps-later i a =
     record {
       old = λ j h. a .old j (omega (arith, i .old));
@@ -65,12 +65,12 @@ keeps-later i a =
       stack = λ j g h. a .stack j g (omega (arith, i .args));
     }
 
-pub keeps-vars : {c₀ : Cur} {w w' : List ℕ} (s : List ℕ) → Keeps c₀ w w' → vars s w' (c₀ .vars) ≡ vars s w (c₀ .vars)
+pub keeps-vars : {c₀ : Cursor} {w w' : List ℕ} (s : List ℕ) → Keeps c₀ w w' → vars s w' (c₀ .vars) ≡ vars s w (c₀ .vars)
 keeps-vars {c₀} {w} {w'} s a = ap envOf (made-move s w w' 0 0 (c₀ .vars) (λ i l. let z : 0 + i ≡ i = omega arith in rw z (a .old i l)))
 
 -- ---- after a step
 
-step-over : {k : ℕ} {c₀ c' : Cur} {w w1 w2 : List ℕ} → Keeps c₀ w w1 → Step k c₀ w1 c' w2 → Step k c₀ w c' w2
+step-over : {k : ℕ} {c₀ c' : Cursor} {w w1 w2 : List ℕ} → Keeps c₀ w w1 → CursorStep k c₀ w1 c' w2 → CursorStep k c₀ w c' w2
 step-over a b =
     record {
       on = b .on;
@@ -88,13 +88,13 @@ step-over a b =
       stack = λ i g h. b .stack i g h ∙ a .stack i g h;
     }
 
-pub after-over : {A : Type 0} (k : ℕ) {w w1 : List ℕ} (s m2 w2 : List ℕ) {c₀ : Cur} (o : Out A) → Keeps c₀ w w1 → After k s c₀ w1 m2 w2 o → After k s c₀ w m2 w2 o
+pub after-over : {A : Type 0} (k : ℕ) {w w1 : List ℕ} (s m2 w2 : List ℕ) {c₀ : Cursor} (o : Out A) → Keeps c₀ w w1 → CursorAfter k s c₀ w1 m2 w2 o → CursorAfter k s c₀ w m2 w2 o
 after-over k s m2 w2 (done a c') x h = (h .0, step-over x (h .1))
 after-over k s m2 w2 (stop e) x h = tt
 
 -- ---- inside an `if`
 
-pub inside-step : {k : ℕ} {s m u : List ℕ} {c₀ c : Cur} {w w' : List ℕ} → In s m u c₀ → Step k c₀ w c w' → Inside c₀ c
+pub inside-step : {k : ℕ} {s m u : List ℕ} {c₀ c : Cursor} {w w' : List ℕ} → In s m u c₀ → CursorStep k c₀ w c w' → StatementInside c₀ c
 inside-step h a =
     record {
       on = omega (arith, a .on);
@@ -110,7 +110,7 @@ inside-step h a =
       blocks = a .blocks;
     }
 
-pub inside-then : {k : ℕ} {c₀ c c' : Cur} {w w' : List ℕ} → Inside c₀ c → Step k c w c' w' → Inside c₀ c'
+pub inside-then : {k : ℕ} {c₀ c c' : Cursor} {w w' : List ℕ} → StatementInside c₀ c → CursorStep k c w c' w' → StatementInside c₀ c'
 inside-then i a =
     record {
       on = omega (arith, i .on, a .on);
@@ -126,10 +126,10 @@ inside-then i a =
       blocks = omega (arith, i .blocks, a .blocks);
     }
 
-pub few-vars : {s m w : List ℕ} {c₀ c : Cur} → In s m w c → Inside c₀ c → c₀ .vars ≤ c₀ .aside
+pub few-vars : {s m w : List ℕ} {c₀ c : Cursor} → In s m w c → StatementInside c₀ c → c₀ .vars ≤ c₀ .aside
 few-vars h i = omega (arith, h .ready .room .law, h .ready .room .script, h .ready .room .aside, i .old, i .low)
 
-pub arm-then : {k : ℕ} {c₀ c c' : Cur} {q : Branch} {w w' : List ℕ} → Arm c₀ c q → Step k c w c' w' → Arm c₀ c' q
+pub arm-then : {k : ℕ} {c₀ c c' : Cursor} {q : Branch} {w w' : List ℕ} → Arm c₀ c q → CursorStep k c w c' w' → Arm c₀ c' q
 arm-then a b =
     record {
       inside = inside-then (a .inside) b;
@@ -140,15 +140,15 @@ arm-then a b =
 
 -- ---- a cursor with more rows in the tables
 
-opened-after : {s m w : List ℕ} (m' : List ℕ) {c : Cur} (o : Out ℕ) → Widened m' c o → In s m w c → After 0 s c w m' w o
+opened-after : {s m w : List ℕ} (m' : List ℕ) {c : Cursor} (o : Out ℕ) → Widened m' c o → In s m w c → CursorAfter 0 s c w m' w o
 opened-after m' (done b c') v h = rw (v .0 .cur) (in-counted h (c' .counts) (v .0 .ready) (v .0 .functions) (v .0 .classes) (v .0 .blocks))
 opened-after m' (stop e) v h = tt
 
-pub opens-did : {l : Limits} {s m w m' : List ℕ} {c : Cur} {r : Opened} → Opens l m c m' r → In s m w c → Did (newBlock (View.limitsOf l)) 0 s m w c m' w (openedOf r)
+pub opens-did : {l : Limits} {s m w m' : List ℕ} {c : Cursor} {r : Opened} → Opens l m c m' r → In s m w c → CursorDid (newBlock (View.limitsOf l)) 0 s m w c m' w (openedOf r)
 opens-did {s = s} {w = w} {m' = m'} {r = r} v h = record { is = v .is s w; ok = opened-after m' (openedOf r) (v .ok) h }
 
 -- the block c of a cursor takes instructions
-pub in-block : {s m w : List ℕ} {c : Cur} → In s m w c → (b : BlockId) → b .0 < c .counts .blocks → In s m w (blockCur b c)
+pub in-block : {s m w : List ℕ} {c : Cursor} → In s m w c → (b : BlockId) → b .0 < c .counts .blocks → In s m w (blockCur b c)
 in-block h b l =
     record {
       ready = record {
@@ -162,7 +162,7 @@ in-block h b l =
       block = l;
     }
 
-pub step-block : {k : ℕ} {c c' : Cur} {w w' : List ℕ} (b : BlockId) → Step k (blockCur b c) w c' w' → Step k c w c' w'
+pub step-block : {k : ℕ} {c c' : Cursor} {w w' : List ℕ} (b : BlockId) → CursorStep k (blockCur b c) w c' w' → CursorStep k c w c' w'
 step-block b a =
     record {
       on = a .on;

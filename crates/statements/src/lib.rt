@@ -1,37 +1,37 @@
 // Statements: the readers' second cycle.
-use joins::Blocks;
-use joins::Joined;
-use joins::Phied;
+use cursor::Cursor;
+use cursor::Matched;
+use cursor::Moved;
+use cursor::Parsed;
+use ids::BlockId;
 use kinds::Kind;
-use parser::Cur;
-use parser::Matched;
-use parser::Moved;
-use parser::Parsed;
+use lexer::Lexed;
+use lexer::Word;
+use phis::Blocks;
+use phis::JoinedVars;
+use phis::NewPhi;
 use program::Given;
 use program::Limits;
 use program::NewBlock;
 use program::NewInsn;
 use program::Op;
 use program::Opnd;
-use sets::BlockId;
-use words::Lexed;
-use words::Word;
 ghost use mathlib.Core.Path.{_≡_};
 ghost use Prim.Native.Nat.{_-_, _<_};
 ghost use Rattle.rules.specs.Reading.{parseExpr, parseReturn, parseIf, parseStatements, parseStatement};
-ghost use Rattle.scopes.specs.Sorted.{Sorted};
-ghost use Rattle.env.specs.Memory.{row, vars};
-ghost use Rattle.words.specs.declared.Lexed.the-variants.{Found};
+ghost use Rattle.variables.specs.scopes.Sorted.{Sorted};
+ghost use Rattle.variables.specs.Memory.{row, vars};
+ghost use Rattle.lexer.specs.declared.Lexed.the-variants.{Found};
 ghost use Rattle.program.specs.Rows.{opndOf};
-ghost use Rattle.program.specs.View.{Ready, Small, limitsOf};
-ghost use Rattle.parser.specs.Cursor.{In};
-ghost use Rattle.parser.specs.Promises.{Did, Sees, parsedOf};
+ghost use Rattle.program.specs.View.{ProgramReady, Small, limitsOf};
+ghost use Rattle.cursor.specs.Cursor.{In};
+ghost use Rattle.cursor.specs.Promises.{CursorDid, Sees, parsedOf};
 ghost use Rattle.statements.specs.Acts.{stopsAt, parseArm, joinValue, finishIf, parseElse};
-ghost use Rattle.statements.specs.Shape.{blockCur, varsCur, Opens, AddsEnd, EndsBlock, Halts, Inside, Arm, DidFrom, OpensElse, JoinsArms, FinishesElse};
+ghost use Rattle.statements.specs.Shape.{blockCur, varsCur, Opens, AddsEnd, EndsBlock, Halts, StatementInside, Arm, DidFrom, OpensElse, JoinsArms, FinishesElse};
 
 // A block and the cursor behind its opening, or the number of a refusal.
 pub enum Opened {
-    On(Cur, BlockId),
+    On(Cursor, BlockId),
     Refused(usize),
 }
 
@@ -54,104 +54,111 @@ pub enum Stops {
 
 // ---- a cursor with one part changed
 
-fn at_block(c: Cur, b: BlockId) -> Cur
-    ensures { λ r. ⌜ r ≡ blockCur b c ⌝ }
+fn at_block(cursor: Cursor, b: BlockId) -> Cursor
+    ensures { λ r. ⌜ r ≡ blockCur b cursor ⌝ }
 {
-    let counts = c.counts;
-    let class = c.class;
-    let receiver = c.receiver;
-    Cur {
-        at: c.at,
+    let counts = cursor.counts;
+    let class = cursor.class;
+    let receiver = cursor.receiver;
+    Cursor {
+        at: cursor.at,
         counts,
         class,
         receiver,
         block: b,
-        vars: c.vars,
-        aside: c.aside,
-        args: c.args,
+        vars: cursor.vars,
+        aside: cursor.aside,
+        args: cursor.args,
     }
 }
 
-fn with_vars(c: Cur, vars: usize, aside: usize) -> Cur
-    ensures { λ r. ⌜ r ≡ varsCur vars aside c ⌝ }
+fn with_vars(cursor: Cursor, vars: usize, aside: usize) -> Cursor
+    ensures { λ r. ⌜ r ≡ varsCur vars aside cursor ⌝ }
 {
-    let counts = c.counts;
-    let class = c.class;
-    let receiver = c.receiver;
-    let block = c.block;
-    Cur {
-        at: c.at,
+    let counts = cursor.counts;
+    let class = cursor.class;
+    let receiver = cursor.receiver;
+    let block = cursor.block;
+    Cursor {
+        at: cursor.at,
         counts,
         class,
         receiver,
         block,
         vars,
         aside,
-        args: c.args,
+        args: cursor.args,
     }
 }
 
 // ---- additions to the tables
 
 // A block of the function being read, which is the last.
-fn new_block(m: &mut [usize], c: Cur, l: Limits) -> Opened
-    requires { ⌜ Ready (now m) (c .counts) ⌝ }
-    requires { ⌜ Small l ⌝ }
-    ensures { λ r. ⌜ Opens l (now (m .entry)) c (now (m .exit)) r ⌝ }
+fn new_block(program: &mut [usize], cursor: Cursor, limits: Limits) -> Opened
+    requires { ⌜ ProgramReady (now program) (cursor .counts) ⌝ }
+    requires { ⌜ Small limits ⌝ }
+    ensures { λ r. ⌜ Opens limits (now (program .entry)) cursor (now (program .exit)) r ⌝ }
 {
-    let counts = c.counts;
-    match program::next_block(m, counts, l) {
-        NewBlock::Added(b, d) => Opened::On(parser::counted(c, d), b),
+    let counts = cursor.counts;
+    match program::next_block(program, counts, limits) {
+        NewBlock::Added(b, d) => Opened::On(cursor::counted(cursor, d), b),
         NewBlock::Refused(e) => Opened::Refused(e),
     }
 }
 
 // A terminator is added to block b.
-fn add_end(m: &mut [usize], c: Cur, l: Limits, b: BlockId, op: Op, g: Given) -> Moved
-    requires { ⌜ Ready (now m) (c .counts) ⌝ }
-    requires { ⌜ Small l ⌝ }
-    requires { ⌜ b .0 < c .counts .blocks ⌝ }
-    ensures { λ r. ⌜ AddsEnd l b op g (now (m .entry)) c (now (m .exit)) r ⌝ }
+fn add_end(
+    program: &mut [usize],
+    cursor: Cursor,
+    limits: Limits,
+    b: BlockId,
+    op: Op,
+    g: Given,
+) -> Moved
+    requires { ⌜ ProgramReady (now program) (cursor .counts) ⌝ }
+    requires { ⌜ Small limits ⌝ }
+    requires { ⌜ b .0 < cursor .counts .blocks ⌝ }
+    ensures { λ r. ⌜ AddsEnd limits b op g (now (program .entry)) cursor (now (program .exit)) r ⌝ }
 {
-    let counts = c.counts;
-    match program::push_insn(m, counts, l, b, op, g) {
-        NewInsn::Added(_, d) => Moved::On(parser::counted(c, d)),
+    let counts = cursor.counts;
+    match program::push_insn(program, counts, limits, b, op, g) {
+        NewInsn::Added(_, d) => Moved::On(cursor::counted(cursor, d)),
         NewInsn::Refused(e) => Moved::Refused(e),
     }
 }
 
 // The block that takes instructions gets a terminator, unless it has one.
-pub fn end_block(m: &mut [usize], c: Cur, l: Limits, op: Op, g: Given) -> Moved
-    requires { ⌜ Ready (now m) (c .counts) ⌝ }
-    requires { ⌜ Small l ⌝ }
-    requires { ⌜ c .block .0 < c .counts .blocks ⌝ }
-    ensures { λ r. ⌜ EndsBlock l op g (now (m .entry)) c (now (m .exit)) r ⌝ }
+pub fn end_block(program: &mut [usize], cursor: Cursor, limits: Limits, op: Op, g: Given) -> Moved
+    requires { ⌜ ProgramReady (now program) (cursor .counts) ⌝ }
+    requires { ⌜ Small limits ⌝ }
+    requires { ⌜ cursor .block .0 < cursor .counts .blocks ⌝ }
+    ensures { λ r. ⌜ EndsBlock limits op g (now (program .entry)) cursor (now (program .exit)) r ⌝ }
 {
-    let b = c.block;
-    let counts = c.counts;
-    if lookups::is_terminated(m, counts, b) {
-        return Moved::On(c);
+    let b = cursor.block;
+    let counts = cursor.counts;
+    if lookups::is_terminated(program, counts, b) {
+        return Moved::On(cursor);
     }
-    add_end(m, c, l, b, op, g)
+    add_end(program, cursor, limits, b, op, g)
 }
 
 // Behind `return`.
 fn parse_return(
-    s: &[u8],
-    m: &mut [usize],
-    w: &mut [usize],
-    c: Cur,
-    l: Limits,
+    script: &[u8],
+    program: &mut [usize],
+    scratch: &mut [usize],
+    cursor: Cursor,
+    limits: Limits,
     depth: usize,
 ) -> Parsed
-    requires { ⌜ In (now s) (now m) (now w) c ⌝ }
-    requires { ⌜ Small l ⌝ }
-    ensures { λ r. ⌜ Did (parseReturn (limitsOf l) (now (s .entry)) (parseExpr (limitsOf l) (now (s .entry)) depth)) 1 (now (s .entry)) (now (m .entry)) (now (w .entry)) c (now (m .exit)) (now (w .exit)) (parsedOf r) ⌝ }
+    requires { ⌜ In (now script) (now program) (now scratch) cursor ⌝ }
+    requires { ⌜ Small limits ⌝ }
+    ensures { λ r. ⌜ CursorDid (parseReturn (limitsOf limits) (now (script .entry)) (parseExpr (limitsOf limits) (now (script .entry)) depth)) 1 (now (script .entry)) (now (program .entry)) (now (scratch .entry)) cursor (now (program .exit)) (now (scratch .exit)) (parsedOf r) ⌝ }
 {
-    match expressions::parse_expr(s, m, w, c, l, 0, depth) {
+    match expressions::parse_expr(script, program, scratch, cursor, limits, 0, depth) {
         Parsed::Done(c1, v) => {
             let b = c1.block;
-            match add_end(m, c1, l, b, Op::Return, Given::One(v)) {
+            match add_end(program, c1, limits, b, Op::Return, Given::One(v)) {
                 Moved::On(c2) => Parsed::Done(c2, Opnd::Const(Kind::Nil)),
                 Moved::Refused(e) => Parsed::Refused(e),
             }
@@ -164,29 +171,36 @@ fn parse_return(
 
 // What the then arm bound is set aside; the else arm's first block is opened, and the choice is added.
 fn open_else(
-    s: &[u8],
-    m: &mut [usize],
-    w: &mut [usize],
-    c0: Cur,
-    c: Cur,
-    l: Limits,
+    script: &[u8],
+    program: &mut [usize],
+    scratch: &mut [usize],
+    c0: Cursor,
+    cursor: Cursor,
+    limits: Limits,
     q: Branch,
 ) -> Opened
-    requires { ⌜ In (now s) (now m) (now w) c ⌝ }
-    requires { ⌜ Small l ⌝ }
-    requires { ⌜ Arm c0 c q ⌝ }
-    ensures { λ r. ⌜ OpensElse l (now (s .entry)) (now (m .entry)) (now (w .entry)) c0 c q (now (m .exit)) (now (w .exit)) r ⌝ }
+    requires { ⌜ In (now script) (now program) (now scratch) cursor ⌝ }
+    requires { ⌜ Small limits ⌝ }
+    requires { ⌜ Arm c0 cursor q ⌝ }
+    ensures { λ r. ⌜ OpensElse limits (now (script .entry)) (now (program .entry)) (now (scratch .entry)) c0 cursor q (now (program .exit)) (now (scratch .exit)) r ⌝ }
 {
-    match new_block(m, c, l) {
+    match new_block(program, cursor, limits) {
         Opened::On(c1, b) => {
             let before = c0.block;
             let v = q.cond;
             let first = q.first;
-            match add_end(m, c1, l, before, Op::IfTrue(first, b), Given::One(v)) {
+            match add_end(
+                program,
+                c1,
+                limits,
+                before,
+                Op::IfTrue(first, b),
+                Given::One(v),
+            ) {
                 Moved::On(c2) => {
                     let mark = c0.vars;
                     let top = c0.aside;
-                    let n = env::set_aside(s, w, mark, c2.vars - mark, top);
+                    let n = variables::set_aside(script, scratch, mark, c2.vars - mark, top);
                     Opened::On(at_block(with_vars(c2, mark, top + n), b), b)
                 }
                 Moved::Refused(e) => Opened::Refused(e),
@@ -198,56 +212,67 @@ fn open_else(
 
 // The join of the arms takes instructions, first a join for each variable that an arm bound.
 fn join_vars(
-    s: &[u8],
-    m: &mut [usize],
-    w: &mut [usize],
-    c0: Cur,
-    c: Cur,
-    l: Limits,
+    script: &[u8],
+    program: &mut [usize],
+    scratch: &mut [usize],
+    c0: Cursor,
+    cursor: Cursor,
+    limits: Limits,
     q: Blocks,
 ) -> Moved
-    requires { ⌜ In (now s) (now m) (now w) c ⌝ }
-    requires { ⌜ Small l ⌝ }
-    requires { ⌜ Inside c0 c ⌝ }
-    requires { ⌜ q .at .0 < c .counts .blocks ⌝ }
-    requires { ⌜ Sorted (row (now s) (now w) (c0 .aside) (c .aside - c0 .aside)) ⌝ }
-    ensures { λ r. ⌜ JoinsArms l (now (s .entry)) (now (m .entry)) (now (w .entry)) c0 c q (now (m .exit)) (now (w .exit)) r ⌝ }
+    requires { ⌜ In (now script) (now program) (now scratch) cursor ⌝ }
+    requires { ⌜ Small limits ⌝ }
+    requires { ⌜ StatementInside c0 cursor ⌝ }
+    requires { ⌜ q .at .0 < cursor .counts .blocks ⌝ }
+    requires { ⌜ Sorted (row (now script) (now scratch) (c0 .aside) (cursor .aside - c0 .aside)) ⌝ }
+    ensures { λ r. ⌜ JoinsArms limits (now (script .entry)) (now (program .entry)) (now (scratch .entry)) c0 cursor q (now (program .exit)) (now (scratch .exit)) r ⌝ }
 {
-    let counts = c.counts;
+    let counts = cursor.counts;
     let mark = c0.vars;
     let top = c0.aside;
-    match joins::join_arms(s, w, m, counts, l, q, mark, c.vars, top, c.aside - top) {
-        Joined::On(n, d) => {
+    match phis::join_arms(
+        script,
+        scratch,
+        program,
+        counts,
+        limits,
+        q,
+        mark,
+        cursor.vars,
+        top,
+        cursor.aside - top,
+    ) {
+        JoinedVars::On(n, d) => {
             let b = q.at;
-            Moved::On(at_block(with_vars(parser::counted(c, d), n, top), b))
+            Moved::On(at_block(with_vars(cursor::counted(cursor, d), n, top), b))
         }
-        Joined::Refused(e) => Moved::Refused(e),
+        JoinedVars::Refused(e) => Moved::Refused(e),
     }
 }
 
 // `end`, and the join of the arms' values.
 fn join_value(
-    s: &[u8],
-    m: &mut [usize],
-    w: &[usize],
-    c: Cur,
-    l: Limits,
+    script: &[u8],
+    program: &mut [usize],
+    scratch: &[usize],
+    cursor: Cursor,
+    limits: Limits,
     left: BlockId,
     v: Opnd,
     right: BlockId,
     x: Opnd,
 ) -> Parsed
-    requires { ⌜ In (now s) (now m) (now w) c ⌝ }
-    requires { ⌜ Small l ⌝ }
-    ensures { λ r. ⌜ Did (joinValue (limitsOf l) (now (s .entry)) (left .0) (opndOf v) (right .0) (opndOf x)) 1 (now (s .entry)) (now (m .entry)) (now (w .entry)) c (now (m .exit)) (now (w .entry)) (parsedOf r) ⌝ }
+    requires { ⌜ In (now script) (now program) (now scratch) cursor ⌝ }
+    requires { ⌜ Small limits ⌝ }
+    ensures { λ r. ⌜ CursorDid (joinValue (limitsOf limits) (now (script .entry)) (left .0) (opndOf v) (right .0) (opndOf x)) 1 (now (script .entry)) (now (program .entry)) (now (scratch .entry)) cursor (now (program .exit)) (now (scratch .entry)) (parsedOf r) ⌝ }
 {
-    match parser::expect(s, c, words::END) {
+    match cursor::expect(script, cursor, lexer::END) {
         Moved::On(c1) => {
             let counts = c1.counts;
             let at = c1.block;
-            match joins::phi(m, counts, l, Blocks { at, left, right }, v, x) {
-                Phied::Of(o, d) => Parsed::Done(parser::counted(c1, d), o),
-                Phied::Refused(e) => Parsed::Refused(e),
+            match phis::phi(program, counts, limits, Blocks { at, left, right }, v, x) {
+                NewPhi::Of(o, d) => Parsed::Done(cursor::counted(c1, d), o),
+                NewPhi::Refused(e) => Parsed::Refused(e),
             }
         }
         Moved::Refused(e) => Parsed::Refused(e),
@@ -256,31 +281,38 @@ fn join_value(
 
 // An `if` without an else arm: the choice, and the joins.
 fn finish_if(
-    s: &[u8],
-    m: &mut [usize],
-    w: &mut [usize],
-    c0: Cur,
-    c: Cur,
-    l: Limits,
+    script: &[u8],
+    program: &mut [usize],
+    scratch: &mut [usize],
+    c0: Cursor,
+    cursor: Cursor,
+    limits: Limits,
     q: Branch,
 ) -> Parsed
-    requires { ⌜ In (now s) (now m) (now w) c ⌝ }
-    requires { ⌜ Small l ⌝ }
-    requires { ⌜ Arm c0 c q ⌝ }
-    ensures { λ r. ⌜ DidFrom (finishIf (limitsOf l) (now (s .entry)) (c0 .block .0) (vars (now (s .entry)) (now (w .entry)) (c0 .vars)) (opndOf (q .cond)) (q .first .0) (q .join .0) (q .last .0) (opndOf (q .value)) (vars (now (s .entry)) (now (w .entry)) (c .vars))) 1 (now (s .entry)) (now (m .entry)) (now (w .entry)) c0 c (now (m .exit)) (now (w .exit)) (parsedOf r) ⌝ }
+    requires { ⌜ In (now script) (now program) (now scratch) cursor ⌝ }
+    requires { ⌜ Small limits ⌝ }
+    requires { ⌜ Arm c0 cursor q ⌝ }
+    ensures { λ r. ⌜ DidFrom (finishIf (limitsOf limits) (now (script .entry)) (c0 .block .0) (vars (now (script .entry)) (now (scratch .entry)) (c0 .vars)) (opndOf (q .cond)) (q .first .0) (q .join .0) (q .last .0) (opndOf (q .value)) (vars (now (script .entry)) (now (scratch .entry)) (cursor .vars))) 1 (now (script .entry)) (now (program .entry)) (now (scratch .entry)) c0 cursor (now (program .exit)) (now (scratch .exit)) (parsedOf r) ⌝ }
 {
     let before = c0.block;
     let v = q.cond;
     let first = q.first;
     let join = q.join;
-    match add_end(m, c, l, before, Op::IfTrue(first, join), Given::One(v)) {
+    match add_end(
+        program,
+        cursor,
+        limits,
+        before,
+        Op::IfTrue(first, join),
+        Given::One(v),
+    ) {
         Moved::On(c1) => match join_vars(
-            s,
-            m,
-            w,
+            script,
+            program,
+            scratch,
             c0,
             c1,
-            l,
+            limits,
             Blocks {
                 at: join,
                 left: before,
@@ -290,7 +322,17 @@ fn finish_if(
             Moved::On(c2) => {
                 let last = q.last;
                 let x = q.value;
-                join_value(s, m, w, c2, l, before, Opnd::Const(Kind::Nil), last, x)
+                join_value(
+                    script,
+                    program,
+                    scratch,
+                    c2,
+                    limits,
+                    before,
+                    Opnd::Const(Kind::Nil),
+                    last,
+                    x,
+                )
             }
             Moved::Refused(e) => Parsed::Refused(e),
         },
@@ -300,32 +342,32 @@ fn finish_if(
 
 // An `if` with an else arm, whose first block and value are b and y.
 fn finish_else(
-    s: &[u8],
-    m: &mut [usize],
-    w: &mut [usize],
-    c0: Cur,
-    c: Cur,
-    l: Limits,
+    script: &[u8],
+    program: &mut [usize],
+    scratch: &mut [usize],
+    c0: Cursor,
+    cursor: Cursor,
+    limits: Limits,
     q: Branch,
     b: BlockId,
     y: Opnd,
 ) -> Parsed
-    requires { ⌜ In (now s) (now m) (now w) c ⌝ }
-    requires { ⌜ Small l ⌝ }
-    requires { ⌜ Inside c0 c ⌝ }
-    requires { ⌜ q .join .0 < c .counts .blocks ⌝ }
-    requires { ⌜ Sorted (row (now s) (now w) (c0 .aside) (c .aside - c0 .aside)) ⌝ }
-    ensures { λ r. ⌜ FinishesElse l (now (s .entry)) (now (m .entry)) (now (w .entry)) c0 c q b y (now (m .exit)) (now (w .exit)) r ⌝ }
+    requires { ⌜ In (now script) (now program) (now scratch) cursor ⌝ }
+    requires { ⌜ Small limits ⌝ }
+    requires { ⌜ StatementInside c0 cursor ⌝ }
+    requires { ⌜ q .join .0 < cursor .counts .blocks ⌝ }
+    requires { ⌜ Sorted (row (now script) (now scratch) (c0 .aside) (cursor .aside - c0 .aside)) ⌝ }
+    ensures { λ r. ⌜ FinishesElse limits (now (script .entry)) (now (program .entry)) (now (scratch .entry)) c0 cursor q b y (now (program .exit)) (now (scratch .exit)) r ⌝ }
 {
     let left = q.first;
     let join = q.join;
     match join_vars(
-        s,
-        m,
-        w,
+        script,
+        program,
+        scratch,
         c0,
-        c,
-        l,
+        cursor,
+        limits,
         Blocks {
             at: join,
             left,
@@ -335,8 +377,8 @@ fn finish_else(
         Moved::On(c1) => {
             let last = q.last;
             let x = q.value;
-            let right = c.block;
-            join_value(s, m, w, c1, l, last, x, right, y)
+            let right = cursor.block;
+            join_value(script, program, scratch, c1, limits, last, x, right, y)
         }
         Moved::Refused(e) => Parsed::Refused(e),
     }
@@ -345,16 +387,16 @@ fn finish_else(
 // ---- the cycle
 
 // Whether the next word ends an arm, or a function's statements.
-fn at_end(s: &[u8], c: Cur, arm: bool) -> Stops
-    ensures { λ r. ⌜ Halts (now (s .entry)) arm c r ⌝ }
+fn at_end(script: &[u8], cursor: Cursor, arm: bool) -> Stops
+    ensures { λ r. ⌜ Halts (now (script .entry)) arm cursor r ⌝ }
 {
-    match parser::peek(s, c) {
+    match cursor::peek(script, cursor) {
         Lexed::Found(x) => {
-            if x.kind == words::END {
+            if x.kind == lexer::END {
                 return Stops::Here;
             }
             if arm {
-                if x.kind == words::ELSE {
+                if x.kind == lexer::ELSE {
                     return Stops::Here;
                 }
                 return Stops::Not(x);
@@ -367,29 +409,37 @@ fn at_end(s: &[u8], c: Cur, arm: bool) -> Stops
 
 // The value is that of the last statement, nil if there is none.
 pub fn parse_statements(
-    s: &[u8],
-    m: &mut [usize],
-    w: &mut [usize],
-    c: Cur,
-    l: Limits,
+    script: &[u8],
+    program: &mut [usize],
+    scratch: &mut [usize],
+    cursor: Cursor,
+    limits: Limits,
     arm: bool,
     depth: usize,
 ) -> Parsed
-    requires { ⌜ In (now s) (now m) (now w) c ⌝ }
-    requires { ⌜ Small l ⌝ }
-    ensures { λ r. ⌜ Did (parseStatements (limitsOf l) (now (s .entry)) (stopsAt arm) (parseStatement (limitsOf l) (now (s .entry)) depth)) 0 (now (s .entry)) (now (m .entry)) (now (w .entry)) c (now (m .exit)) (now (w .exit)) (parsedOf r) ⌝ }
+    requires { ⌜ In (now script) (now program) (now scratch) cursor ⌝ }
+    requires { ⌜ Small limits ⌝ }
+    ensures { λ r. ⌜ CursorDid (parseStatements (limitsOf limits) (now (script .entry)) (stopsAt arm) (parseStatement (limitsOf limits) (now (script .entry)) depth)) 0 (now (script .entry)) (now (program .entry)) (now (scratch .entry)) cursor (now (program .exit)) (now (scratch .exit)) (parsedOf r) ⌝ }
 {
-    let mut cur = c;
+    let mut cur = cursor;
     let mut v = Opnd::Const(Kind::Nil);
     loop {
-        match at_end(s, cur, arm) {
+        match at_end(script, cur, arm) {
             Stops::Refused(e) => {
                 return Parsed::Refused(e);
             }
             Stops::Here => {
                 return Parsed::Done(cur, v);
             }
-            Stops::Not(x) => match parse_statement(s, m, w, cur, l, x, depth) {
+            Stops::Not(x) => match parse_statement(
+                script,
+                program,
+                scratch,
+                cur,
+                limits,
+                x,
+                depth,
+            ) {
                 Parsed::Refused(e) => {
                     return Parsed::Refused(e);
                 }
@@ -404,21 +454,21 @@ pub fn parse_statements(
 
 // An arm, whose first block takes instructions; its last jumps to the join, unless it has a terminator.
 fn parse_block(
-    s: &[u8],
-    m: &mut [usize],
-    w: &mut [usize],
-    c: Cur,
-    l: Limits,
+    script: &[u8],
+    program: &mut [usize],
+    scratch: &mut [usize],
+    cursor: Cursor,
+    limits: Limits,
     join: BlockId,
     depth: usize,
 ) -> Parsed
-    requires { ⌜ In (now s) (now m) (now w) c ⌝ }
-    requires { ⌜ Small l ⌝ }
-    ensures { λ r. ⌜ Did (parseArm (limitsOf l) (now (s .entry)) (parseStatement (limitsOf l) (now (s .entry)) depth) (join .0)) 0 (now (s .entry)) (now (m .entry)) (now (w .entry)) c (now (m .exit)) (now (w .exit)) (parsedOf r) ⌝ }
+    requires { ⌜ In (now script) (now program) (now scratch) cursor ⌝ }
+    requires { ⌜ Small limits ⌝ }
+    ensures { λ r. ⌜ CursorDid (parseArm (limitsOf limits) (now (script .entry)) (parseStatement (limitsOf limits) (now (script .entry)) depth) (join .0)) 0 (now (script .entry)) (now (program .entry)) (now (scratch .entry)) cursor (now (program .exit)) (now (scratch .exit)) (parsedOf r) ⌝ }
 {
-    match parse_statements(s, m, w, c, l, true, depth) {
+    match parse_statements(script, program, scratch, cursor, limits, true, depth) {
         Parsed::Refused(e) => Parsed::Refused(e),
-        Parsed::Done(c1, v) => match end_block(m, c1, l, Op::Jump(join), Given::Zero) {
+        Parsed::Done(c1, v) => match end_block(program, c1, limits, Op::Jump(join), Given::Zero) {
             Moved::Refused(e) => Parsed::Refused(e),
             Moved::On(c2) => Parsed::Done(c2, v),
         },
@@ -427,30 +477,40 @@ fn parse_block(
 
 // Behind the then arm.
 fn parse_else(
-    s: &[u8],
-    m: &mut [usize],
-    w: &mut [usize],
-    c0: Cur,
-    c: Cur,
-    l: Limits,
+    script: &[u8],
+    program: &mut [usize],
+    scratch: &mut [usize],
+    c0: Cursor,
+    cursor: Cursor,
+    limits: Limits,
     q: Branch,
     depth: usize,
 ) -> Parsed
-    requires { ⌜ In (now s) (now m) (now w) c ⌝ }
-    requires { ⌜ Small l ⌝ }
-    requires { ⌜ Arm c0 c q ⌝ }
-    ensures { λ r. ⌜ DidFrom (parseElse (limitsOf l) (now (s .entry)) (parseStatement (limitsOf l) (now (s .entry)) depth) (c0 .block .0) (vars (now (s .entry)) (now (w .entry)) (c0 .vars)) (opndOf (q .cond)) (q .first .0) (q .join .0) (q .last .0) (opndOf (q .value))) 1 (now (s .entry)) (now (m .entry)) (now (w .entry)) c0 c (now (m .exit)) (now (w .exit)) (parsedOf r) ⌝ }
+    requires { ⌜ In (now script) (now program) (now scratch) cursor ⌝ }
+    requires { ⌜ Small limits ⌝ }
+    requires { ⌜ Arm c0 cursor q ⌝ }
+    ensures { λ r. ⌜ DidFrom (parseElse (limitsOf limits) (now (script .entry)) (parseStatement (limitsOf limits) (now (script .entry)) depth) (c0 .block .0) (vars (now (script .entry)) (now (scratch .entry)) (c0 .vars)) (opndOf (q .cond)) (q .first .0) (q .join .0) (q .last .0) (opndOf (q .value))) 1 (now (script .entry)) (now (program .entry)) (now (scratch .entry)) c0 cursor (now (program .exit)) (now (scratch .exit)) (parsedOf r) ⌝ }
 {
-    match parser::match_token(s, c, words::ELSE) {
+    match cursor::match_token(script, cursor, lexer::ELSE) {
         Matched::Refused(e) => Parsed::Refused(e),
-        Matched::Not => finish_if(s, m, w, c0, c, l, q),
-        Matched::Yes(c1) => match open_else(s, m, w, c0, c1, l, q) {
+        Matched::Not => finish_if(script, program, scratch, c0, cursor, limits, q),
+        Matched::Yes(c1) => match open_else(script, program, scratch, c0, c1, limits, q) {
             Opened::Refused(e) => Parsed::Refused(e),
             Opened::On(c2, b) => {
                 let join = q.join;
-                match parse_block(s, m, w, c2, l, join, depth) {
+                match parse_block(script, program, scratch, c2, limits, join, depth) {
                     Parsed::Refused(e) => Parsed::Refused(e),
-                    Parsed::Done(c3, y) => finish_else(s, m, w, c0, c3, l, q, b, y),
+                    Parsed::Done(c3, y) => finish_else(
+                        script,
+                        program,
+                        scratch,
+                        c0,
+                        c3,
+                        limits,
+                        q,
+                        b,
+                        y,
+                    ),
                 }
             }
         },
@@ -458,23 +518,30 @@ fn parse_else(
 }
 
 // Behind `if`. The blocks are numbered then, join, else.
-fn parse_if(s: &[u8], m: &mut [usize], w: &mut [usize], c: Cur, l: Limits, depth: usize) -> Parsed
-    requires { ⌜ In (now s) (now m) (now w) c ⌝ }
-    requires { ⌜ Small l ⌝ }
-    ensures { λ r. ⌜ Did (parseIf (limitsOf l) (now (s .entry)) (parseExpr (limitsOf l) (now (s .entry)) depth) (parseStatement (limitsOf l) (now (s .entry)) depth)) 1 (now (s .entry)) (now (m .entry)) (now (w .entry)) c (now (m .exit)) (now (w .exit)) (parsedOf r) ⌝ }
+fn parse_if(
+    script: &[u8],
+    program: &mut [usize],
+    scratch: &mut [usize],
+    cursor: Cursor,
+    limits: Limits,
+    depth: usize,
+) -> Parsed
+    requires { ⌜ In (now script) (now program) (now scratch) cursor ⌝ }
+    requires { ⌜ Small limits ⌝ }
+    ensures { λ r. ⌜ CursorDid (parseIf (limitsOf limits) (now (script .entry)) (parseExpr (limitsOf limits) (now (script .entry)) depth) (parseStatement (limitsOf limits) (now (script .entry)) depth)) 1 (now (script .entry)) (now (program .entry)) (now (scratch .entry)) cursor (now (program .exit)) (now (scratch .exit)) (parsedOf r) ⌝ }
 {
-    match expressions::parse_expr(s, m, w, c, l, 0, depth) {
+    match expressions::parse_expr(script, program, scratch, cursor, limits, 0, depth) {
         Parsed::Refused(e) => Parsed::Refused(e),
-        Parsed::Done(c1, v) => match new_block(m, c1, l) {
+        Parsed::Done(c1, v) => match new_block(program, c1, limits) {
             Opened::Refused(e) => Parsed::Refused(e),
-            Opened::On(c2, first) => match new_block(m, c2, l) {
+            Opened::On(c2, first) => match new_block(program, c2, limits) {
                 Opened::Refused(e) => Parsed::Refused(e),
                 Opened::On(c3, join) => match parse_block(
-                    s,
-                    m,
-                    w,
+                    script,
+                    program,
+                    scratch,
                     at_block(c3, first),
-                    l,
+                    limits,
                     join,
                     depth,
                 ) {
@@ -482,12 +549,12 @@ fn parse_if(s: &[u8], m: &mut [usize], w: &mut [usize], c: Cur, l: Limits, depth
                     Parsed::Done(c4, x) => {
                         let last = c4.block;
                         parse_else(
-                            s,
-                            m,
-                            w,
+                            script,
+                            program,
+                            scratch,
                             c1,
                             c4,
-                            l,
+                            limits,
                             Branch {
                                 cond: v,
                                 first,
@@ -506,27 +573,41 @@ fn parse_if(s: &[u8], m: &mut [usize], w: &mut [usize], c: Cur, l: Limits, depth
 
 // From the word x on, which is the next.
 fn parse_statement(
-    s: &[u8],
-    m: &mut [usize],
-    w: &mut [usize],
-    c: Cur,
-    l: Limits,
+    script: &[u8],
+    program: &mut [usize],
+    scratch: &mut [usize],
+    cursor: Cursor,
+    limits: Limits,
     x: Word,
     depth: usize,
 ) -> Parsed
-    requires { ⌜ In (now s) (now m) (now w) c ⌝ }
-    requires { ⌜ Small l ⌝ }
-    requires { ⌜ Sees (now s) c (Found x) ⌝ }
-    ensures { λ r. ⌜ Did (parseStatement (limitsOf l) (now (s .entry)) depth) 1 (now (s .entry)) (now (m .entry)) (now (w .entry)) c (now (m .exit)) (now (w .exit)) (parsedOf r) ⌝ }
+    requires { ⌜ In (now script) (now program) (now scratch) cursor ⌝ }
+    requires { ⌜ Small limits ⌝ }
+    requires { ⌜ Sees (now script) cursor (Found x) ⌝ }
+    ensures { λ r. ⌜ CursorDid (parseStatement (limitsOf limits) (now (script .entry)) depth) 1 (now (script .entry)) (now (program .entry)) (now (scratch .entry)) cursor (now (program .exit)) (now (scratch .exit)) (parsedOf r) ⌝ }
 {
-    if x.kind == words::RETURN {
-        return parse_return(s, m, w, parser::move_to(c, x.next), l, depth);
+    if x.kind == lexer::RETURN {
+        return parse_return(
+            script,
+            program,
+            scratch,
+            cursor::move_to(cursor, x.next),
+            limits,
+            depth,
+        );
     }
-    if x.kind == words::IF {
+    if x.kind == lexer::IF {
         if depth == 0 {
             return Parsed::Refused(11);
         }
-        return parse_if(s, m, w, parser::move_to(c, x.next), l, depth - 1);
+        return parse_if(
+            script,
+            program,
+            scratch,
+            cursor::move_to(cursor, x.next),
+            limits,
+            depth - 1,
+        );
     }
-    expressions::parse_from(s, m, w, c, l, x, 0, depth)
+    expressions::parse_from(script, program, scratch, cursor, limits, x, 0, depth)
 }

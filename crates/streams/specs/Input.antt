@@ -7,6 +7,6 @@ use Rattle.streams.specs.declared.Input.{Input}
 use Rattle.streams.specs.declared.Input.the-variants.{Read, Failed}
 
 -- as many bytes as the buffer has room for, at most
-abbrev pub Fits : List ℕ → Input → Type 0
-Fits d (Read n) = (n ≤ length d) × (n ≡ length (take n d))
-Fits d Failed = Unit {0}
+abbrev pub InputFits : List ℕ → Input → Type 0
+InputFits d (Read n) = (n ≤ length d) × (n ≡ length (take n d))
+InputFits d Failed = Unit {0}

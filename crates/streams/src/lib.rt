@@ -2,7 +2,7 @@
 use libc::STDIN_FILENO;
 ghost use Prim.Native.Nat.{_≤_};
 ghost use lib.ListN.{length};
-ghost use Rattle.streams.specs.Input.{Fits};
+ghost use Rattle.streams.specs.Input.{InputFits};
 
 // How often a call is made that signals interrupt before it moves a byte. Nothing bounds how many signals come, and a loop must end.
 const TRIES: usize = 10000;
@@ -53,7 +53,7 @@ pub fn write(fd: i32, bytes: &[u8]) -> usize
 
 // One read: no bytes at the end of the input.
 fn read_some(buffer: &mut [u8]) -> Input
-    ensures { λ r. ⌜ Fits (now (buffer .exit)) r ⌝ }
+    ensures { λ r. ⌜ InputFits (now (buffer .exit)) r ⌝ }
 {
     let mut tries = TRIES;
     while 0 < tries {
@@ -71,7 +71,7 @@ fn read_some(buffer: &mut [u8]) -> Input
 
 // Reads until the input ends or the buffer is full.
 pub fn read(buffer: &mut [u8]) -> Input
-    ensures { λ r. ⌜ Fits (now (buffer .exit)) r ⌝ }
+    ensures { λ r. ⌜ InputFits (now (buffer .exit)) r ⌝ }
 {
     let mut done = 0;
     while done < buffer.len() {

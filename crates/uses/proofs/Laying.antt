@@ -9,11 +9,11 @@ use native.Mathlib.Omega.{arith}
 use lib.ListN.{length, getD, set, length-set, length-append}
 use lib.Seq.{getD-set-same, getD-set-other}
 use Rattle.program.specs.Tab.{tab}
-use Rattle.program.specs.View.{Ready}
+use Rattle.program.specs.View.{ProgramReady}
 use Rattle.program.specs.declared.Counts.{Counts}
 use Rattle.program.proofs.Tables.{tab-ext, tab-more}
-use Rattle.index.specs.Chains.{pick, Chained, at}
-use Rattle.index.proofs.Lists.{Starts, chained-below, chained-none, chained-some, chained-low}
+use Rattle.chains.specs.Chains.{pick, ChainsChained, at}
+use Rattle.chains.proofs.Lists.{Starts, chained-below, chained-none, chained-some, chained-low}
 use Rattle.uses.specs.Users.{work, sumTo, usesAt, usersOf, usersTo, Cells, Linked, words, Uses}
 use Rattle.uses.proofs.Totals.{uses-is, users-room, sum-more, sum-mono}
 
@@ -52,7 +52,7 @@ words-same u a n k v h = tab-ext (λ q. getD (set u k v) (a + q) 0) (λ q. getD 
     apart (mathlib.Core.Logic.inl x) q g z = omega arith
     apart (mathlib.Core.Logic.inr x) q g z = omega arith
 
-module _ {m : List ℕ} {c : Counts} (ok : Ready m c) (a b : ℕ) (u₀ : List ℕ) (order : a + 2049 ≤ b) (room : b + 12288 ≤ length u₀) where
+module _ {m : List ℕ} {c : Counts} (ok : ProgramReady m c) (a b : ℕ) (u₀ : List ℕ) (order : a + 2049 ≤ b) (room : b + 12288 ≤ length u₀) where
   abbrev N : ℕ
   N = c .insns
 
@@ -144,7 +144,7 @@ module _ {m : List ℕ} {c : Counts} (ok : Ready m c) (a b : ℕ) (u₀ : List �
               rw e at (others-on k (λ x l. g x (omega arith)) (λ x l. h x (omega (arith, p))));
         }
 
-module _ {m : List ℕ} {c : Counts} (ok : Ready m c) (a b : ℕ) (order : a + 2049 ≤ b) {w v u : List ℕ} {j pos h : ℕ} (z : Copying m (c .insns) a b w v u j pos h) (g : h < 12288) where
+module _ {m : List ℕ} {c : Counts} (ok : ProgramReady m c) (a b : ℕ) (order : a + 2049 ≤ b) {w v u : List ℕ} {j pos h : ℕ} (z : Copying m (c .insns) a b w v u j pos h) (g : h < 12288) where
   abbrev M : ℕ
   M = c .insns
 
@@ -162,7 +162,8 @@ module _ {m : List ℕ} {c : Counts} (ok : Ready m c) (a b : ℕ) (order : a + 2
 
   pub copy-room : pos < 12288
   copy-room =
-      omega (arith, z .pos-is, z .high, ap length whole, length-append (z .front ++ x ∷ []) (more .rest), length-append (z .front) (x ∷ []), sum-mono (λ k. length (usersOf m M k)) j M (z .high), users-room ok M)
+      omega
+      (arith, z .pos-is, z .high, ap length whole, length-append (z .front ++ x ∷ []) (more .rest), length-append (z .front) (x ∷ []), sum-mono (λ k. length (usersOf m M k)) j M (z .high), users-room ok M)
 
   pub copy-inside : b + 12288 ≤ length v → b + pos < length u
   copy-inside room = omega (arith, z .len-same, copy-room)

@@ -13,17 +13,17 @@ use lib.Seq.{getD-set-same, getD-set-other}
 use Rattle.rules.specs.Lists.{any, consIf}
 use Rattle.program.specs.Tab.{tab}
 use Rattle.program.specs.Rows.{opndsAt, opndsIn, opndAt, insnAt}
-use Rattle.program.specs.View.{Ready}
+use Rattle.program.specs.View.{ProgramReady}
 use Rattle.program.specs.declared.Counts.{Counts}
 use Rattle.program.specs.declared.Row.{Row}
 use Rattle.program.specs.declared.Opnd.{Opnd}
 use Rattle.program.specs.declared.Opnd.the-variants.{Const, Insn}
 use Rattle.kinds.specs.declared.Kind.{Kind}
-use Rattle.sets.specs.declared.InsnId.{InsnId}
+use Rattle.ids.specs.declared.InsnId.{InsnId}
 use Rattle.program.proofs.Tables.{tab-more}
-use Rattle.index.specs.Chains.{pick, Chained, at, Filled}
-use Rattle.index.proofs.Lists.{pick-suc, pick-end, chained-below, chained-end, chained-more, chained-same}
-use Rattle.uses.specs.Users.{work, mostOf, usedAt, sumTo, usedTo, names, namesTo, usesAt, firstOf, Cells, front, Put, Linked}
+use Rattle.chains.specs.Chains.{pick, ChainsChained, at, ChainsFilled}
+use Rattle.chains.proofs.Lists.{pick-suc, pick-end, chained-below, chained-end, chained-more, chained-same}
+use Rattle.uses.specs.Users.{work, mostOf, usedAt, sumTo, usedTo, names, namesTo, usesAt, firstOf, Cells, front, UsersPut, Linked}
 use Rattle.uses.proofs.Totals.{used-room, sum-more}
 
 -- ---- a cell
@@ -37,17 +37,17 @@ unfolding firstOf
 first-none w h g = rw (le-ltb h 12288 g)
 
 front-new : (w : List ℕ) (e i h : ℕ) (l : List ℕ) → Cells w e h l → (firstOf w h ≡ i → ⊥) → front i l ≡ i ∷ l
-unfolding Chained
+unfolding ChainsChained
 front-new w e i h [] d ne = refl
 front-new w e i h (x ∷ l) d ne = rw (ne-eqb x i (λ q. ne (sym (first-some w h (d .1)) ∙ (sym (d .2) ∙ q))))
 
 front-old : (w : List ℕ) (e i h : ℕ) (l : List ℕ) → Cells w e h l → firstOf w h ≡ i → i < 2048 → front i l ≡ l
-unfolding Chained
+unfolding ChainsChained
 front-old w e i h [] d q g = absurd (omega (arith, first-none w h (omega arith)))
 front-old w e i h (x ∷ l) d q g = rw (eq-eqb x i (d .2 ∙ (first-some w h (d .1) ∙ q)))
 
 module _ (w : List ℕ) (e i j : ℕ) {x : ℕ} (q : x ≡ firstOf w (getD w j 0)) (fits : i < 2048) where
-  pub link-old : x ≡ i → Put e i j w w e
+  pub link-old : x ≡ i → UsersPut e i j w w e
   link-old y =
       record {
         len-same = refl;
@@ -105,7 +105,7 @@ module _ (w : List ℕ) (e i j : ℕ) {x : ℕ} (q : x ≡ firstOf w (getD w j 0
         chained-same (at w 2048) (at w 14336) (at w3 2048) (at w3 14336) 12288 e e h l (omega arith)
         (λ y p g. (item-word y g (λ z. omega arith), link-word y g (λ z. omega arith))) c
 
-    pub link-new : Put e i j w w3 (e - 1)
+    pub link-new : UsersPut e i j w w3 (e - 1)
     link-new =
         record {
           len-same = length-set w2 j d ∙ len2;
@@ -192,7 +192,7 @@ turn-start {m} {n} {i} {e} {w} {r} {k} {u} p y z l =
     }
 
 module _ {m : List ℕ} {n i used a : ℕ} {w₀ w : List ℕ} {e q : ℕ} (z : Turning m n i used a w₀ w e q) where
-  pub opnd-room : {c : Counts} → Ready m c → i < c .insns → q < used → a + 2 * q + 1 < length m
+  pub opnd-room : {c : Counts} → ProgramReady m c → i < c .insns → q < used → a + 2 * q + 1 < length m
   unfolding usedAt
   opnd-room ok h g = omega (arith, z .used-is, z .place, ok .ranges i h, ok .opnds, ok .listed, ok .insns, ok .len-mem)
 
@@ -219,7 +219,7 @@ module _ {m : List ℕ} {n i used a : ℕ} {w₀ w : List ℕ} {e q : ℕ} (z : 
     pub turn-far : {t : InsnId} → o ≡ Insn t → n ≤ t .0 → Turning m n i used a w₀ w e (q + 1)
     turn-far {t} y f = same (λ j h. ap (names j) y ∙ ne-eqb j (t .0) (λ x. omega arith))
 
-    linked : {t : InsnId} {w' : List ℕ} {r : ℕ} → o ≡ Insn t → t .0 < n → Put e i (t .0) w w' r
+    linked : {t : InsnId} {w' : List ℕ} {r : ℕ} → o ≡ Insn t → t .0 < n → UsersPut e i (t .0) w w' r
         → Cells w' r (getD w' (t .0) 0) (consIf (namesTo m i (q + 1) (t .0)) i (pick (usesAt m (t .0)) (i + 1) (n - (i + 1))))
     linked {t} y f p =
         let name : names (t .0) o ≡ true = ap (names (t .0)) y ∙ eq-eqb (t .0) (t .0) refl in
@@ -227,7 +227,7 @@ module _ {m : List ℕ} {n i used a : ℕ} {w₀ w : List ℕ} {e q : ℕ} (z : 
         (rw (front-more (namesTo m i q (t .0)) i (usesAt m (t .0)) (i + 1) (n - (i + 1)) (omega arith)) at
         (p .own (consIf (namesTo m i q (t .0)) i (pick (usesAt m (t .0)) (i + 1) (n - (i + 1)))) (z .cells (t .0) f)))
 
-    pub turn-link : {t : InsnId} {w' : List ℕ} {r : ℕ} → o ≡ Insn t → t .0 < n → n ≤ 2048 → Put e i (t .0) w w' r → Turning m n i used a w₀ w' r (q + 1)
+    pub turn-link : {t : InsnId} {w' : List ℕ} {r : ℕ} → o ≡ Insn t → t .0 < n → n ≤ 2048 → UsersPut e i (t .0) w w' r → Turning m n i used a w₀ w' r (q + 1)
     turn-link {t} {w'} {r} y f b p =
         record {
           len-same = p .len-same ∙ z .len-same;
@@ -269,7 +269,7 @@ pub record Linking (m : List ℕ) (n : ℕ) (w₀ w : List ℕ) (e i : ℕ) : Ty
   pub high : i ≤ n
   pub linked : Linked m n i e w
 
-pub all-start : {m v w : List ℕ} {c : Counts} → Ready m c → work ≤ length v → Filled 0 2048 12288 v w → Linking m (c .insns) w w 12288 (c .insns)
+pub all-start : {m v w : List ℕ} {c : Counts} → ProgramReady m c → work ≤ length v → ChainsFilled 0 2048 12288 v w → Linking m (c .insns) w w 12288 (c .insns)
 all-start {m} {v} {w} {c} ok room f =
     record {
       len-same = refl;
@@ -294,5 +294,5 @@ module _ {m : List ℕ} {n : ℕ} {w₀ w : List ℕ} {e i : ℕ} (z : Linking m
   pub all-done : i ≤ 0 → Linked m n 0 e w
   all-done h = let a : i ≡ 0 = omega arith in rw a at (z .linked)
 
-pub insn-room : {m : List ℕ} {c : Counts} {i : ℕ} {r : Row} → Ready m c → i < c .insns → r ≡ insnAt m i → r .first ≤ 12288
+pub insn-room : {m : List ℕ} {c : Counts} {i : ℕ} {r : Row} → ProgramReady m c → i < c .insns → r ≡ insnAt m i → r .first ≤ 12288
 insn-room {m} {c} {i} {r} ok h e = let f : r .first ≡ insnAt m i .first = ap (λ (x : Row). x .first) e in omega (arith, ok .ranges i h, ok .opnds, ok .listed, ok .insns)

@@ -18,15 +18,15 @@ use Rattle.rules.specs.Program.{listedCount}
 use Rattle.rules.specs.Uses.{uses}
 use Rattle.program.specs.Tab.{tab}
 use Rattle.program.specs.Rows.{opndsAt, opndsIn, opndAt, opndOf, opIn, insnAt, instructionAt}
-use Rattle.program.specs.View.{view, Ready, instructionsOf}
+use Rattle.program.specs.View.{programView, ProgramReady, instructionsOf}
 use Rattle.program.specs.declared.Counts.{Counts}
 use Rattle.program.specs.declared.Op.{Op}
 use Rattle.program.specs.declared.Op.the-variants.{Jump, IfTrue, Return, SendStatic, SendDynamic, Compute, Phi, Param, SelfParam, New, GetIvar, SetIvar}
 use Rattle.program.specs.declared.Opnd.{Opnd}
 use Rattle.program.specs.declared.Opnd.the-variants.{Const, Insn}
 use Rattle.program.proofs.Tables.{tab-length, tab-more, tab-take}
-use Rattle.index.specs.Chains.{pick}
-use Rattle.index.proofs.Lists.{pick-ext, places-tab}
+use Rattle.chains.specs.Chains.{pick}
+use Rattle.chains.proofs.Lists.{pick-ext, places-tab}
 use Rattle.uses.specs.Users.{mostOf, usedAt, sumTo, usedTo, names, namesTo, usesAt, usersOf, usersTo}
 
 -- ---- the operands of an instruction
@@ -51,7 +51,8 @@ two-names j (o ∷ p ∷ l) = rw (same-names j o, same-names j p)
 all-names : (j : ℕ) (l : List Opnd) → length l ≤ 12288 → any (P.sameOpnd (P.Insn j)) (map opndOf l) ≡ any (names j) (take 12288 l)
 all-names j l h = any-names j l ∙ ap (any (names j)) (sym (take-all 12288 l h))
 
-call-names : (j : ℕ) (l : List Opnd) → length l ≤ 12288 → (P.sameOpnd (P.Insn j) (getD (map opndOf l) 0 (P.Const Nil)) || any (P.sameOpnd (P.Insn j)) (drop 1 (map opndOf l))) ≡ any (names j) (take 12288 l)
+call-names : (j : ℕ) (l : List Opnd) → length l ≤ 12288
+    → (P.sameOpnd (P.Insn j) (getD (map opndOf l) 0 (P.Const Nil)) || any (P.sameOpnd (P.Insn j)) (drop 1 (map opndOf l))) ≡ any (names j) (take 12288 l)
 call-names j [] h = refl
 call-names j (o ∷ l) h = all-names j (o ∷ l) h
 
@@ -84,17 +85,18 @@ opnds-length : (m : List ℕ) (a n : ℕ) → length (opndsIn m a n) ≡ n
 unfolding opndsIn
 opnds-length m a n = tab-length (λ j. opndAt m (a + 2 * j)) n
 
-module _ {m : List ℕ} {c : Counts} (ok : Ready m c) where
+module _ {m : List ℕ} {c : Counts} (ok : ProgramReady m c) where
   few-opnds : (i : ℕ) → i < c .insns → insnAt m i .count ≤ 12288
   few-opnds i h = omega (arith, ok .ranges i h, ok .opnds, ok .listed, ok .insns)
 
   test-is : (s : List ℕ) (i j : ℕ) → i < c .insns → any (P.sameOpnd (P.Insn j)) (P.about (instructionAt s m i .op) .operands) ≡ usesAt m j i
   unfolding instructionAt usesAt namesTo usedAt
   test-is s i j h =
-      used-names s j (insnAt m i .op) (opndsIn m (opndsAt + 2 * insnAt m i .first) (insnAt m i .count)) (omega (arith, opnds-length m (opndsAt + 2 * insnAt m i .first) (insnAt m i .count), few-opnds i h))
+      used-names s j (insnAt m i .op) (opndsIn m (opndsAt + 2 * insnAt m i .first) (insnAt m i .count))
+      (omega (arith, opnds-length m (opndsAt + 2 * insnAt m i .first) (insnAt m i .count), few-opnds i h))
       ∙ ap (any (names j)) (opnds-take m (opndsAt + 2 * insnAt m i .first) (insnAt m i .count) (mostOf (insnAt m i .op)))
 
-  pub uses-is : (s : List ℕ) (j : ℕ) → uses (view s m c) j ≡ usersOf m (c .insns) j
+  pub uses-is : (s : List ℕ) (j : ℕ) → uses (programView s m c) j ≡ usersOf m (c .insns) j
   unfolding uses instructionsOf
   uses-is s j =
       places-tab (λ (x : P.Instruction). any (P.sameOpnd (P.Insn j)) (P.about (x .op) .operands)) (instructionAt s m) (c .insns)
@@ -135,7 +137,7 @@ unfolding sumTo instructionsOf tab
 used-few s m zero = omega arith
 used-few s m (suc n) = omega (arith, used-few s m n, used-listed s m n, sum-snoc listed (tab (instructionAt s m) n) (instructionAt s m n))
 
-pub used-room : {m : List ℕ} {c : Counts} → Ready m c → usedTo m (c .insns) ≤ 12288
+pub used-room : {m : List ℕ} {c : Counts} → ProgramReady m c → usedTo m (c .insns) ≤ 12288
 unfolding listedCount
 used-room {m} {c} ok = omega (arith, used-few [] m (c .insns), ok .listing [], ok .listed, ok .insns)
 
@@ -193,7 +195,8 @@ name-once (Insn i) k = once (i .0) k .0
 names-few : (l : List Opnd) (k : ℕ) → sumTo (λ j. cond (any (names j) l) 1 0) k ≤ length l
 names-few [] k = omega (arith, sum-zero k)
 names-few (o ∷ l) k =
-    omega (arith, sum-both (λ j. cond (names j o || any (names j) l) 1 0) (λ j. cond (names j o) 1 0) (λ j. cond (any (names j) l) 1 0) k (λ j. either (names j o) (any (names j) l)), name-once o k, names-few l k)
+    omega
+    (arith, sum-both (λ j. cond (names j o || any (names j) l) 1 0) (λ j. cond (names j o) 1 0) (λ j. cond (any (names j) l) 1 0) k (λ j. either (names j o) (any (names j) l)), name-once o k, names-few l k)
 
 uses-few : (m : List ℕ) (i k : ℕ) → sumTo (λ j. cond (usesAt m j i) 1 0) k ≤ usedAt m i
 unfolding usesAt namesTo
@@ -210,7 +213,7 @@ users-few m (suc n) k =
     let a = sum-both (λ j. length (usersOf m (suc n) j)) (λ j. length (usersOf m n j)) (λ j. cond (usesAt m j n) 1 0) k (λ j. omega (arith, count-more (usesAt m j) 0 n, ap {B = ℕ} (λ x. cond (usesAt m j x) 1 0) z)) in
     omega (arith, a, users-few m n k, uses-few m n k, sum-suc (usedAt m) n)
 
-pub users-room : {m : List ℕ} {c : Counts} → Ready m c → (k : ℕ) → usersTo m (c .insns) k ≤ 12288
+pub users-room : {m : List ℕ} {c : Counts} → ProgramReady m c → (k : ℕ) → usersTo m (c .insns) k ≤ 12288
 users-room {m} {c} ok k = omega (arith, users-few m (c .insns) k, used-room ok)
 
 pub sum-mono : (g : ℕ → ℕ) (j k : ℕ) → j < k → sumTo g j + g j ≤ sumTo g k

@@ -9,13 +9,13 @@ use Rattle.rules.specs.Lists.{any}
 use Rattle.rules.specs.Uses.{uses}
 use Rattle.program.specs.Tab.{tab}
 use Rattle.program.specs.Rows.{opndsAt, opndsIn, insnAt}
-use Rattle.program.specs.View.{view}
+use Rattle.program.specs.View.{programView}
 use Rattle.program.specs.declared.Counts.{Counts}
 use Rattle.program.specs.declared.Op.{Op}
 use Rattle.program.specs.declared.Op.the-variants.{Jump, IfTrue, Return, SendStatic, SendDynamic, Compute, Phi, Param, SelfParam, New, GetIvar, SetIvar}
 use Rattle.program.specs.declared.Opnd.{Opnd}
 use Rattle.program.specs.declared.Opnd.the-variants.{Const, Insn}
-use Rattle.index.specs.Chains.{pick, Chained, at}
+use Rattle.chains.specs.Chains.{pick, ChainsChained, at}
 
 abbrev pub work : ℕ
 work = 26624
@@ -67,14 +67,14 @@ firstOf w h = cond (ltb h 12288) (getD w (2048 + h) 0) 12288
 
 -- a list as a chain of cells, none below e
 abbrev pub Cells : List ℕ → ℕ → ℕ → List ℕ → Type 0
-Cells w e h l = Chained (at w 2048) (at w 14336) 12288 e h l
+Cells w e h l = ChainsChained (at w 2048) (at w 14336) 12288 e h l
 
 -- i in front of a list, unless it is there
 abbrev pub front : ℕ → List ℕ → List ℕ
 front i [] = i ∷ []
 front i (x ∷ l) = cond (eqb x i) (x ∷ l) (i ∷ x ∷ l)
 
-pub record Put (e i j : ℕ) (w w' : List ℕ) (r : ℕ) : Type 0 where
+pub record UsersPut (e i j : ℕ) (w w' : List ℕ) (r : ℕ) : Type 0 where
   pub len-same : length w' ≡ length w
   pub low : e ≤ r + 1
   pub high : r ≤ e
@@ -102,5 +102,5 @@ pub record Uses (m : List ℕ) (c : Counts) (starts users : ℕ) (u u' : List �
   pub rises : (j : ℕ) → j < c .insns → getD u' (starts + j) 0 ≤ getD u' (starts + (j + 1)) 0
   pub total : getD u' (starts + c .insns) 0 ≤ 12288
   pub part : (s : List ℕ) (j : ℕ) → j < c .insns
-      → words u' (users + getD u' (starts + j) 0) (getD u' (starts + (j + 1)) 0 - getD u' (starts + j) 0) ≡ uses (view s m c) j
+      → words u' (users + getD u' (starts + j) 0) (getD u' (starts + (j + 1)) 0 - getD u' (starts + j) 0) ≡ uses (programView s m c) j
   pub others : (k : ℕ) → (starts ≤ k → k < starts + (c .insns + 1) → ⊥) → (users ≤ k → k < users + getD u' (starts + c .insns) 0 → ⊥) → getD u' k 0 ≡ getD u k 0

@@ -1,13 +1,13 @@
 // For each instruction the instructions that use its result, in lent memory.
+use ids::InsnId;
 use program::Counts;
 use program::Op;
 use program::Opnd;
-use sets::InsnId;
 ghost use mathlib.Core.Path.{_≡_};
 ghost use Prim.Native.Nat.{ℕ, _+_, _*_, _≤_, _<_, min};
 ghost use lib.ListN.{length, getD};
-ghost use Rattle.program.specs.View.{Ready};
-ghost use Rattle.uses.specs.Users.{work, mostOf, usedAt, firstOf, Put, Linked, Uses};
+ghost use Rattle.program.specs.View.{ProgramReady};
+ghost use Rattle.uses.specs.Users.{work, mostOf, usedAt, firstOf, UsersPut, Linked, Uses};
 
 // The work memory: the first cell of each instruction, then each cell's user and next cell.
 const ITEMS: usize = 2048;
@@ -45,45 +45,51 @@ fn smaller(a: usize, b: usize) -> usize
 }
 
 // The user in a cell; 12,288 where there is none.
-fn first_of(w: &[usize], h: usize) -> usize
-    requires { ⌜ work ≤ length (now w) ⌝ }
-    ensures { λ r. ⌜ r ≡ firstOf (now (w .entry)) h ⌝ }
+fn first_of(scratch: &[usize], h: usize) -> usize
+    requires { ⌜ work ≤ length (now scratch) ⌝ }
+    ensures { λ r. ⌜ r ≡ firstOf (now (scratch .entry)) h ⌝ }
 {
     if h < CELLS {
-        return w[ITEMS + h];
+        return scratch[ITEMS + h];
     }
     CELLS
 }
 
 // Instruction i goes in front of the users of j, unless it is there.
-fn link(w: &mut [usize], e: usize, i: usize, j: usize) -> usize
-    requires { ⌜ work ≤ length (now w) ⌝ }
+fn link(scratch: &mut [usize], e: usize, i: usize, j: usize) -> usize
+    requires { ⌜ work ≤ length (now scratch) ⌝ }
     requires { ⌜ (0 < e) × (e ≤ 12288) ⌝ }
     requires { ⌜ (i < 2048) × (j < 2048) ⌝ }
-    ensures { λ r. ⌜ Put e i j (now (w .entry)) (now (w .exit)) r ⌝ }
+    ensures { λ r. ⌜ UsersPut e i j (now (scratch .entry)) (now (scratch .exit)) r ⌝ }
 {
-    let h = w[j];
-    let x = first_of(w, h);
+    let h = scratch[j];
+    let x = first_of(scratch, h);
     if x == i {
         return e;
     }
     let d = e - 1;
-    w[ITEMS + d] = i;
-    w[LINKS + d] = h;
-    w[j] = d;
+    scratch[ITEMS + d] = i;
+    scratch[LINKS + d] = h;
+    scratch[j] = d;
     d
 }
 
 // Instruction i is linked to those that it uses.
-fn link_insn(m: &[usize], c: Counts, w: &mut [usize], i: InsnId, from: usize) -> usize
-    requires { ⌜ Ready (now m) c ⌝ }
-    requires { ⌜ i .0 < c .insns ⌝ }
-    requires { ⌜ Linked (now m) (c .insns) (i .0 + 1) from (now w) ⌝ }
-    ensures { λ r. ⌜ Linked (now (m .entry)) (c .insns) (i .0) r (now (w .exit)) ⌝ }
+fn link_insn(
+    program: &[usize],
+    counts: Counts,
+    scratch: &mut [usize],
+    i: InsnId,
+    from: usize,
+) -> usize
+    requires { ⌜ ProgramReady (now program) counts ⌝ }
+    requires { ⌜ i .0 < counts .insns ⌝ }
+    requires { ⌜ Linked (now program) (counts .insns) (i .0 + 1) from (now scratch) ⌝ }
+    ensures { λ r. ⌜ Linked (now (program .entry)) (counts .insns) (i .0) r (now (scratch .exit)) ⌝ }
 {
     let user = i.0 as usize;
-    let n = c.insns;
-    let row = program::read_insn(m, c, i);
+    let n = counts.insns;
+    let row = program::read_insn(program, counts, i);
     let op = row.op;
     let most_used = most(op);
     let used = smaller(row.count, most_used);
@@ -91,14 +97,14 @@ fn link_insn(m: &[usize], c: Counts, w: &mut [usize], i: InsnId, from: usize) ->
     let mut e = from;
     let mut q = 0;
     while q < used {
-        let o = program::read_opnd(m, at + 2 * q);
+        let o = program::read_opnd(program, at + 2 * q);
         q += 1;
         match o {
             Opnd::Const(_) => {}
             Opnd::Insn(j) => {
                 let k = j.0 as usize;
                 if k < n {
-                    e = link(w, e, user, k);
+                    e = link(scratch, e, user, k);
                 }
             }
         }
@@ -106,46 +112,46 @@ fn link_insn(m: &[usize], c: Counts, w: &mut [usize], i: InsnId, from: usize) ->
     e
 }
 
-fn link_all(m: &[usize], c: Counts, w: &mut [usize]) -> usize
-    requires { ⌜ Ready (now m) c ⌝ }
-    requires { ⌜ work ≤ length (now w) ⌝ }
-    ensures { λ r. ⌜ Linked (now (m .entry)) (c .insns) 0 r (now (w .exit)) ⌝ }
+fn link_all(program: &[usize], counts: Counts, scratch: &mut [usize]) -> usize
+    requires { ⌜ ProgramReady (now program) counts ⌝ }
+    requires { ⌜ work ≤ length (now scratch) ⌝ }
+    ensures { λ r. ⌜ Linked (now (program .entry)) (counts .insns) 0 r (now (scratch .exit)) ⌝ }
 {
-    index::fill(w, 0, ITEMS, CELLS);
+    chains::fill(scratch, 0, ITEMS, CELLS);
     let mut e = CELLS;
-    let mut i = c.insns;
+    let mut i = counts.insns;
     while 0 < i {
         i -= 1;
-        e = link_insn(m, c, w, InsnId(i as u32), e);
+        e = link_insn(program, counts, scratch, InsnId(i as u32), e);
     }
     e
 }
 
 // The users of instruction i stand at users + u[starts + i] up to users + u[starts + i + 1].
 pub fn compute_uses(
-    m: &[usize],
-    c: Counts,
-    w: &mut [usize],
+    program: &[usize],
+    counts: Counts,
+    scratch: &mut [usize],
     u: &mut [usize],
     starts: usize,
     users: usize,
 )
-    requires { ⌜ Ready (now m) c ⌝ }
-    requires { ⌜ work ≤ length (now w) ⌝ }
+    requires { ⌜ ProgramReady (now program) counts ⌝ }
+    requires { ⌜ work ≤ length (now scratch) ⌝ }
     requires { ⌜ (starts + 2049 ≤ users) × (users + 12288 ≤ length (now u)) ⌝ }
-    ensures { λ _. ⌜ Uses (now (m .entry)) c starts users (now (u .entry)) (now (u .exit)) ⌝ }
+    ensures { λ _. ⌜ Uses (now (program .entry)) counts starts users (now (u .entry)) (now (u .exit)) ⌝ }
 {
-    link_all(m, c, w);
-    let n = c.insns;
+    link_all(program, counts, scratch);
+    let n = counts.insns;
     let mut pos = 0;
     let mut j = 0;
     while j < n {
         u[starts + j] = pos;
-        let mut h = w[j];
+        let mut h = scratch[j];
         while h < CELLS {
-            let x = w[ITEMS + h];
+            let x = scratch[ITEMS + h];
             u[users + pos] = x;
-            h = w[LINKS + h];
+            h = scratch[LINKS + h];
             pos += 1;
         }
         j += 1;

@@ -16,34 +16,34 @@ use Rattle.program.specs.Rows.{opndsAt, opndsIn, opndOf}
 use Rattle.program.specs.View.{ReadsInsn}
 use Rattle.state.specs.declared.Sizes.{Sizes}
 use Rattle.state.specs.declared.Regs.{Regs}
-use Rattle.state.specs.declared.Went.{Went}
-use Rattle.state.specs.declared.Went.the-variants as W
-use Rattle.state.specs.View.{Attrs, view, Ready}
-use Rattle.state.specs.Changes.{After}
-use Rattle.analysed.specs.Analysed.{Indexed, Fits, Steady}
+use Rattle.state.specs.declared.Acted.{Acted}
+use Rattle.state.specs.declared.Acted.the-variants as W
+use Rattle.state.specs.View.{Attrs, stateView, StateReady}
+use Rattle.state.specs.Changes.{StateAfter}
+use Rattle.machine.specs.Analysed.{Indexed, MachineFits, Steady}
 use Rattle.visits.specs.declared.Ruled.{Ruled}
-use Rattle.visits.specs.declared.Ruled.the-variants.{On, No}
+use Rattle.visits.specs.declared.Ruled.the-variants.{On, Refused}
 
 -- a change with no kind; registers with a kind
-abbrev pub nothingOf : Went → Ruled
+abbrev pub nothingOf : Acted → Ruled
 nothingOf (W.On q) = On q Empty
-nothingOf (W.No n) = No n
+nothingOf (W.Refused n) = Refused n
 
 abbrev pub kindOf : Regs → Joined → Ruled
 kindOf q (J.Of k) = On q k
-kindOf q (J.Refused n) = No n
+kindOf q (J.Refused n) = Refused n
 
 abbrev pub ruled : Sizes → Attrs → List ℕ → Ruled → Answer (Kind × State)
-ruled z v m (On q k) = answered (k, view z v m q)
-ruled z v m (No n) = refused n
+ruled z v m (On q k) = answered (k, stateView z v m q)
+ruled z v m (Refused n) = refused n
 
 abbrev pub ReadyRuled : Sizes → Regs → List ℕ → Ruled → Type 0
-ReadyRuled z q w (On r k) = After z q w r
-ReadyRuled z q w (No n) = Unit {0}
+ReadyRuled z q w (On r k) = StateAfter z q w r
+ReadyRuled z q w (Refused n) = Unit {0}
 
 -- an action that gives a kind, as `Did` of the state has one that gives none
 pub record Rules (z : Sizes) (fits : Program → Attrs → Type 0) (f : Limits → Program → Acts Kind) (m : List ℕ) (q : Regs) (w : List ℕ) (r : Ruled) : Type 0 where
-  pub is : (L : Limits) → L .worklist ≡ 16384 → (P : Program) (v : Attrs) → fits P v → ruled z v w r ≡ f L P (view z v m q)
+  pub is : (L : Limits) → L .worklist ≡ 16384 → (P : Program) (v : Attrs) → fits P v → ruled z v w r ≡ f L P (stateView z v m q)
   pub ok : ReadyRuled z q w r
 
 -- the rule of instruction i
@@ -58,6 +58,6 @@ operandsOf p row = map opndOf (opndsIn p (opndsAt + 2 * row .first) (row .count)
 pub record Visiting (s p : List ℕ) (c : Counts) (x : List ℕ) (z : Sizes) (m : List ℕ) (q : Regs) (i : ℕ) (row : Row) : Type 0 where
   pub indexed : Indexed s p c x z
   pub steady : Steady s p c z m
-  pub ready : Ready z m q
+  pub ready : StateReady z m q
   pub below : i < z .insns
   pub read : ReadsInsn p c i row

@@ -1,5 +1,5 @@
 use Rattle.attributes.specs.Attributes.{ProgramIs}
-use Rattle.receivers.proofs.Walk.{met-below, reads-met, reads-unmet}
+use Rattle.machine.proofs.receivers.Walk.{met-below, reads-met, reads-unmet}
 use Rattle.rules.specs.Machine.{getIvar}
 use Rattle.rules.specs.Actions.{fold}
 use Rattle.kinds.specs.declared.Kind.the-variants.{Empty}
@@ -10,31 +10,40 @@ use Rattle.attributes.proofs.read_ivar.Tie as tie
 use Rattle.attributes.proofs.read_ivar.Reads as reads
 use Rattle.attributes.proofs.read_ivar.Lts as lts
 use Rattle.attributes.proofs.read_each.Reads as read-each-reads
-use Rattle.receivers.proofs.classes_of.Reads as classes-of-reads
+use Rattle.machine.proofs.receivers.classes_of.Reads as classes-of-reads
 
--- src/lib.rt:148:11
 classes-of-requires : tie.Need-classes-of-requires
 classes-of-requires c κs = search needs
 
--- src/lib.rt:149:27
 enum-known-set : tie.Need-enum-known-set
 enum-known-set c = search needs
 
--- src/lib.rt:149:35
 read-each-requires : tie.Need-read-each-requires
-read-each-requires c κs = (c .before .before .before .before .before .before .before .pre .0, (c .before .before .before .before .before .before .before .pre .1 .0, met-below (c .before .before .before .before .before .before .before .args .z) (c .before .before .before .before .before .before .before .args .m .now) (c .before .before .before .before .before .before .before .args .o) (c .before .before .before .classes-of .ensures) (c .before .set .given .1) (c .before .before .before .before .before .before .before .pre .1 .1 .1)))
+read-each-requires c κs =
+    let at-set = c .before in
+    let at-classes-of = at-set .before .before in
+    let start = at-classes-of .before .before .before .before in
+    (start .pre .0, (start .pre .1 .0, met-below (start .args .sizes) (start .args .state .now) (start .args .o) (at-classes-of .classes-of .ensures) (at-set .set .given .1) (start .pre .1 .1 .1)))
 
--- src/lib.rt:150:27
 enum-known-e : tie.Need-enum-known-e
 enum-known-e c = search needs
 
--- src/lib.rt:133:1
 returns : tie.Need-returns
-returns c = reads-met (c .before .before .before .before .before .before .before .before .args .z) (c .before .before .before .before .before .before .before .before .args .m .now) (c .before .before .before .before .before .before .before .before .args .o) (c .before .before .before .before .classes-of .ensures) (ProgramIs (c .before .before .before .before .before .before .before .before .args .s .now) (c .before .before .before .before .before .before .before .before .args .p .now) (c .before .before .before .before .before .before .before .before .args .c)) (λ L p. fold (getIvar L p (nameIn (c .before .before .before .before .before .before .before .before .args .s .now) (c .before .before .before .before .before .before .before .before .args .n))) Empty) (c .before .before .set .given .1) (c .read-each .ensures)
+returns c =
+    let at-set = c .before .before in
+    let at-classes-of = at-set .before .before in
+    let start = at-classes-of .before .before .before .before in
+    reads-met (start .args .sizes) (start .args .state .now) (start .args .o) (at-classes-of .classes-of .ensures)
+    (ProgramIs (start .args .script .now) (start .args .program .now) (start .args .counts)) (λ L p. fold (getIvar L p (nameIn (start .args .script .now) (start .args .n))) Empty)
+    (at-set .set .given .1) (c .read-each .ensures)
 
--- src/lib.rt:133:1
 returns-2 : tie.Need-returns-2
-returns-2 c = reads-unmet (c .before .before .before .before .before .before .before .args .z) (c .before .before .before .before .before .before .before .args .m .now) (c .before .before .before .before .before .before .before .args .o) (c .before .before .before .classes-of .ensures) (ProgramIs (c .before .before .before .before .before .before .before .args .s .now) (c .before .before .before .before .before .before .before .args .p .now) (c .before .before .before .before .before .before .before .args .c)) (λ L p. fold (getIvar L p (nameIn (c .before .before .before .before .before .before .before .args .s .now) (c .before .before .before .before .before .before .before .args .n))) Empty) (c .before .e .given .1)
+returns-2 c =
+    let at-e = c .before in
+    let at-classes-of = at-e .before .before in
+    let start = at-classes-of .before .before .before .before in
+    reads-unmet (start .args .sizes) (start .args .state .now) (start .args .o) (at-classes-of .classes-of .ensures)
+    (ProgramIs (start .args .script .now) (start .args .program .now) (start .args .counts)) (λ L p. fold (getIvar L p (nameIn (start .args .script .now) (start .args .n))) Empty) (at-e .e .given .1)
 
 pub read-ivar-spec : {M : Type 1} → statement M
 read-ivar-spec =

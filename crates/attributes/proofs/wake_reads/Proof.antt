@@ -15,65 +15,87 @@ Inv-loop s p c m₀ z n x at₀ from₀ m at from = Waking s p c z n (x .0) m₀
 abbrev μ-loop : tie.MeasureT-loop
 μ-loop s p c m₀ z n x at₀ from₀ m at from = z .insns - from .0
 
--- src/lib.rt:216:5
 loop-holds : tie.Need-loop-holds Inv-loop μ-loop
-loop-holds c = waking-start (c .before .before .before .args .s .now) (c .before .before .before .args .p .now) (c .before .before .before .args .c) (c .before .before .before .args .z) (c .before .before .before .args .n) (c .before .before .before .args .x .0) (c .before .before .before .args .m .now) (c .before .before .before .args .q) (c .before .before .before .pre .0)
+loop-holds c =
+    let start = c .before .before .before in
+    waking-start (start .args .script .now) (start .args .program .now) (start .args .counts) (start .args .sizes) (start .args .n) (start .args .x .0) (start .args .state .now) (start .args .regs)
+    (start .pre .0)
 
--- src/lib.rt:217:15
 next-read-requires : tie.Need-next-read-requires Inv-loop μ-loop
-next-read-requires c κs = (c .before .loop .inv .after .ready .held, c .before .before .before .before .before .pre .1 .1)
+next-read-requires c κs =
+    let at-loop = c .before in
+    let start = at-loop .before .before .before .before in
+    (at-loop .loop .inv .after .ready .held, start .pre .1 .1)
 
--- src/lib.rt:218:29
 enum-known-i : tie.Need-enum-known-i Inv-loop μ-loop
 enum-known-i c = search needs
 
--- src/lib.rt:219:21
 gets-requires : tie.Need-gets-requires Inv-loop μ-loop
-gets-requires c κs = (c .before .before .before .before .before .before .before .before .before .pre .1 .0 .ready, read-there (c .before .before .before .before .before .loop .inv) (c .before .before .before .next-read .ensures) (c .before .i .given .1) (c .before .before .before .before .before .before .before .before .before .pre .1 .0))
+gets-requires c κs =
+    let at-i = c .before in
+    let at-next-read = at-i .before .before in
+    let at-loop = at-next-read .before .before in
+    let start = at-loop .before .before .before .before in
+    (start .pre .1 .0 .ready, read-there (at-loop .loop .inv) (at-next-read .next-read .ensures) (at-i .i .given .1) (start .pre .1 .0))
 
--- src/lib.rt:220:23
 push-if-requires : tie.Need-push-if-requires Inv-loop μ-loop
-push-if-requires c κs = (c .before .before .before .before .before .before .before .loop .inv .after .ready, read-below (c .before .before .before .before .before .before .before .loop .inv) (c .before .before .before .before .before .next-read .ensures) (c .before .before .before .i .given .1))
+push-if-requires c κs =
+    let at-i = c .before .before .before in
+    let at-next-read = at-i .before .before in
+    let at-loop = at-next-read .before .before in
+    (at-loop .loop .inv .after .ready, read-below (at-loop .loop .inv) (at-next-read .next-read .ensures) (at-i .i .given .1))
 
--- src/lib.rt:221:30
 enum-known-next : tie.Need-enum-known-next Inv-loop μ-loop
 enum-known-next c = search needs
 
--- src/lib.rt:223:39
 add-t21 : tie.Need-add-t21 Inv-loop μ-loop
-add-t21 c = read-fits (c .before .before .before .before .before .before .before .before .before .before .before .before .before .before .loop .inv) (c .before .before .before .before .before .before .before .before .before .before .before .before .next-read .ensures) (c .before .before .before .before .before .before .before .before .before .before .i .given .1)
+add-t21 c =
+    let at-i = c .before .before .before .before .before .before .before .before .before .before in
+    let at-next-read = at-i .before .before in
+    let at-loop = at-next-read .before .before in
+    read-fits (at-loop .loop .inv) (at-next-read .next-read .ensures) (at-i .i .given .1)
 
--- src/lib.rt:216:5
 loop-less : tie.Need-loop-less Inv-loop μ-loop
-loop-less c = read-falls (c .before .before .before .before .before .before .before .before .before .before .before .before .before .before .loop .inv) (c .before .before .before .before .before .before .before .before .before .before .before .before .next-read .ensures) (c .before .before .before .before .before .before .before .before .before .before .i .given .1)
+loop-less c =
+    let at-i = c .before .before .before .before .before .before .before .before .before .before in
+    let at-next-read = at-i .before .before in
+    let at-loop = at-next-read .before .before in
+    read-falls (at-loop .loop .inv) (at-next-read .next-read .ensures) (at-i .i .given .1)
 
--- src/lib.rt:216:5
 loop-again : tie.Need-loop-again Inv-loop μ-loop
-loop-again c = waking-more (c .before .before .before .before .before .before .before .before .before .before .before .before .before .before .loop .inv) (c .before .before .before .before .before .before .before .before .before .before .before .before .next-read .ensures) (c .before .before .before .before .before .before .before .before .before .before .i .given .1) (c .before .before .before .before .before .before .before .before .gets .ensures) (c .before .before .before .before .before .before .push-if .ensures) (search needs) (c .before .before .next .given .1)
+loop-again c =
+    waking-more (c .before .before .before .before .before .before .before .before .before .before .before .before .before .before .loop .inv)
+    (c .before .before .before .before .before .before .before .before .before .before .before .before .next-read .ensures)
+    (c .before .before .before .before .before .before .before .before .before .before .i .given .1) (c .before .before .before .before .before .before .before .before .gets .ensures)
+    (c .before .before .before .before .before .before .push-if .ensures) (search needs) (c .before .before .next .given .1)
 
--- src/lib.rt:225:30
 enum-known-e : tie.Need-enum-known-e Inv-loop μ-loop
 enum-known-e c = search needs
 
--- src/lib.rt:226:25
 same-length : tie.Need-same-length Inv-loop μ-loop
 same-length c = search needs
 
--- src/lib.rt:226:25
 returns : tie.Need-returns Inv-loop μ-loop
-returns c = waking-stop (c .before .before .before .before .before .before .before .before .before .before .before .before .before .loop .inv) (c .before .before .before .before .before .before .before .before .before .before .before .next-read .ensures) (c .before .before .before .before .before .before .before .before .before .i .given .1) (c .before .before .before .before .before .before .before .gets .ensures) (c .before .before .before .before .before .push-if .ensures) (c .before .e .given .1)
+returns c =
+    let at-e = c .before in
+    let at-push-if = at-e .before .before .before .before in
+    let at-gets = at-push-if .before .before in
+    let at-i = at-gets .before .before in
+    let at-next-read = at-i .before .before in
+    let at-loop = at-next-read .before .before in
+    waking-stop (at-loop .loop .inv) (at-next-read .next-read .ensures) (at-i .i .given .1) (at-gets .gets .ensures) (at-push-if .push-if .ensures) (at-e .e .given .1)
 
--- src/lib.rt:231:17
 enum-told : tie.Need-enum-told Inv-loop μ-loop
 enum-told c = search needs
 
--- src/lib.rt:231:17
 same-length-2 : tie.Need-same-length-2 Inv-loop μ-loop
 same-length-2 c = search needs
 
--- src/lib.rt:231:17
 returns-2 : tie.Need-returns-2 Inv-loop μ-loop
-returns-2 c = waking-done (c .before .before .before .before .loop .inv) (c .before .before .next-read .ensures) (c .enum-told .given .1)
+returns-2 c =
+    let at-next-read = c .before .before in
+    let at-loop = at-next-read .before .before in
+    waking-done (at-loop .loop .inv) (at-next-read .next-read .ensures) (c .enum-told .given .1)
 
 pub wake-reads-spec : {M : Type 1} → statement M
 wake-reads-spec =

@@ -13,73 +13,102 @@ use Rattle.lookups.proofs.ivar_named.Reads as ivar-named-reads
 use Rattle.state.proofs.ivar_at.Reads as ivar-at-reads
 use Rattle.state.proofs.set_ivar.Reads as set-ivar-reads
 
--- src/lib.rt:254:11
 ivar-named-requires : tie.Need-ivar-named-requires
 ivar-named-requires c κs = (c .before .before .before .pre .1 .0 .ready, omega (arith, c .before .before .before .pre .1 .0 .classes, c .before .before .before .pre .1 .1))
 
--- src/lib.rt:255:23
 enum-known-a : tie.Need-enum-known-a
 enum-known-a c = search needs
 
--- src/lib.rt:256:17
 ivar-at-requires : tie.Need-ivar-at-requires
-ivar-at-requires c κs = (c .before .before .before .before .before .before .before .before .pre .0 .held, (c .before .before .before .before .before .before .before .before .pre .1 .1, at-low (c .before .before .before .before .before .before .before .before .args .s .now) (c .before .before .before .before .before .before .before .before .args .p .now) (c .before .before .before .before .before .before .before .before .args .c) (c .before .before .before .before .before .before .before .before .args .x .0) (c .before .before .before .before .before .before .before .before .args .n) (c .before .before .before .before .ivar-named .ensures) (c .before .before .before .before .before .before .before .before .pre .1 .0) (c .before .before .before .before .before .before .before .before .pre .1 .1) (c .before .before .a .given .1)))
+ivar-at-requires c κs =
+    let at-a = c .before .before in
+    let at-ivar-named = at-a .before .before in
+    let start = at-ivar-named .before .before .before .before in
+    (start .pre .0 .held, (start .pre .1 .1, at-low (start .args .script .now) (start .args .program .now) (start .args .counts) (start .args .x .0) (start .args .n) (at-ivar-named .ivar-named .ensures) (start .pre .1 .0) (start .pre .1 .1) (at-a .a .given .1)))
 
--- src/lib.rt:257:19
 union-requires : tie.Need-union-requires
 union-requires c κs = search needs
 
--- src/lib.rt:258:28
 enum-known-u : tie.Need-enum-known-u
 enum-known-u c = search needs
 
--- src/lib.rt:259:24
 same-requires : tie.Need-same-requires
 same-requires c κs = search needs
 
--- src/lib.rt:260:25
 same-length : tie.Need-same-length
 same-length c = search needs
 
--- src/lib.rt:260:25
 returns : tie.Need-returns
-returns c = widen-same (c .before .before .before .before .before .before .before .before .before .before .before .before .before .before .before .args .s .now) (c .before .before .before .before .before .before .before .before .before .before .before .before .before .before .before .args .p .now) (c .before .before .before .before .before .before .before .before .before .before .before .before .before .before .before .args .c) (c .before .before .before .before .before .before .before .before .before .before .before .before .before .before .before .args .m .now) (c .before .before .before .before .before .before .before .before .before .before .before .before .before .before .before .args .z) (c .before .before .before .before .before .before .before .before .before .before .before .before .before .before .before .args .q) (c .before .before .before .before .before .before .before .before .before .before .before .before .before .before .before .args .n) (c .before .before .before .before .before .before .before .before .before .before .before .before .before .before .before .args .k) (c .before .before .before .before .before .before .before .before .before .before .before .before .before .before .before .args .x .0) (c .before .before .before .before .before .before .before .before .before .before .before .ivar-named .ensures) (c .before .before .before .before .before .before .before .before .before .before .before .before .before .before .before .pre .1 .0) (c .before .before .before .before .before .before .before .before .before .before .before .before .before .before .before .pre .1 .1) (c .before .before .before .before .before .before .before .before .before .a .given .1) (c .before .before .before .before .before .before .ivar-at .ensures) (c .before .before .before .before .before .union .ensures) (c .before .before .before .u .given .1) (c .before .same .ensures) (c .before .before .before .before .before .before .before .before .before .before .before .before .before .before .before .pre .0) (c .if1 .taken)
+returns c =
+    let at-same = c .before in
+    let at-u = at-same .before .before in
+    let at-union = at-u .before .before in
+    let at-ivar-at = at-union .before in
+    let at-a = at-ivar-at .before .before .before in
+    let at-ivar-named = at-a .before .before in
+    let start = at-ivar-named .before .before .before .before in
+    widen-same (start .args .script .now) (start .args .program .now) (start .args .counts) (start .args .state .now) (start .args .sizes) (start .args .regs) (start .args .n) (start .args .k)
+    (start .args .x .0) (at-ivar-named .ivar-named .ensures) (start .pre .1 .0) (start .pre .1 .1) (at-a .a .given .1) (at-ivar-at .ivar-at .ensures) (at-union .union .ensures) (at-u .u .given .1)
+    (at-same .same .ensures) (start .pre .0) (c .if1 .taken)
 
--- src/lib.rt:262:21
 set-ivar-requires : tie.Need-set-ivar-requires
-set-ivar-requires c κs = (c .before .before .before .before .before .before .before .before .before .before .before .before .before .before .before .before .pre .0 .held, (c .before .before .before .before .before .before .before .before .before .before .before .before .before .before .before .before .pre .1 .1, at-low (c .before .before .before .before .before .before .before .before .before .before .before .before .before .before .before .before .args .s .now) (c .before .before .before .before .before .before .before .before .before .before .before .before .before .before .before .before .args .p .now) (c .before .before .before .before .before .before .before .before .before .before .before .before .before .before .before .before .args .c) (c .before .before .before .before .before .before .before .before .before .before .before .before .before .before .before .before .args .x .0) (c .before .before .before .before .before .before .before .before .before .before .before .before .before .before .before .before .args .n) (c .before .before .before .before .before .before .before .before .before .before .before .before .ivar-named .ensures) (c .before .before .before .before .before .before .before .before .before .before .before .before .before .before .before .before .pre .1 .0) (c .before .before .before .before .before .before .before .before .before .before .before .before .before .before .before .before .pre .1 .1) (c .before .before .before .before .before .before .before .before .before .before .a .given .1)))
+set-ivar-requires c κs =
+    let at-a = c .before .before .before .before .before .before .before .before .before .before in
+    let at-ivar-named = at-a .before .before in
+    let start = at-ivar-named .before .before .before .before in
+    (start .pre .0 .held, (start .pre .1 .1, at-low (start .args .script .now) (start .args .program .now) (start .args .counts) (start .args .x .0) (start .args .n) (at-ivar-named .ivar-named .ensures) (start .pre .1 .0) (start .pre .1 .1) (at-a .a .given .1)))
 
--- src/lib.rt:263:21
 wake-reads-requires : tie.Need-wake-reads-requires
-wake-reads-requires c κs = (c .before .before .before .set-ivar .ensures .ok (c .before .before .before .before .before .before .before .before .before .before .before .before .before .before .before .before .before .before .before .before .args .q) (c .before .before .before .before .before .before .before .before .before .before .before .before .before .before .before .before .before .before .before .before .pre .0), (c .before .before .before .before .before .before .before .before .before .before .before .before .before .before .before .before .before .before .before .before .pre .1 .0, c .before .before .before .before .before .before .before .before .before .before .before .before .before .before .before .before .before .before .before .before .pre .1 .1))
+wake-reads-requires c κs =
+    let at-set-ivar = c .before .before .before in
+    let start = at-set-ivar .before .before .before .before .before .before .before .before .before .before .before .before .before .before .before .before .before in
+    (at-set-ivar .set-ivar .ensures .ok (start .args .regs) (start .pre .0), (start .pre .1 .0, start .pre .1 .1))
 
--- src/lib.rt:265:33
 enum-known-e : tie.Need-enum-known-e
 enum-known-e c = search needs
 
--- src/lib.rt:268:31
 enum-told : tie.Need-enum-told
 enum-told c = search needs
 
--- src/lib.rt:238:1
 same-length-2 : tie.Need-same-length-2
 same-length-2 c = search needs
 
--- src/lib.rt:238:1
 returns-2 : tie.Need-returns-2
-returns-2 c = widen-new (c .before .before .before .before .before .before .before .before .before .before .before .before .before .before .before .before .before .before .before .before .before .before .before .args .s .now) (c .before .before .before .before .before .before .before .before .before .before .before .before .before .before .before .before .before .before .before .before .before .before .before .args .p .now) (c .before .before .before .before .before .before .before .before .before .before .before .before .before .before .before .before .before .before .before .before .before .before .before .args .c) (c .before .before .before .before .before .before .before .before .before .before .before .before .before .before .before .before .before .before .before .before .before .before .before .args .m .now) (c .before .before .before .before .before .before .before .before .before .before .before .before .before .before .before .before .before .before .before .before .before .before .before .args .z) (c .before .before .before .before .before .before .before .before .before .before .before .before .before .before .before .before .before .before .before .before .before .before .before .args .q) (c .before .before .before .before .before .before .before .before .before .before .before .before .before .before .before .before .before .before .before .before .before .before .before .args .n) (c .before .before .before .before .before .before .before .before .before .before .before .before .before .before .before .before .before .before .before .before .before .before .before .args .k) (c .before .before .before .before .before .before .before .before .before .before .before .before .before .before .before .before .before .before .before .before .before .before .before .args .x .0) (c .before .before .before .before .before .before .before .before .before .before .before .before .before .before .before .before .before .before .before .ivar-named .ensures) (c .before .before .before .before .before .before .before .before .before .before .before .before .before .before .before .before .before .before .before .before .before .before .before .pre .1 .0) (c .before .before .before .before .before .before .before .before .before .before .before .before .before .before .before .before .before .before .before .before .before .before .before .pre .1 .1) (c .before .before .before .before .before .before .before .before .before .before .before .before .before .before .before .before .before .a .given .1) (c .before .before .before .before .before .before .before .before .before .before .before .before .before .before .ivar-at .ensures) (c .before .before .before .before .before .before .before .before .before .before .before .before .before .union .ensures) (c .before .before .before .before .before .before .before .before .before .before .before .u .given .1) (c .before .before .before .before .before .before .before .before .before .same .ensures) (c .before .before .before .before .before .before .before .before .if1 .left) (c .before .before .before .before .before .before .set-ivar .ensures) (c .before .before .wake-reads .ensures)
+returns-2 c =
+    let at-wake-reads = c .before .before in
+    let at-set-ivar = at-wake-reads .before .before .before .before in
+    let at-if1 = at-set-ivar .before .before in
+    let at-same = at-if1 .before in
+    let at-u = at-same .before .before in
+    let at-union = at-u .before .before in
+    let at-ivar-at = at-union .before in
+    let at-a = at-ivar-at .before .before .before in
+    let at-ivar-named = at-a .before .before in
+    let start = at-ivar-named .before .before .before .before in
+    widen-new (start .args .script .now) (start .args .program .now) (start .args .counts) (start .args .state .now) (start .args .sizes) (start .args .regs) (start .args .n) (start .args .k)
+    (start .args .x .0) (at-ivar-named .ivar-named .ensures) (start .pre .1 .0) (start .pre .1 .1) (at-a .a .given .1) (at-ivar-at .ivar-at .ensures) (at-union .union .ensures) (at-u .u .given .1)
+    (at-same .same .ensures) (at-if1 .if1 .left) (at-set-ivar .set-ivar .ensures) (at-wake-reads .wake-reads .ensures)
 
--- src/lib.rt:238:1
 same-length-3 : tie.Need-same-length-3
 same-length-3 c = search needs
 
--- src/lib.rt:238:1
 returns-3 : tie.Need-returns-3
-returns-3 c = widen-refused (c .before .before .before .before .before .before .before .before .before .before .before .before .before .args .s .now) (c .before .before .before .before .before .before .before .before .before .before .before .before .before .args .p .now) (c .before .before .before .before .before .before .before .before .before .before .before .before .before .args .c) (c .before .before .before .before .before .before .before .before .before .before .before .before .before .args .m .now) (c .before .before .before .before .before .before .before .before .before .before .before .before .before .args .z) (c .before .before .before .before .before .before .before .before .before .before .before .before .before .args .q) (c .before .before .before .before .before .before .before .before .before .before .before .before .before .args .n) (c .before .before .before .before .before .before .before .before .before .before .before .before .before .args .k) (c .before .before .before .before .before .before .before .before .before .before .before .before .before .args .x .0) (c .before .before .before .before .before .before .before .before .before .ivar-named .ensures) (c .before .before .before .before .before .before .before .before .before .before .before .before .before .pre .1 .0) (c .before .before .before .before .before .before .before .before .before .before .before .before .before .pre .1 .1) (c .before .before .before .before .before .before .before .a .given .1) (c .before .before .before .before .ivar-at .ensures) (c .before .before .before .union .ensures) (c .before .e .given .1)
+returns-3 c =
+    let at-e = c .before in
+    let at-union = at-e .before .before in
+    let at-ivar-at = at-union .before in
+    let at-a = at-ivar-at .before .before .before in
+    let at-ivar-named = at-a .before .before in
+    let start = at-ivar-named .before .before .before .before in
+    widen-refused (start .args .script .now) (start .args .program .now) (start .args .counts) (start .args .state .now) (start .args .sizes) (start .args .regs) (start .args .n) (start .args .k)
+    (start .args .x .0) (at-ivar-named .ivar-named .ensures) (start .pre .1 .0) (start .pre .1 .1) (at-a .a .given .1) (at-ivar-at .ivar-at .ensures) (at-union .union .ensures) (at-e .e .given .1)
 
--- src/lib.rt:238:1
 returns-4 : tie.Need-returns-4
-returns-4 c = widen-none (c .before .before .before .before .before .before .args .s .now) (c .before .before .before .before .before .before .args .p .now) (c .before .before .before .before .before .before .args .c) (c .before .before .before .before .before .before .args .m .now) (c .before .before .before .before .before .before .args .z) (c .before .before .before .before .before .before .args .q) (c .before .before .before .before .before .before .args .n) (c .before .before .before .before .before .before .args .k) (c .before .before .before .before .before .before .args .x .0) (c .before .before .ivar-named .ensures) (c .enum-told .given .1)
+returns-4 c =
+    let at-ivar-named = c .before .before in
+    let start = at-ivar-named .before .before .before .before in
+    widen-none (start .args .script .now) (start .args .program .now) (start .args .counts) (start .args .state .now) (start .args .sizes) (start .args .regs) (start .args .n) (start .args .k)
+    (start .args .x .0) (at-ivar-named .ivar-named .ensures) (c .enum-told .given .1)
 
 pub widen-one-spec : {M : Type 1} → statement M
 widen-one-spec =

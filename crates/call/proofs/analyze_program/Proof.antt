@@ -1,5 +1,5 @@
 use Rattle.call.proofs.Laws.{given, program-number, program-refused, program-answered, held-after, answer-kept, blocks-few}
-use Rattle.steps.specs.Stamps.{tablesOf as wordsOf}
+use Rattle.run.specs.Stamps.{tablesOf as wordsOf}
 use borrow.Author.Needs.{needs}
 use Rattle.call.proofs.analyze_program.Statement.{statement}
 use Rattle.call.proofs.analyze_program.Tie as tie
@@ -11,7 +11,8 @@ enum-known-q : tie.Need-enum-known-q
 enum-known-q c = search needs
 
 publish-state-requires : tie.Need-publish-state-requires
-publish-state-requires c κs = (held-after (c .before .before .before .before .before .before .before .before .before .before .before .before .before .before .before .before .before .before .before .args .script .now) (c .before .before .before .before .before .before .before .before .before .before .before .before .before .before .before .before .before .before .before .args .program .now) (c .before .before .before .before .before .before .before .before .before .before .before .before .before .before .before .before .before .before .before .args .c) (c .before .before .before .before .before .before .before .before .before .before .before .before .before .before .before .before .before .before .before .args .answer .now) (c .before .before .before .before .before .before .before .before .before .before .before .sctp .last .1 .1 .1 .0) (wordsOf (c .before .before .before .before .before .before .before .before .before .before .before .sctp .last .1 .1 .1 .1 .0)) (c .before .before .before .before .before .before .before .before .before .before .before .before .before .before .before .before .before .before .before .pre .0) (c .before .before .before .before .before .before .before .before .before .before .before .sctp .ensures) (c .before .before .before .q .given .1), (search answer-kept, search blocks-few))
+publish-state-requires c κs =
+    (held-after (c .before .before .before .before .before .before .before .before .before .before .before .before .before .before .before .before .before .before .before .args .script .now) (c .before .before .before .before .before .before .before .before .before .before .before .before .before .before .before .before .before .before .before .args .program .now) (c .before .before .before .before .before .before .before .before .before .before .before .before .before .before .before .before .before .before .before .args .counts) (c .before .before .before .before .before .before .before .before .before .before .before .before .before .before .before .before .before .before .before .args .answer .now) (c .before .before .before .before .before .before .before .before .before .before .before .sctp .last .1 .1 .1 .0) (wordsOf (c .before .before .before .before .before .before .before .before .before .before .before .sctp .last .1 .1 .1 .1 .0)) (c .before .before .before .before .before .before .before .before .before .before .before .before .before .before .before .before .before .before .before .pre .0) (c .before .before .before .before .before .before .before .before .before .before .before .sctp .ensures) (c .before .before .before .q .given .1), (search answer-kept, search blocks-few))
 
 enum-known-n : tie.Need-enum-known-n
 enum-known-n c = search needs

@@ -1,4 +1,5 @@
-use Rattle.constructors.proofs.Walking.{mark-good, mark-falls, mark-room, next-falls, next-room, last-room, walk-return, walk-open, walk-jump, walk-choice, jump-inside, then-inside, else-inside, visit-new, visit-old}
+use Rattle.constructors.proofs.Walking.{mark-good, mark-falls, mark-room, next-falls, next-room, last-room, walk-return, walk-open, walk-jump, walk-choice, jump-inside, then-inside}
+use Rattle.constructors.proofs.Walking.{else-inside, visit-new, visit-old}
 use Rattle.constructors.specs.Walks.{unseen}
 use lib.ListN.{length-set}
 use mathlib.Core.List.{[]}
@@ -37,39 +38,40 @@ walk-at t = and 3 walk-kinds.ps (is 3 walk-kinds.ps μ-walk t) walk.Pre
 abbrev walk-below : ℕ → In 3 walk-kinds.ps
 walk-below t = and 3 walk-kinds.ps (falls 3 walk-kinds.ps _<_ μ-walk t) walk.Pre
 
--- src/lib.rt:85:14
 visit-cast-at : (t : ℕ) → visit-lts.Need-cast-at (walk-below t, walk.Post) (visit-at t) visit.Post
 visit-cast-at t c = search needs
 
--- src/lib.rt:86:8
 visit-mul-if1 : (t : ℕ) → visit-lts.Need-mul-if1 (walk-below t, walk.Post) (visit-at t) visit.Post
 visit-mul-if1 t c = search needs
 
--- src/lib.rt:86:8
 visit-slice-read-if1 :
     (t : ℕ) → visit-lts.Need-slice-read-if1 (walk-below t, walk.Post) (visit-at t) visit.Post
-visit-slice-read-if1 t c = omega (arith, c .before .before .before .before .before .pre .1 .1 .1 .1 .0 .len, c .before .before .before .before .before .pre .1 .1 .1 .1 .0 .few, c .before .before .before .before .before .pre .1 .1 .1 .1 .1)
+visit-slice-read-if1 t c =
+    omega
+    (arith, c .before .before .before .before .before .pre .1 .1 .1 .1 .0 .len, c .before .before .before .before .before .pre .1 .1 .1 .1 .0 .few, c .before .before .before .before .before .pre .1 .1 .1 .1 .1)
 
--- src/lib.rt:87:9
 visit-walk-requires :
     (t : ℕ) → visit-lts.Need-walk-requires (walk-below t, walk.Post) (visit-at t) visit.Post
-visit-walk-requires t c κs = (omega arith, (c .before .before .before .before .before .before .before .pre .1 .0, (c .before .before .before .before .before .before .before .pre .1 .1 .0, (c .before .before .before .before .before .before .before .pre .1 .1 .1 .0, (c .before .before .before .before .before .before .before .pre .1 .1 .1 .1 .0, (c .before .before .before .before .before .before .before .pre .1 .1 .1 .1 .1, c .before .if1 .taken))))))
+visit-walk-requires t c κs =
+    (omega arith, (c .before .before .before .before .before .before .before .pre .1 .0, (c .before .before .before .before .before .before .before .pre .1 .1 .0, (c .before .before .before .before .before .before .before .pre .1 .1 .1 .0, (c .before .before .before .before .before .before .before .pre .1 .1 .1 .1 .0, (c .before .before .before .before .before .before .before .pre .1 .1 .1 .1 .1, c .before .if1 .taken))))))
 
--- src/lib.rt:77:1
 visit-same-length :
     (t : ℕ) → visit-lts.Need-same-length (walk-below t, walk.Post) (visit-at t) visit.Post
 visit-same-length t c = search needs
 
--- src/lib.rt:77:1
 visit-returns : (t : ℕ) → visit-lts.Need-returns (walk-below t, walk.Post) (visit-at t) visit.Post
-visit-returns t c = visit-new (c .before .before .before .before .before .before .before .before .before .before .args .m .now) (c .before .before .before .before .before .before .before .before .before .before .args .c) (c .before .before .before .before .before .before .before .before .before .before .pre .1 .1 .1 .1 .0) (c .before .before .before .before .before .before .before .before .before .before .pre .1 .1 .1 .1 .1) (c .before .before .before .before .if1 .taken) (c .before .before .walk .ensures)
+visit-returns t c =
+    let at-walk = c .before .before in
+    let at-if1 = at-walk .before .before in
+    let start = at-if1 .before .before .before .before .before .before in
+    visit-new (start .args .program .now) (start .args .counts) (start .pre .1 .1 .1 .1 .0) (start .pre .1 .1 .1 .1 .1) (at-if1 .if1 .taken) (at-walk .walk .ensures)
 
--- src/lib.rt:77:1
 visit-returns-2 :
     (t : ℕ) → visit-lts.Need-returns-2 (walk-below t, walk.Post) (visit-at t) visit.Post
-visit-returns-2 t c = visit-old (c .before .before .before .before .before .before .args .m .now) (c .before .before .before .before .before .before .args .c) (c .before .before .before .before .before .before .pre .1 .1 .1 .1 .0) (c .before .before .before .before .before .before .pre .1 .1 .1 .1 .1) (c .if1 .left)
+visit-returns-2 t c =
+    let start = c .before .before .before .before .before .before in
+    visit-old (start .args .program .now) (start .args .counts) (start .pre .1 .1 .1 .1 .0) (start .pre .1 .1 .1 .1 .1) (c .if1 .left)
 
--- src/lib.rt:103:14
 walk-cast-at : (t : ℕ) → walk-lts.Need-cast-at (
   end-of-reads.Asked,
   end-of-reads.Learnt,
@@ -80,8 +82,7 @@ walk-cast-at : (t : ℕ) → walk-lts.Need-cast-at (
 ) (walk-at t) walk.Post
 walk-cast-at t c = search needs
 
--- src/lib.rt:104:5
-walk-mul-w : (t : ℕ) → walk-lts.Need-mul-w (
+walk-mul-scratch : (t : ℕ) → walk-lts.Need-mul-scratch (
   end-of-reads.Asked,
   end-of-reads.Learnt,
   push-reads.Asked,
@@ -89,10 +90,9 @@ walk-mul-w : (t : ℕ) → walk-lts.Need-mul-w (
   visit-below t,
   visit.Post,
 ) (walk-at t) walk.Post
-walk-mul-w t c = search needs
+walk-mul-scratch t c = search needs
 
--- src/lib.rt:104:5
-walk-slice-write-w : (t : ℕ) → walk-lts.Need-slice-write-w (
+walk-slice-write-scratch : (t : ℕ) → walk-lts.Need-slice-write-scratch (
   end-of-reads.Asked,
   end-of-reads.Learnt,
   push-reads.Asked,
@@ -100,9 +100,9 @@ walk-slice-write-w : (t : ℕ) → walk-lts.Need-slice-write-w (
   visit-below t,
   visit.Post,
 ) (walk-at t) walk.Post
-walk-slice-write-w t c = omega (arith, c .before .before .before .before .pre .1 .1 .1 .1 .0 .len, c .before .before .before .before .pre .1 .1 .1 .1 .0 .few, c .before .before .before .before .pre .1 .1 .1 .1 .1 .0)
+walk-slice-write-scratch t c =
+    omega (arith, c .before .before .before .before .pre .1 .1 .1 .1 .0 .len, c .before .before .before .before .pre .1 .1 .1 .1 .0 .few, c .before .before .before .before .pre .1 .1 .1 .1 .1 .0)
 
--- src/lib.rt:105:9
 walk-end-of-requires : (t : ℕ) → walk-lts.Need-end-of-requires (
   end-of-reads.Asked,
   end-of-reads.Learnt,
@@ -113,7 +113,6 @@ walk-end-of-requires : (t : ℕ) → walk-lts.Need-end-of-requires (
 ) (walk-at t) walk.Post
 walk-end-of-requires t c κs = search needs
 
--- src/lib.rt:107:30
 walk-enum-told : (t : ℕ) → walk-lts.Need-enum-told (
   end-of-reads.Asked,
   end-of-reads.Learnt,
@@ -124,7 +123,6 @@ walk-enum-told : (t : ℕ) → walk-lts.Need-enum-told (
 ) (walk-at t) walk.Post
 walk-enum-told t c = search needs
 
--- src/lib.rt:107:25
 walk-push-requires : (t : ℕ) → walk-lts.Need-push-requires (
   end-of-reads.Asked,
   end-of-reads.Learnt,
@@ -133,9 +131,10 @@ walk-push-requires : (t : ℕ) → walk-lts.Need-push-requires (
   visit-below t,
   visit.Post,
 ) (walk-at t) walk.Post
-walk-push-requires t c κs = (mark-good [] (c .before .before .before .before .before .before .before .before .args .c) (c .before .before .before .before .before .before .before .before .pre .1 .1 .1 .1 .0) (c .before .before .before .before .before .before .before .before .pre .1 .1 .1 .1 .1 .0) (c .before .before .before .before .before .before .before .before .pre .1 .1 .1 .1 .1 .1) .len, mark-room [] (c .before .before .before .before .before .before .before .before .args .c) (c .before .before .before .before .before .before .before .before .pre .1 .1 .1 .1 .0) (c .before .before .before .before .before .before .before .before .pre .1 .1 .1 .1 .1 .0) (c .before .before .before .before .before .before .before .before .pre .1 .1 .1 .1 .1 .1))
+walk-push-requires t c κs =
+    let start = c .before .before .before .before .before .before .before .before in
+    (mark-good [] (start .args .counts) (start .pre .1 .1 .1 .1 .0) (start .pre .1 .1 .1 .1 .1 .0) (start .pre .1 .1 .1 .1 .1 .1) .len, mark-room [] (start .args .counts) (start .pre .1 .1 .1 .1 .0) (start .pre .1 .1 .1 .1 .1 .0) (start .pre .1 .1 .1 .1 .1 .1))
 
--- src/lib.rt:108:20
 walk-enum-known-e : (t : ℕ) → walk-lts.Need-enum-known-e (
   end-of-reads.Asked,
   end-of-reads.Learnt,
@@ -146,7 +145,6 @@ walk-enum-known-e : (t : ℕ) → walk-lts.Need-enum-known-e (
 ) (walk-at t) walk.Post
 walk-enum-known-e t c = search needs
 
--- src/lib.rt:109:17
 walk-visit-requires : (t : ℕ) → walk-lts.Need-visit-requires (
   end-of-reads.Asked,
   end-of-reads.Learnt,
@@ -155,9 +153,9 @@ walk-visit-requires : (t : ℕ) → walk-lts.Need-visit-requires (
   visit-below t,
   visit.Post,
 ) (walk-at t) walk.Post
-walk-visit-requires t c κs = (mark-falls [] (c .before .before .before .before .before .before .before .before .before .args .c) (c .before .before .before .before .before .before .before .before .before .pre .1 .1 .1 .1 .0) (c .before .before .before .before .before .before .before .before .before .pre .1 .1 .1 .1 .1 .0) (c .before .before .before .before .before .before .before .before .before .pre .1 .1 .1 .1 .1 .1) _ (c .before .before .before .before .before .before .before .before .before .pre .0), (c .before .before .before .before .before .before .before .before .before .pre .1 .0, (c .before .before .before .before .before .before .before .before .before .pre .1 .1 .0, (c .before .before .before .before .before .before .before .before .before .pre .1 .1 .1 .0, (mark-good [] (c .before .before .before .before .before .before .before .before .before .args .c) (c .before .before .before .before .before .before .before .before .before .pre .1 .1 .1 .1 .0) (c .before .before .before .before .before .before .before .before .before .pre .1 .1 .1 .1 .1 .0) (c .before .before .before .before .before .before .before .before .before .pre .1 .1 .1 .1 .1 .1), search jump-inside)))))
+walk-visit-requires t c κs =
+    (mark-falls [] (c .before .before .before .before .before .before .before .before .before .args .counts) (c .before .before .before .before .before .before .before .before .before .pre .1 .1 .1 .1 .0) (c .before .before .before .before .before .before .before .before .before .pre .1 .1 .1 .1 .1 .0) (c .before .before .before .before .before .before .before .before .before .pre .1 .1 .1 .1 .1 .1) _ (c .before .before .before .before .before .before .before .before .before .pre .0), (c .before .before .before .before .before .before .before .before .before .pre .1 .0, (c .before .before .before .before .before .before .before .before .before .pre .1 .1 .0, (c .before .before .before .before .before .before .before .before .before .pre .1 .1 .1 .0, (mark-good [] (c .before .before .before .before .before .before .before .before .before .args .counts) (c .before .before .before .before .before .before .before .before .before .pre .1 .1 .1 .1 .0) (c .before .before .before .before .before .before .before .before .before .pre .1 .1 .1 .1 .1 .0) (c .before .before .before .before .before .before .before .before .before .pre .1 .1 .1 .1 .1 .1), search jump-inside)))))
 
--- src/lib.rt:110:13
 walk-push-requires-2 : (t : ℕ) → walk-lts.Need-push-requires-2 (
   end-of-reads.Asked,
   end-of-reads.Learnt,
@@ -166,9 +164,11 @@ walk-push-requires-2 : (t : ℕ) → walk-lts.Need-push-requires-2 (
   visit-below t,
   visit.Post,
 ) (walk-at t) walk.Post
-walk-push-requires-2 t c κs = (c .before .before .before .visit .ensures .good .len, next-room (c .before .before .before .before .before .before .before .before .before .before .before .before .before .args .c) (c .before .before .before .before .before .before .before .before .before .before .before .before .before .pre .1 .1 .1 .1 .0) (c .before .before .before .before .before .before .before .before .before .before .before .before .before .pre .1 .1 .1 .1 .1 .0) (c .before .before .before .before .before .before .before .before .before .before .before .before .before .pre .1 .1 .1 .1 .1 .1) (c .before .before .before .visit .ensures))
+walk-push-requires-2 t c κs =
+    let at-visit = c .before .before .before in
+    let start = at-visit .before .before .before .before .before .before .before .before .before .before in
+    (at-visit .visit .ensures .good .len, next-room (start .args .counts) (start .pre .1 .1 .1 .1 .0) (start .pre .1 .1 .1 .1 .1 .0) (start .pre .1 .1 .1 .1 .1 .1) (at-visit .visit .ensures))
 
--- src/lib.rt:112:22
 walk-enum-known-e-2 : (t : ℕ) → walk-lts.Need-enum-known-e-2 (
   end-of-reads.Asked,
   end-of-reads.Learnt,
@@ -179,7 +179,6 @@ walk-enum-known-e-2 : (t : ℕ) → walk-lts.Need-enum-known-e-2 (
 ) (walk-at t) walk.Post
 walk-enum-known-e-2 t c = search needs
 
--- src/lib.rt:113:17
 walk-visit-requires-2 : (t : ℕ) → walk-lts.Need-visit-requires-2 (
   end-of-reads.Asked,
   end-of-reads.Learnt,
@@ -188,9 +187,9 @@ walk-visit-requires-2 : (t : ℕ) → walk-lts.Need-visit-requires-2 (
   visit-below t,
   visit.Post,
 ) (walk-at t) walk.Post
-walk-visit-requires-2 t c κs = (mark-falls [] (c .before .before .before .before .before .before .before .before .before .args .c) (c .before .before .before .before .before .before .before .before .before .pre .1 .1 .1 .1 .0) (c .before .before .before .before .before .before .before .before .before .pre .1 .1 .1 .1 .1 .0) (c .before .before .before .before .before .before .before .before .before .pre .1 .1 .1 .1 .1 .1) _ (c .before .before .before .before .before .before .before .before .before .pre .0), (c .before .before .before .before .before .before .before .before .before .pre .1 .0, (c .before .before .before .before .before .before .before .before .before .pre .1 .1 .0, (c .before .before .before .before .before .before .before .before .before .pre .1 .1 .1 .0, (mark-good [] (c .before .before .before .before .before .before .before .before .before .args .c) (c .before .before .before .before .before .before .before .before .before .pre .1 .1 .1 .1 .0) (c .before .before .before .before .before .before .before .before .before .pre .1 .1 .1 .1 .1 .0) (c .before .before .before .before .before .before .before .before .before .pre .1 .1 .1 .1 .1 .1), search then-inside)))))
+walk-visit-requires-2 t c κs =
+    (mark-falls [] (c .before .before .before .before .before .before .before .before .before .args .counts) (c .before .before .before .before .before .before .before .before .before .pre .1 .1 .1 .1 .0) (c .before .before .before .before .before .before .before .before .before .pre .1 .1 .1 .1 .1 .0) (c .before .before .before .before .before .before .before .before .before .pre .1 .1 .1 .1 .1 .1) _ (c .before .before .before .before .before .before .before .before .before .pre .0), (c .before .before .before .before .before .before .before .before .before .pre .1 .0, (c .before .before .before .before .before .before .before .before .before .pre .1 .1 .0, (c .before .before .before .before .before .before .before .before .before .pre .1 .1 .1 .0, (mark-good [] (c .before .before .before .before .before .before .before .before .before .args .counts) (c .before .before .before .before .before .before .before .before .before .pre .1 .1 .1 .1 .0) (c .before .before .before .before .before .before .before .before .before .pre .1 .1 .1 .1 .1 .0) (c .before .before .before .before .before .before .before .before .before .pre .1 .1 .1 .1 .1 .1), search then-inside)))))
 
--- src/lib.rt:114:17
 walk-visit-requires-3 : (t : ℕ) → walk-lts.Need-visit-requires-3 (
   end-of-reads.Asked,
   end-of-reads.Learnt,
@@ -199,9 +198,9 @@ walk-visit-requires-3 : (t : ℕ) → walk-lts.Need-visit-requires-3 (
   visit-below t,
   visit.Post,
 ) (walk-at t) walk.Post
-walk-visit-requires-3 t c κs = (next-falls (c .before .before .before .before .before .before .before .before .before .before .before .before .before .args .c) (c .before .before .before .before .before .before .before .before .before .before .before .before .before .pre .1 .1 .1 .1 .0) (c .before .before .before .before .before .before .before .before .before .before .before .before .before .pre .1 .1 .1 .1 .1 .0) (c .before .before .before .before .before .before .before .before .before .before .before .before .before .pre .1 .1 .1 .1 .1 .1) (c .before .before .before .visit2 .ensures) _ (c .before .before .before .before .before .before .before .before .before .before .before .before .before .pre .0), (c .before .before .before .before .before .before .before .before .before .before .before .before .before .pre .1 .0, (c .before .before .before .before .before .before .before .before .before .before .before .before .before .pre .1 .1 .0, (c .before .before .before .before .before .before .before .before .before .before .before .before .before .pre .1 .1 .1 .0, (c .before .before .before .visit2 .ensures .good, search else-inside)))))
+walk-visit-requires-3 t c κs =
+    (next-falls (c .before .before .before .before .before .before .before .before .before .before .before .before .before .args .counts) (c .before .before .before .before .before .before .before .before .before .before .before .before .before .pre .1 .1 .1 .1 .0) (c .before .before .before .before .before .before .before .before .before .before .before .before .before .pre .1 .1 .1 .1 .1 .0) (c .before .before .before .before .before .before .before .before .before .before .before .before .before .pre .1 .1 .1 .1 .1 .1) (c .before .before .before .visit2 .ensures) _ (c .before .before .before .before .before .before .before .before .before .before .before .before .before .pre .0), (c .before .before .before .before .before .before .before .before .before .before .before .before .before .pre .1 .0, (c .before .before .before .before .before .before .before .before .before .before .before .before .before .pre .1 .1 .0, (c .before .before .before .before .before .before .before .before .before .before .before .before .before .pre .1 .1 .1 .0, (c .before .before .before .visit2 .ensures .good, search else-inside)))))
 
--- src/lib.rt:115:13
 walk-push-requires-3 : (t : ℕ) → walk-lts.Need-push-requires-3 (
   end-of-reads.Asked,
   end-of-reads.Learnt,
@@ -210,9 +209,12 @@ walk-push-requires-3 : (t : ℕ) → walk-lts.Need-push-requires-3 (
   visit-below t,
   visit.Post,
 ) (walk-at t) walk.Post
-walk-push-requires-3 t c κs = (c .before .before .before .visit3 .ensures .good .len, last-room (c .before .before .before .before .before .before .before .before .before .before .before .before .before .before .before .before .before .args .c) (c .before .before .before .before .before .before .before .before .before .before .before .before .before .before .before .before .before .pre .1 .1 .1 .1 .0) (c .before .before .before .before .before .before .before .before .before .before .before .before .before .before .before .before .before .pre .1 .1 .1 .1 .1 .0) (c .before .before .before .before .before .before .before .before .before .before .before .before .before .before .before .before .before .pre .1 .1 .1 .1 .1 .1) (c .before .before .before .before .before .before .before .visit2 .ensures) (c .before .before .before .visit3 .ensures))
+walk-push-requires-3 t c κs =
+    let at-visit3 = c .before .before .before in
+    let at-visit2 = at-visit3 .before .before .before .before in
+    let start = at-visit2 .before .before .before .before .before .before .before .before .before .before in
+    (at-visit3 .visit3 .ensures .good .len, last-room (start .args .counts) (start .pre .1 .1 .1 .1 .0) (start .pre .1 .1 .1 .1 .1 .0) (start .pre .1 .1 .1 .1 .1 .1) (at-visit2 .visit2 .ensures) (at-visit3 .visit3 .ensures))
 
--- src/lib.rt:117:28
 walk-enum-told-2 : (t : ℕ) → walk-lts.Need-enum-told-2 (
   end-of-reads.Asked,
   end-of-reads.Learnt,
@@ -223,7 +225,6 @@ walk-enum-told-2 : (t : ℕ) → walk-lts.Need-enum-told-2 (
 ) (walk-at t) walk.Post
 walk-enum-told-2 t c = search needs
 
--- src/lib.rt:117:23
 walk-push-requires-4 : (t : ℕ) → walk-lts.Need-push-requires-4 (
   end-of-reads.Asked,
   end-of-reads.Learnt,
@@ -232,9 +233,10 @@ walk-push-requires-4 : (t : ℕ) → walk-lts.Need-push-requires-4 (
   visit-below t,
   visit.Post,
 ) (walk-at t) walk.Post
-walk-push-requires-4 t c κs = (mark-good [] (c .before .before .before .before .before .before .before .before .args .c) (c .before .before .before .before .before .before .before .before .pre .1 .1 .1 .1 .0) (c .before .before .before .before .before .before .before .before .pre .1 .1 .1 .1 .1 .0) (c .before .before .before .before .before .before .before .before .pre .1 .1 .1 .1 .1 .1) .len, mark-room [] (c .before .before .before .before .before .before .before .before .args .c) (c .before .before .before .before .before .before .before .before .pre .1 .1 .1 .1 .0) (c .before .before .before .before .before .before .before .before .pre .1 .1 .1 .1 .1 .0) (c .before .before .before .before .before .before .before .before .pre .1 .1 .1 .1 .1 .1))
+walk-push-requires-4 t c κs =
+    let start = c .before .before .before .before .before .before .before .before in
+    (mark-good [] (start .args .counts) (start .pre .1 .1 .1 .1 .0) (start .pre .1 .1 .1 .1 .1 .0) (start .pre .1 .1 .1 .1 .1 .1) .len, mark-room [] (start .args .counts) (start .pre .1 .1 .1 .1 .0) (start .pre .1 .1 .1 .1 .1 .0) (start .pre .1 .1 .1 .1 .1 .1))
 
--- src/lib.rt:94:1
 walk-same-length : (t : ℕ) → walk-lts.Need-same-length (
   end-of-reads.Asked,
   end-of-reads.Learnt,
@@ -243,9 +245,11 @@ walk-same-length : (t : ℕ) → walk-lts.Need-same-length (
   visit-below t,
   visit.Post,
 ) (walk-at t) walk.Post
-walk-same-length t c = c .before .before .push .kept .0 ∙ length-set (c .before .before .before .before .before .before .before .before .before .before .before .args .w .now) (c .before .before .before .before .before .before .before .before .before .before .before .args .b .0) 1
+walk-same-length t c =
+    let at-push = c .before .before in
+    let start = at-push .before .before .before .before .before .before .before .before .before in
+    at-push .push .kept .0 ∙ length-set (start .args .scratch .now) (start .args .b .0) 1
 
--- src/lib.rt:94:1
 walk-returns : (t : ℕ) → walk-lts.Need-returns (
   end-of-reads.Asked,
   end-of-reads.Learnt,
@@ -254,9 +258,12 @@ walk-returns : (t : ℕ) → walk-lts.Need-returns (
   visit-below t,
   visit.Post,
 ) (walk-at t) walk.Post
-walk-returns t c = walk-return (c .before .before .before .before .before .before .before .before .before .before .before .pre .1 .1 .1 .1 .0) (c .before .before .before .before .before .before .before .before .before .before .before .pre .1 .1 .1 .1 .1 .0) (c .before .before .before .before .before .before .before .before .before .before .before .pre .1 .1 .1 .1 .1 .1) (c .before .before .before .before .before .before .end-of .ensures) (search needs) (c .before .before .push .ensures .0) (c .before .before .push .ensures .1)
+walk-returns t c =
+    walk-return (c .before .before .before .before .before .before .before .before .before .before .before .pre .1 .1 .1 .1 .0)
+    (c .before .before .before .before .before .before .before .before .before .before .before .pre .1 .1 .1 .1 .1 .0)
+    (c .before .before .before .before .before .before .before .before .before .before .before .pre .1 .1 .1 .1 .1 .1) (c .before .before .before .before .before .before .end-of .ensures)
+    (search needs) (c .before .before .push .ensures .0) (c .before .before .push .ensures .1)
 
--- src/lib.rt:94:1
 walk-same-length-2 : (t : ℕ) → walk-lts.Need-same-length-2 (
   end-of-reads.Asked,
   end-of-reads.Learnt,
@@ -265,9 +272,12 @@ walk-same-length-2 : (t : ℕ) → walk-lts.Need-same-length-2 (
   visit-below t,
   visit.Post,
 ) (walk-at t) walk.Post
-walk-same-length-2 t c = c .before .before .push2 .kept .0 ∙ (c .before .before .before .before .before .before .visit .ensures .len-same ∙ length-set (c .before .before .before .before .before .before .before .before .before .before .before .before .before .before .before .before .args .w .now) (c .before .before .before .before .before .before .before .before .before .before .before .before .before .before .before .before .args .b .0) 1)
+walk-same-length-2 t c =
+    let at-push2 = c .before .before in
+    let at-visit = at-push2 .before .before .before .before in
+    let start = at-visit .before .before .before .before .before .before .before .before .before .before in
+    at-push2 .push2 .kept .0 ∙ (at-visit .visit .ensures .len-same ∙ length-set (start .args .scratch .now) (start .args .b .0) 1)
 
--- src/lib.rt:94:1
 walk-returns-2 : (t : ℕ) → walk-lts.Need-returns-2 (
   end-of-reads.Asked,
   end-of-reads.Learnt,
@@ -276,9 +286,13 @@ walk-returns-2 : (t : ℕ) → walk-lts.Need-returns-2 (
   visit-below t,
   visit.Post,
 ) (walk-at t) walk.Post
-walk-returns-2 t c = walk-jump (c .before .before .before .before .before .before .before .before .before .before .before .before .before .before .before .before .pre .1 .1 .1 .1 .0) (c .before .before .before .before .before .before .before .before .before .before .before .before .before .before .before .before .pre .1 .1 .1 .1 .1 .0) (c .before .before .before .before .before .before .before .before .before .before .before .before .before .before .before .before .pre .1 .1 .1 .1 .1 .1) (c .before .before .before .before .before .before .before .before .before .before .before .end-of .ensures) (c .before .before .before .before .before .before .visit .ensures) (search needs) (c .before .before .push2 .ensures .0) (c .before .before .push2 .ensures .1)
+walk-returns-2 t c =
+    walk-jump (c .before .before .before .before .before .before .before .before .before .before .before .before .before .before .before .before .pre .1 .1 .1 .1 .0)
+    (c .before .before .before .before .before .before .before .before .before .before .before .before .before .before .before .before .pre .1 .1 .1 .1 .1 .0)
+    (c .before .before .before .before .before .before .before .before .before .before .before .before .before .before .before .before .pre .1 .1 .1 .1 .1 .1)
+    (c .before .before .before .before .before .before .before .before .before .before .before .end-of .ensures) (c .before .before .before .before .before .before .visit .ensures) (search needs)
+    (c .before .before .push2 .ensures .0) (c .before .before .push2 .ensures .1)
 
--- src/lib.rt:94:1
 walk-same-length-3 : (t : ℕ) → walk-lts.Need-same-length-3 (
   end-of-reads.Asked,
   end-of-reads.Learnt,
@@ -287,9 +301,13 @@ walk-same-length-3 : (t : ℕ) → walk-lts.Need-same-length-3 (
   visit-below t,
   visit.Post,
 ) (walk-at t) walk.Post
-walk-same-length-3 t c = c .before .before .push3 .kept .0 ∙ (c .before .before .before .before .before .before .visit3 .ensures .len-same ∙ (c .before .before .before .before .before .before .before .before .before .before .visit2 .ensures .len-same ∙ length-set (c .before .before .before .before .before .before .before .before .before .before .before .before .before .before .before .before .before .before .before .before .args .w .now) (c .before .before .before .before .before .before .before .before .before .before .before .before .before .before .before .before .before .before .before .before .args .b .0) 1))
+walk-same-length-3 t c =
+    let at-push3 = c .before .before in
+    let at-visit3 = at-push3 .before .before .before .before in
+    let at-visit2 = at-visit3 .before .before .before .before in
+    let start = at-visit2 .before .before .before .before .before .before .before .before .before .before in
+    at-push3 .push3 .kept .0 ∙ (at-visit3 .visit3 .ensures .len-same ∙ (at-visit2 .visit2 .ensures .len-same ∙ length-set (start .args .scratch .now) (start .args .b .0) 1))
 
--- src/lib.rt:94:1
 walk-returns-3 : (t : ℕ) → walk-lts.Need-returns-3 (
   end-of-reads.Asked,
   end-of-reads.Learnt,
@@ -298,9 +316,14 @@ walk-returns-3 : (t : ℕ) → walk-lts.Need-returns-3 (
   visit-below t,
   visit.Post,
 ) (walk-at t) walk.Post
-walk-returns-3 t c = walk-choice (c .before .before .before .before .before .before .before .before .before .before .before .before .before .before .before .before .before .before .before .before .pre .1 .1 .1 .1 .0) (c .before .before .before .before .before .before .before .before .before .before .before .before .before .before .before .before .before .before .before .before .pre .1 .1 .1 .1 .1 .0) (c .before .before .before .before .before .before .before .before .before .before .before .before .before .before .before .before .before .before .before .before .pre .1 .1 .1 .1 .1 .1) (c .before .before .before .before .before .before .before .before .before .before .before .before .before .before .before .end-of .ensures) (c .before .before .before .before .before .before .before .before .before .before .visit2 .ensures) (c .before .before .before .before .before .before .visit3 .ensures) (search needs) (c .before .before .push3 .ensures .0) (c .before .before .push3 .ensures .1)
+walk-returns-3 t c =
+    walk-choice (c .before .before .before .before .before .before .before .before .before .before .before .before .before .before .before .before .before .before .before .before .pre .1 .1 .1 .1 .0)
+    (c .before .before .before .before .before .before .before .before .before .before .before .before .before .before .before .before .before .before .before .before .pre .1 .1 .1 .1 .1 .0)
+    (c .before .before .before .before .before .before .before .before .before .before .before .before .before .before .before .before .before .before .before .before .pre .1 .1 .1 .1 .1 .1)
+    (c .before .before .before .before .before .before .before .before .before .before .before .before .before .before .before .end-of .ensures)
+    (c .before .before .before .before .before .before .before .before .before .before .visit2 .ensures) (c .before .before .before .before .before .before .visit3 .ensures) (search needs)
+    (c .before .before .push3 .ensures .0) (c .before .before .push3 .ensures .1)
 
--- src/lib.rt:94:1
 walk-same-length-4 : (t : ℕ) → walk-lts.Need-same-length-4 (
   end-of-reads.Asked,
   end-of-reads.Learnt,
@@ -309,9 +332,11 @@ walk-same-length-4 : (t : ℕ) → walk-lts.Need-same-length-4 (
   visit-below t,
   visit.Post,
 ) (walk-at t) walk.Post
-walk-same-length-4 t c = c .before .before .push4 .kept .0 ∙ length-set (c .before .before .before .before .before .before .before .before .before .before .before .args .w .now) (c .before .before .before .before .before .before .before .before .before .before .before .args .b .0) 1
+walk-same-length-4 t c =
+    let at-push4 = c .before .before in
+    let start = at-push4 .before .before .before .before .before .before .before .before .before in
+    at-push4 .push4 .kept .0 ∙ length-set (start .args .scratch .now) (start .args .b .0) 1
 
--- src/lib.rt:94:1
 walk-returns-4 : (t : ℕ) → walk-lts.Need-returns-4 (
   end-of-reads.Asked,
   end-of-reads.Learnt,
@@ -320,7 +345,11 @@ walk-returns-4 : (t : ℕ) → walk-lts.Need-returns-4 (
   visit-below t,
   visit.Post,
 ) (walk-at t) walk.Post
-walk-returns-4 t c = walk-open (c .before .before .before .before .before .before .before .before .before .before .before .pre .1 .1 .1 .1 .0) (c .before .before .before .before .before .before .before .before .before .before .before .pre .1 .1 .1 .1 .1 .0) (c .before .before .before .before .before .before .before .before .before .before .before .pre .1 .1 .1 .1 .1 .1) (c .before .before .before .before .before .before .end-of .ensures) (search needs) (c .before .before .push4 .ensures .0) (c .before .before .push4 .ensures .1)
+walk-returns-4 t c =
+    walk-open (c .before .before .before .before .before .before .before .before .before .before .before .pre .1 .1 .1 .1 .0)
+    (c .before .before .before .before .before .before .before .before .before .before .before .pre .1 .1 .1 .1 .1 .0)
+    (c .before .before .before .before .before .before .before .before .before .before .before .pre .1 .1 .1 .1 .1 .1) (c .before .before .before .before .before .before .end-of .ensures)
+    (search needs) (c .before .before .push4 .ensures .0) (c .before .before .push4 .ensures .1)
 
 pub +visit+walk-spec : {M : Type 1} → statement M
 +visit+walk-spec =
@@ -349,8 +378,8 @@ pub +visit+walk-spec : {M : Type 1} → statement M
     (walk-at t)
     walk.Post
     (walk-cast-at t)
-    (walk-mul-w t)
-    (walk-slice-write-w t)
+    (walk-mul-scratch t)
+    (walk-slice-write-scratch t)
     (walk-end-of-requires t)
     (walk-enum-told t)
     (walk-push-requires t)

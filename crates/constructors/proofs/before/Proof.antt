@@ -15,71 +15,63 @@ Inv-loop m c x w n i b q₀ bits₀ met₀ q bits met = Meeting m c w n (b .0) q
 abbrev μ-loop : tie.MeasureT-loop
 μ-loop m c x w n i b q₀ bits₀ met₀ q bits met = q
 
--- src/lib.rt:180:5
 loop-holds : tie.Need-loop-holds Inv-loop μ-loop
-loop-holds c = (meet-start _ _ _ _ _, c .before .before .before .pre .1 .1 .1 .1)
+loop-holds c =
+    let start = c .before .before .before in
+    (meet-start _ _ _ _ _, start .pre .1 .1 .1 .1)
 
--- src/lib.rt:181:9
 sub-q : tie.Need-sub-q Inv-loop μ-loop
 sub-q c = search needs
 
--- src/lib.rt:182:19
 add-d : tie.Need-add-d Inv-loop μ-loop
 add-d c = search needs
 
--- src/lib.rt:182:17
 mul-d : tie.Need-mul-d Inv-loop μ-loop
 mul-d c = search needs
 
--- src/lib.rt:182:17
 shared-slice-read-d : tie.Need-shared-slice-read-d Inv-loop μ-loop
-shared-slice-read-d c = omega (arith, c .before .before .before .before .before .before .pre .1 .1 .0 .few, c .before .before .before .before .before .before .pre .1 .1 .1 .0, c .before .before .loop .inv .0 .high)
+shared-slice-read-d c =
+    omega (arith, c .before .before .before .before .before .before .pre .1 .1 .0 .few, c .before .before .before .before .before .before .pre .1 .1 .1 .0, c .before .before .loop .inv .0 .high)
 
--- src/lib.rt:183:41
 cast-t19 : tie.Need-cast-t19 Inv-loop μ-loop
-cast-t19 c = omega (arith, c .before .before .before .before .before .before .pre .1 .1 .0 .blocks (c .before .before .loop .q - 1) (omega (arith, c .before .before .loop .inv .0 .high)), c .before .before .before .before .before .before .pre .0 .blocks)
+cast-t19 c =
+    omega
+    (arith, c .before .before .before .before .before .before .pre .1 .1 .0 .blocks (c .before .before .loop .q - 1) (omega (arith, c .before .before .loop .inv .0 .high)), c .before .before .before .before .before .before .pre .0 .blocks)
 
--- src/lib.rt:183:13
 end-of-requires : tie.Need-end-of-requires Inv-loop μ-loop
-end-of-requires c κs = (c .before .before .before .before .before .before .pre .0, (c .before .before .before .before .before .before .pre .1 .0, c .before .before .before .before .before .before .pre .1 .1 .0 .blocks (c .before .before .loop .q - 1) (omega (arith, c .before .before .loop .inv .0 .high))))
+end-of-requires c κs =
+    (c .before .before .before .before .before .before .pre .0, (c .before .before .before .before .before .before .pre .1 .0, c .before .before .before .before .before .before .pre .1 .1 .0 .blocks (c .before .before .loop .q - 1) (omega (arith, c .before .before .loop .inv .0 .high))))
 
--- src/lib.rt:184:12
 leads-requires : tie.Need-leads-requires Inv-loop μ-loop
 leads-requires c κs = search needs
 
--- src/lib.rt:185:23
 add-y : tie.Need-add-y Inv-loop μ-loop
 add-y c = search needs
 
--- src/lib.rt:185:21
 mul-y : tie.Need-mul-y Inv-loop μ-loop
 mul-y c = search needs
 
--- src/lib.rt:185:21
 shared-slice-read-y : tie.Need-shared-slice-read-y Inv-loop μ-loop
-shared-slice-read-y c = omega (arith, c .before .before .before .before .before .before .before .before .before .before .pre .1 .1 .0 .few, c .before .before .before .before .before .before .before .before .before .before .pre .1 .1 .1 .0, c .before .before .before .before .before .before .loop .inv .0 .high)
+shared-slice-read-y c =
+    omega
+    (arith, c .before .before .before .before .before .before .before .before .before .before .pre .1 .1 .0 .few, c .before .before .before .before .before .before .before .before .before .before .pre .1 .1 .1 .0, c .before .before .before .before .before .before .loop .inv .0 .high)
 
--- src/lib.rt:180:5
 loop-less : tie.Need-loop-less Inv-loop μ-loop
 loop-less c = search needs
 
--- src/lib.rt:180:5
 loop-again : tie.Need-loop-again Inv-loop μ-loop
-loop-again c = (meet-more (c .before .before .before .before .before .before .loop .inv .0) (omega arith) (c .before .before .before .end-of .ensures) (c .before .before .leads .ensures) (c .before .if1 .taken), omega arith)
+loop-again c =
+    (meet-more (c .before .before .before .before .before .before .loop .inv .0) (omega arith) (c .before .before .before .end-of .ensures) (c .before .before .leads .ensures) (c .before .if1 .taken), omega arith)
 
--- src/lib.rt:180:5
 loop-less-2 : tie.Need-loop-less-2 Inv-loop μ-loop
 loop-less-2 c = search needs
 
--- src/lib.rt:180:5
 loop-again-2 : tie.Need-loop-again-2 Inv-loop μ-loop
 loop-again-2 c = (meet-skip (c .before .before .before .before .before .loop .inv .0) (omega arith) (c .before .before .end-of .ensures) (c .before .leads .ensures) (c .if1 .left), omega arith)
 
--- src/lib.rt:191:9
 returns : tie.Need-returns Inv-loop μ-loop
 returns c = meet-none (c .before .before .loop .inv .0) (omega (arith, c .before .before .loop .inv .1)) (c .if2 .taken)
 
--- src/lib.rt:170:1
 returns-2 : tie.Need-returns-2 Inv-loop μ-loop
 returns-2 c = meet-some (c .before .before .loop .inv .0) (omega (arith, c .before .before .loop .inv .1)) (c .if2 .left)
 

@@ -9,8 +9,8 @@ use Rattle.constructors.proofs.end_of.Tie as tie
 use Rattle.constructors.proofs.end_of.Reads as reads
 use Rattle.constructors.proofs.end_of.Lts as lts
 use Rattle.constructors.proofs.ends_from.Reads as ends-from-reads
-use Rattle.index.proofs.first_insn.Reads as first-insn-reads
-use Rattle.index.proofs.next_insn.Reads as next-insn-reads
+use Rattle.chains.proofs.first_insn.Reads as first-insn-reads
+use Rattle.chains.proofs.next_insn.Reads as next-insn-reads
 use Rattle.program.proofs.read_insn.Reads as read-insn-reads
 
 abbrev Inv-loop : tie.InvT-loop
@@ -23,19 +23,25 @@ cast-t10 : tie.Need-cast-t10 Inv-loop μ-loop
 cast-t10 c = search needs
 
 first-insn-requires : tie.Need-first-insn-requires Inv-loop μ-loop
-first-insn-requires c κs = ((c .before .before .pre .1 .0 .len, omega (arith, c .before .before .pre .0 .blocks)), code-word (c .before .before .pre .0) (c .before .before .pre .1 .0) (c .before .before .pre .1 .1))
+first-insn-requires c κs =
+    ((c .before .before .pre .1 .0 .len, omega (arith, c .before .before .pre .0 .blocks)), code-word (c .before .before .pre .0) (c .before .before .pre .1 .0) (c .before .before .pre .1 .1))
 
 loop-holds : tie.Need-loop-holds Inv-loop μ-loop
-loop-holds c = λ b g e. ending-start (c .before .before .before .pre .0) (c .before .before .before .pre .1 .0) g e
+loop-holds c =
+    let start = c .before .before .before in
+    λ b g e. ending-start (start .pre .0) (start .pre .1 .0) g e
 
 cast-if1 : tie.Need-cast-if1 Inv-loop μ-loop
 cast-if1 c = search needs
 
 next-insn-requires : tie.Need-next-insn-requires Inv-loop μ-loop
-next-insn-requires c κs = ((c .before .before .before .before .before .before .pre .1 .0 .len, omega (arith, c .before .before .before .before .before .before .pre .0 .insns)), code-next (c .before .before .before .before .before .before .args .x .now) ((c .before .before .loop .inv _ (c .before .before .before .before .before .before .pre .1 .1) (c .before .before .before .first-insn .ensures)) .rest) (c .before .before .before .before .before .before .pre .0) ((c .before .before .loop .inv _ (c .before .before .before .before .before .before .pre .1 .1) (c .before .before .before .first-insn .ensures)) .cells) (c .if1 .taken))
+next-insn-requires c κs =
+    ((c .before .before .before .before .before .before .pre .1 .0 .len, omega (arith, c .before .before .before .before .before .before .pre .0 .insns)), code-next (c .before .before .before .before .before .before .args .chains .now) ((c .before .before .loop .inv _ (c .before .before .before .before .before .before .pre .1 .1) (c .before .before .before .first-insn .ensures)) .rest) (c .before .before .before .before .before .before .pre .0) ((c .before .before .loop .inv _ (c .before .before .before .before .before .before .pre .1 .1) (c .before .before .before .first-insn .ensures)) .cells) (c .if1 .taken))
 
 loop-less : tie.Need-loop-less Inv-loop μ-loop
-loop-less c = omega (arith, ending-rises (c .before .before .before .loop .inv _ (c .before .before .before .before .before .before .before .pre .1 .1) (c .before .before .before .before .first-insn .ensures)) (omega arith) (c .next-insn .ensures))
+loop-less c =
+    omega
+    (arith, ending-rises (c .before .before .before .loop .inv _ (c .before .before .before .before .before .before .before .pre .1 .1) (c .before .before .before .before .first-insn .ensures)) (omega arith) (c .next-insn .ensures))
 
 loop-again : tie.Need-loop-again Inv-loop μ-loop
 loop-again c = λ b g e. ending-more (c .before .before .before .loop .inv b g e) (omega arith) (c .next-insn .ensures)
@@ -50,10 +56,19 @@ ends-from-requires : tie.Need-ends-from-requires Inv-loop μ-loop
 ends-from-requires c κs = search needs
 
 returns : tie.Need-returns Inv-loop μ-loop
-returns c = end-some (c .before .before .before .before .before .before .before .before .before .before .pre .1 .0) _ (omega (arith, c .before .before .before .before .before .before .before .before .before .before .pre .0 .blocks, c .before .before .before .before .before .before .before .before .before .before .pre .1 .1)) _ (ending-done (c .before .before .before .before .before .before .loop .inv _ (c .before .before .before .before .before .before .before .before .before .before .pre .1 .1) (c .before .before .before .before .before .before .before .first-insn .ensures)) (omega arith)) (omega arith) (c .before .read-insn .ensures .row) (c .ends-from .ensures)
+returns c =
+    end-some (c .before .before .before .before .before .before .before .before .before .before .pre .1 .0) _
+    (omega (arith, c .before .before .before .before .before .before .before .before .before .before .pre .0 .blocks, c .before .before .before .before .before .before .before .before .before .before .pre .1 .1))
+    _
+    (ending-done (c .before .before .before .before .before .before .loop .inv _ (c .before .before .before .before .before .before .before .before .before .before .pre .1 .1) (c .before .before .before .before .before .before .before .first-insn .ensures)) (omega arith))
+    (omega arith) (c .before .read-insn .ensures .row) (c .ends-from .ensures)
 
 returns-2 : tie.Need-returns-2 Inv-loop μ-loop
-returns-2 c = end-none (c .before .before .before .before .before .before .before .before .pre .1 .0) _ (omega (arith, c .before .before .before .before .before .before .before .before .pre .0 .blocks, c .before .before .before .before .before .before .before .before .pre .1 .1)) _ (ending-done (c .before .before .before .before .loop .inv _ (c .before .before .before .before .before .before .before .before .pre .1 .1) (c .before .before .before .before .before .first-insn .ensures)) (omega arith)) (omega arith)
+returns-2 c =
+    end-none (c .before .before .before .before .before .before .before .before .pre .1 .0) _
+    (omega (arith, c .before .before .before .before .before .before .before .before .pre .0 .blocks, c .before .before .before .before .before .before .before .before .pre .1 .1)) _
+    (ending-done (c .before .before .before .before .loop .inv _ (c .before .before .before .before .before .before .before .before .pre .1 .1) (c .before .before .before .before .before .first-insn .ensures)) (omega arith))
+    (omega arith)
 
 pub end-of-spec : {M : Type 1} → statement M
 end-of-spec =

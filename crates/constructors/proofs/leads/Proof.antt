@@ -5,35 +5,27 @@ use Rattle.constructors.proofs.leads.Tie as tie
 use Rattle.constructors.proofs.leads.Reads as reads
 use Rattle.constructors.proofs.leads.Lts as lts
 
--- src/lib.rt:151:25
 enum-told : tie.Need-enum-told
 enum-told c = search needs
 
--- src/lib.rt:152:20
 enum-known-e : tie.Need-enum-known-e
 enum-known-e c = search needs
 
--- src/lib.rt:153:22
 enum-known-e-2 : tie.Need-enum-known-e-2
 enum-known-e-2 c = search needs
 
--- src/lib.rt:154:23
 enum-told-2 : tie.Need-enum-told-2
 enum-told-2 c = search needs
 
--- src/lib.rt:147:1
 returns : tie.Need-returns
 returns c = search needs
 
--- src/lib.rt:147:1
 returns-2 : tie.Need-returns-2
 returns-2 c = search leads-jump
 
--- src/lib.rt:147:1
 returns-3 : tie.Need-returns-3
 returns-3 c = search leads-if
 
--- src/lib.rt:147:1
 returns-4 : tie.Need-returns-4
 returns-4 c = search needs
 

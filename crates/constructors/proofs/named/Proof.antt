@@ -1,5 +1,5 @@
 use Rattle.constructors.proofs.Naming.{Naming, name-start, name-skip, name-more, name-done, class-room, ivar-room}
-use Rattle.sets.proofs.Bits.{one-shl}
+use Rattle.ids.proofs.Bits.{one-shl}
 use Prim.Native.Nat.{_-_}
 use native.Mathlib.Omega.{arith}
 use borrow.Author.Needs.{needs}
@@ -7,7 +7,7 @@ use Rattle.constructors.proofs.named.Statement.{statement}
 use Rattle.constructors.proofs.named.Tie as tie
 use Rattle.constructors.proofs.named.Reads as reads
 use Rattle.constructors.proofs.named.Lts as lts
-use Rattle.words.proofs.same_name.Reads as same-name-reads
+use Rattle.lexer.proofs.same_name.Reads as same-name-reads
 
 abbrev Inv-loop : tie.InvT-loop
 Inv-loop s m class n start len bits₀ found₀ a₀ bits found a = Naming s m class start len bits found a
@@ -15,99 +15,92 @@ Inv-loop s m class n start len bits₀ found₀ a₀ bits found a = Naming s m c
 abbrev μ-loop : tie.MeasureT-loop
 μ-loop s m class n start len bits₀ found₀ a₀ bits found a = n - a
 
--- src/lib.rt:209:17
 cast-class : tie.Need-cast-class Inv-loop μ-loop
 cast-class c = search needs
 
--- src/lib.rt:210:25
 mul-n : tie.Need-mul-n Inv-loop μ-loop
 mul-n c = search needs
 
--- src/lib.rt:210:15
 add-n : tie.Need-add-n Inv-loop μ-loop
 add-n c = search needs
 
--- src/lib.rt:210:15
 add-n-2 : tie.Need-add-n-2 Inv-loop μ-loop
 add-n-2 c = search needs
 
--- src/lib.rt:210:13
 mul-n-2 : tie.Need-mul-n-2 Inv-loop μ-loop
 mul-n-2 c = search needs
 
--- src/lib.rt:210:13
 shared-slice-read-n : tie.Need-shared-slice-read-n Inv-loop μ-loop
-shared-slice-read-n c = class-room (c .before .before .before .before .pre .0) (c .before .before .before .before .pre .1)
+shared-slice-read-n c =
+    let start = c .before .before .before .before in
+    class-room (start .pre .0) (start .pre .1)
 
--- src/lib.rt:216:5
 loop-holds : tie.Need-loop-holds Inv-loop μ-loop
 loop-holds c = name-start _ _ _ _ _
 
--- src/lib.rt:217:26
 mul-at : tie.Need-mul-at Inv-loop μ-loop
 mul-at c = omega (arith, ivar-room (c .before .before .before .before .before .before .pre .0) (c .before .before .before .before .before .before .pre .1) (c .before .loop .a) (omega arith) .1)
 
--- src/lib.rt:217:18
 add-at : tie.Need-add-at Inv-loop μ-loop
 add-at c = omega (arith, ivar-room (c .before .before .before .before .before .before .pre .0) (c .before .before .before .before .before .before .pre .1) (c .before .loop .a) (omega arith) .1)
 
--- src/lib.rt:217:40
 mul-at-2 : tie.Need-mul-at-2 Inv-loop μ-loop
 mul-at-2 c = omega (arith, ivar-room (c .before .before .before .before .before .before .pre .0) (c .before .before .before .before .before .before .pre .1) (c .before .loop .a) (omega arith) .1)
 
--- src/lib.rt:217:18
 add-at-2 : tie.Need-add-at-2 Inv-loop μ-loop
 add-at-2 c = omega (arith, ivar-room (c .before .before .before .before .before .before .pre .0) (c .before .before .before .before .before .before .pre .1) (c .before .loop .a) (omega arith) .1)
 
--- src/lib.rt:218:40
 mul-same-name : tie.Need-mul-same-name Inv-loop μ-loop
 mul-same-name c = omega (arith, ivar-room (c .before .before .before .before .before .before .pre .0) (c .before .before .before .before .before .before .pre .1) (c .before .loop .a) (omega arith) .1)
 
--- src/lib.rt:218:40
 shared-slice-read-same-name : tie.Need-shared-slice-read-same-name Inv-loop μ-loop
-shared-slice-read-same-name c = omega (arith, ivar-room (c .before .before .before .before .before .before .before .pre .0) (c .before .before .before .before .before .before .before .pre .1) (c .before .before .loop .a) (omega arith) .0)
+shared-slice-read-same-name c =
+    omega
+    (arith, ivar-room (c .before .before .before .before .before .before .before .pre .0) (c .before .before .before .before .before .before .before .pre .1) (c .before .before .loop .a) (omega arith) .0)
 
--- src/lib.rt:218:49
 add-same-name : tie.Need-add-same-name Inv-loop μ-loop
-add-same-name c = omega (arith, ivar-room (c .before .before .before .before .before .before .before .pre .0) (c .before .before .before .before .before .before .before .pre .1) (c .before .before .loop .a) (omega arith) .1)
+add-same-name c =
+    omega
+    (arith, ivar-room (c .before .before .before .before .before .before .before .pre .0) (c .before .before .before .before .before .before .before .pre .1) (c .before .before .loop .a) (omega arith) .1)
 
--- src/lib.rt:218:47
 mul-same-name-2 : tie.Need-mul-same-name-2 Inv-loop μ-loop
-mul-same-name-2 c = omega (arith, ivar-room (c .before .before .before .before .before .before .before .pre .0) (c .before .before .before .before .before .before .before .pre .1) (c .before .before .loop .a) (omega arith) .1)
+mul-same-name-2 c =
+    omega
+    (arith, ivar-room (c .before .before .before .before .before .before .before .pre .0) (c .before .before .before .before .before .before .before .pre .1) (c .before .before .loop .a) (omega arith) .1)
 
--- src/lib.rt:218:47
 shared-slice-read-same-name-2 : tie.Need-shared-slice-read-same-name-2 Inv-loop μ-loop
-shared-slice-read-same-name-2 c = omega (arith, ivar-room (c .before .before .before .before .before .before .before .before .pre .0) (c .before .before .before .before .before .before .before .before .pre .1) (c .before .before .before .loop .a) (omega arith) .0)
+shared-slice-read-same-name-2 c =
+    omega
+    (arith, ivar-room (c .before .before .before .before .before .before .before .before .pre .0) (c .before .before .before .before .before .before .before .before .pre .1) (c .before .before .before .loop .a) (omega arith) .0)
 
--- src/lib.rt:218:13
 same-name-requires : tie.Need-same-name-requires Inv-loop μ-loop
 same-name-requires c κs = search needs
 
--- src/lib.rt:219:19
 shl-bit : tie.Need-shl-bit Inv-loop μ-loop
-shl-bit c = omega (arith, ivar-room (c .before .before .before .before .before .before .before .before .before .pre .0) (c .before .before .before .before .before .before .before .before .before .pre .1) (c .before .before .before .before .loop .a) (omega arith) .1)
+shl-bit c =
+    omega
+    (arith, ivar-room (c .before .before .before .before .before .before .before .before .before .pre .0) (c .before .before .before .before .before .before .before .before .before .pre .1) (c .before .before .before .before .loop .a) (omega arith) .1)
 
--- src/lib.rt:220:9
 add-a : tie.Need-add-a Inv-loop μ-loop
-add-a c = omega (arith, ivar-room (c .before .before .before .before .before .before .before .before .before .pre .0) (c .before .before .before .before .before .before .before .before .before .pre .1) (c .before .before .before .before .loop .a) (omega arith) .1)
+add-a c =
+    omega
+    (arith, ivar-room (c .before .before .before .before .before .before .before .before .before .pre .0) (c .before .before .before .before .before .before .before .before .before .pre .1) (c .before .before .before .before .loop .a) (omega arith) .1)
 
--- src/lib.rt:216:5
 loop-less : tie.Need-loop-less Inv-loop μ-loop
 loop-less c = search needs
 
--- src/lib.rt:216:5
 loop-again : tie.Need-loop-again Inv-loop μ-loop
-loop-again c = name-more (c .before .before .before .before .before .loop .inv) (omega arith) (c .before .same-name .ensures) (one-shl 64 (c .before .before .before .before .before .loop .a) (ivar-room (c .before .before .before .before .before .before .before .before .before .before .pre .0) (c .before .before .before .before .before .before .before .before .before .before .pre .1) (c .before .before .before .before .before .loop .a) (omega arith) .1)) (c .if1 .taken)
+loop-again c =
+    name-more (c .before .before .before .before .before .loop .inv) (omega arith) (c .before .same-name .ensures)
+    (one-shl 64 (c .before .before .before .before .before .loop .a) (ivar-room (c .before .before .before .before .before .before .before .before .before .before .pre .0) (c .before .before .before .before .before .before .before .before .before .before .pre .1) (c .before .before .before .before .before .loop .a) (omega arith) .1))
+    (c .if1 .taken)
 
--- src/lib.rt:216:5
 loop-less-2 : tie.Need-loop-less-2 Inv-loop μ-loop
 loop-less-2 c = search needs
 
--- src/lib.rt:216:5
 loop-again-2 : tie.Need-loop-again-2 Inv-loop μ-loop
 loop-again-2 c = name-skip (c .before .before .before .before .before .loop .inv) (omega arith) (c .before .same-name .ensures) (c .if1 .left)
 
--- src/lib.rt:204:1
 returns : tie.Need-returns Inv-loop μ-loop
 returns c = name-done (c .before .loop .inv) (omega arith) (c .before .before .before .before .before .before .pre .1)
 

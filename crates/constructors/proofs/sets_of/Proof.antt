@@ -11,8 +11,8 @@ use Rattle.constructors.proofs.sets_of.Reads as reads
 use Rattle.constructors.proofs.sets_of.Lts as lts
 use Rattle.constructors.proofs.named.Reads as named-reads
 use Rattle.constructors.proofs.set_name.Reads as set-name-reads
-use Rattle.index.proofs.first_insn.Reads as first-insn-reads
-use Rattle.index.proofs.next_insn.Reads as next-insn-reads
+use Rattle.chains.proofs.first_insn.Reads as first-insn-reads
+use Rattle.chains.proofs.next_insn.Reads as next-insn-reads
 use Rattle.program.proofs.read_insn.Reads as read-insn-reads
 
 abbrev Inv-loop : tie.InvT-loop
@@ -22,10 +22,13 @@ abbrev μ-loop : tie.MeasureT-loop
 μ-loop s m c x k n bits₀ h₀ bits h = n - h .0
 
 first-insn-requires : tie.Need-first-insn-requires Inv-loop μ-loop
-first-insn-requires c κs = ((c .before .before .before .pre .1 .0 .len, omega (arith, c .before .before .before .pre .0 .blocks, c .before .before .before .pre .1 .1 .1)), code-word (c .before .before .before .pre .0) (c .before .before .before .pre .1 .0) (c .before .before .before .pre .1 .1 .1))
+first-insn-requires c κs =
+    ((c .before .before .before .pre .1 .0 .len, omega (arith, c .before .before .before .pre .0 .blocks, c .before .before .before .pre .1 .1 .1)), code-word (c .before .before .before .pre .0) (c .before .before .before .pre .1 .0) (c .before .before .before .pre .1 .1 .1))
 
 loop-holds : tie.Need-loop-holds Inv-loop μ-loop
-loop-holds c = λ b g e. set-start _ _ (c .before .before .before .before .pre .0) (c .before .before .before .before .pre .1 .0) g e
+loop-holds c =
+    let start = c .before .before .before .before in
+    λ b g e. set-start _ _ (start .pre .0) (start .pre .1 .0) g e
 
 cast-if1 : tie.Need-cast-if1 Inv-loop μ-loop
 cast-if1 c = search needs
@@ -37,19 +40,28 @@ set-name-requires : tie.Need-set-name-requires Inv-loop μ-loop
 set-name-requires c κs = search needs
 
 next-insn-requires : tie.Need-next-insn-requires Inv-loop μ-loop
-next-insn-requires c κs = ((c .before .before .before .before .before .before .before .before .before .pre .1 .0 .len, omega (arith, c .before .before .before .before .before .before .before .before .before .pre .0 .insns)), code-next (c .before .before .before .before .before .before .before .before .before .args .x .now) ((c .before .before .before .before .loop .inv _ (c .before .before .before .before .before .before .before .before .before .pre .1 .1 .1) (c .before .before .before .before .before .first-insn .ensures)) .rest) (c .before .before .before .before .before .before .before .before .before .pre .0) ((c .before .before .before .before .loop .inv _ (c .before .before .before .before .before .before .before .before .before .pre .1 .1 .1) (c .before .before .before .before .before .first-insn .ensures)) .cells) (c .before .before .if1 .taken))
+next-insn-requires c κs =
+    ((c .before .before .before .before .before .before .before .before .before .pre .1 .0 .len, omega (arith, c .before .before .before .before .before .before .before .before .before .pre .0 .insns)), code-next (c .before .before .before .before .before .before .before .before .before .args .chains .now) ((c .before .before .before .before .loop .inv _ (c .before .before .before .before .before .before .before .before .before .pre .1 .1 .1) (c .before .before .before .before .before .first-insn .ensures)) .rest) (c .before .before .before .before .before .before .before .before .before .pre .0) ((c .before .before .before .before .loop .inv _ (c .before .before .before .before .before .before .before .before .before .pre .1 .1 .1) (c .before .before .before .before .before .first-insn .ensures)) .cells) (c .before .before .if1 .taken))
 
 enum-known-t : tie.Need-enum-known-t Inv-loop μ-loop
 enum-known-t c = search needs
 
 named-requires : tie.Need-named-requires Inv-loop μ-loop
-named-requires c κs = (c .before .before .before .before .before .before .before .before .before .before .before .before .before .pre .0, c .before .before .before .before .before .before .before .before .before .before .before .before .before .pre .1 .1 .0)
+named-requires c κs =
+    let start = c .before .before .before .before .before .before .before .before .before .before .before .before .before in
+    (start .pre .0, start .pre .1 .1 .0)
 
 returns : tie.Need-returns Inv-loop μ-loop
-returns c = set-stop (c .before .before .before .before .before .before .before .before .before .before .before .loop .inv _ (c .before .before .before .before .before .before .before .before .before .before .before .before .before .before .before .before .pre .1 .1 .1) (c .before .before .before .before .before .before .before .before .before .before .before .before .first-insn .ensures)) (omega arith) (c .before .before .before .before .before .before .before .before .read-insn .ensures .row) (c .before .before .before .before .before .before .before .set-name .ensures) (c .before .before .named .ensures) (search needs) (c .if2 .taken)
+returns c =
+    set-stop
+    (c .before .before .before .before .before .before .before .before .before .before .before .loop .inv _ (c .before .before .before .before .before .before .before .before .before .before .before .before .before .before .before .before .pre .1 .1 .1) (c .before .before .before .before .before .before .before .before .before .before .before .before .first-insn .ensures))
+    (omega arith) (c .before .before .before .before .before .before .before .before .read-insn .ensures .row) (c .before .before .before .before .before .before .before .set-name .ensures)
+    (c .before .before .named .ensures) (search needs) (c .if2 .taken)
 
 loop-less : tie.Need-loop-less Inv-loop μ-loop
-loop-less c = omega (arith, set-rises (c .before .before .before .before .before .before .before .before .before .before .before .before .loop .inv _ (c .before .before .before .before .before .before .before .before .before .before .before .before .before .before .before .before .before .pre .1 .1 .1) (c .before .before .before .before .before .before .before .before .before .before .before .before .before .first-insn .ensures)) (omega arith) (c .before .before .before .before .before .before .before .before .before .read-insn .ensures .row) (c .before .before .before .before .before .before .before .before .set-name .ensures) (c .before .before .before .before .before .before .before .next-insn .ensures))
+loop-less c =
+    omega
+    (arith, set-rises (c .before .before .before .before .before .before .before .before .before .before .before .before .loop .inv _ (c .before .before .before .before .before .before .before .before .before .before .before .before .before .before .before .before .before .pre .1 .1 .1) (c .before .before .before .before .before .before .before .before .before .before .before .before .before .first-insn .ensures)) (omega arith) (c .before .before .before .before .before .before .before .before .before .read-insn .ensures .row) (c .before .before .before .before .before .before .before .before .set-name .ensures) (c .before .before .before .before .before .before .before .next-insn .ensures))
 
 loop-again : tie.Need-loop-again Inv-loop μ-loop
 loop-again c = λ b g e. set-more (c .before .before .before .before .before .before .before .before .before .before .before .before .loop .inv b g e) (omega arith) (c .before .before .before .before .before .before .before .before .before .read-insn .ensures .row) (c .before .before .before .before .before .before .before .before .set-name .ensures) (c .before .before .before .named .ensures) (search needs) (c .before .before .before .before .before .before .before .before .before .before .before .before .before .before .before .before .before .pre .0 .ivars _ (c .before .before .before .before .before .before .before .before .before .before .before .before .before .before .before .before .before .pre .1 .1 .0)) (c .before .before .before .before .before .before .before .next-insn .ensures) (c .before .if2 .left)
@@ -58,7 +70,9 @@ enum-told : tie.Need-enum-told Inv-loop μ-loop
 enum-told c = search needs
 
 loop-less-2 : tie.Need-loop-less-2 Inv-loop μ-loop
-loop-less-2 c = omega (arith, set-rises (c .before .before .before .before .before .before .before .loop .inv _ (c .before .before .before .before .before .before .before .before .before .before .before .before .pre .1 .1 .1) (c .before .before .before .before .before .before .before .before .first-insn .ensures)) (omega arith) (c .before .before .before .before .read-insn .ensures .row) (c .before .before .before .set-name .ensures) (c .before .before .next-insn .ensures))
+loop-less-2 c =
+    omega
+    (arith, set-rises (c .before .before .before .before .before .before .before .loop .inv _ (c .before .before .before .before .before .before .before .before .before .before .before .before .pre .1 .1 .1) (c .before .before .before .before .before .before .before .before .first-insn .ensures)) (omega arith) (c .before .before .before .before .read-insn .ensures .row) (c .before .before .before .set-name .ensures) (c .before .before .next-insn .ensures))
 
 loop-again-2 : tie.Need-loop-again-2 Inv-loop μ-loop
 loop-again-2 c = λ b g e. set-skip (c .before .before .before .before .before .before .before .loop .inv b g e) (omega arith) (c .before .before .before .before .read-insn .ensures .row) (c .before .before .before .set-name .ensures) (c .before .before .next-insn .ensures) (search needs)

@@ -41,28 +41,48 @@ shared-slice-read-count : tie.Need-shared-slice-read-count
 shared-slice-read-count c = search needs
 
 add-j : tie.Need-add-j
-add-j c = skip-fits (c .before .before .before .before .before .args .p .now) (c .before .before .before .before .before .args .c) (c .before .before .before .before .before .args .i .0) (c .before .before .before .before .before .args .n) (c .before .before .before .before .before .pre .0) (c .before .before .before .before .before .pre .1) (c .if1 .taken)
+add-j c =
+    let start = c .before .before .before .before .before in
+    skip-fits (start .args .program .now) (start .args .counts) (start .args .i .0) (start .args .n) (start .pre .0) (start .pre .1) (c .if1 .taken)
 
 mul-result : tie.Need-mul-result
-mul-result c = place-fits (c .before .before .before .before .before .before .args .p .now) (c .before .before .before .before .before .before .args .c) (c .before .before .before .before .before .before .args .i .0) (c .before .before .before .before .before .before .args .n) (c .before .before .before .before .before .before .pre .0) (c .before .before .before .before .before .before .pre .1) (c .if2 .taken) _ (omega arith)
+mul-result c =
+    place-fits (c .before .before .before .before .before .before .args .program .now) (c .before .before .before .before .before .before .args .counts)
+    (c .before .before .before .before .before .before .args .i .0) (c .before .before .before .before .before .before .args .n) (c .before .before .before .before .before .before .pre .0)
+    (c .before .before .before .before .before .before .pre .1) (c .if2 .taken) _ (omega arith)
 
 add-result : tie.Need-add-result
-add-result c = place-fits (c .before .before .before .before .before .before .args .p .now) (c .before .before .before .before .before .before .args .c) (c .before .before .before .before .before .before .args .i .0) (c .before .before .before .before .before .before .args .n) (c .before .before .before .before .before .before .pre .0) (c .before .before .before .before .before .before .pre .1) (c .if2 .taken) _ (omega arith)
+add-result c =
+    place-fits (c .before .before .before .before .before .before .args .program .now) (c .before .before .before .before .before .before .args .counts)
+    (c .before .before .before .before .before .before .args .i .0) (c .before .before .before .before .before .before .args .n) (c .before .before .before .before .before .before .pre .0)
+    (c .before .before .before .before .before .before .pre .1) (c .if2 .taken) _ (omega arith)
 
 mul-result-2 : tie.Need-mul-result-2
-mul-result-2 c = place-fits (c .before .before .before .before .before .before .args .p .now) (c .before .before .before .before .before .before .args .c) (c .before .before .before .before .before .before .args .i .0) (c .before .before .before .before .before .before .args .n) (c .before .before .before .before .before .before .pre .0) (c .before .before .before .before .before .before .pre .1) (c .if2 .taken) _ (omega arith)
+mul-result-2 c =
+    place-fits (c .before .before .before .before .before .before .args .program .now) (c .before .before .before .before .before .before .args .counts)
+    (c .before .before .before .before .before .before .args .i .0) (c .before .before .before .before .before .before .args .n) (c .before .before .before .before .before .before .pre .0)
+    (c .before .before .before .before .before .before .pre .1) (c .if2 .taken) _ (omega arith)
 
 add-result-2 : tie.Need-add-result-2
-add-result-2 c = place-fits (c .before .before .before .before .before .before .args .p .now) (c .before .before .before .before .before .before .args .c) (c .before .before .before .before .before .before .args .i .0) (c .before .before .before .before .before .before .args .n) (c .before .before .before .before .before .before .pre .0) (c .before .before .before .before .before .before .pre .1) (c .if2 .taken) _ (omega arith)
+add-result-2 c =
+    place-fits (c .before .before .before .before .before .before .args .program .now) (c .before .before .before .before .before .before .args .counts)
+    (c .before .before .before .before .before .before .args .i .0) (c .before .before .before .before .before .before .args .n) (c .before .before .before .before .before .before .pre .0)
+    (c .before .before .before .before .before .before .pre .1) (c .if2 .taken) _ (omega arith)
 
 returns : tie.Need-returns
-returns c = argument-here (c .before .before .before .before .before .before .args .p .now) (c .before .before .before .before .before .before .args .c) (c .before .before .before .before .before .before .args .i .0) (c .before .before .before .before .before .before .args .n) (c .before .before .before .before .before .before .pre .0) (c .before .before .before .before .before .before .pre .1) (c .if2 .taken)
+returns c =
+    let start = c .before .before .before .before .before .before in
+    argument-here (start .args .program .now) (start .args .counts) (start .args .i .0) (start .args .n) (start .pre .0) (start .pre .1) (c .if2 .taken)
 
 returns-2 : tie.Need-returns-2
-returns-2 c = argument-none (c .before .before .before .before .before .before .args .p .now) (c .before .before .before .before .before .before .args .c) (c .before .before .before .before .before .before .args .i .0) (c .before .before .before .before .before .before .args .n) (c .before .before .before .before .before .before .pre .0) (c .before .before .before .before .before .before .pre .1) (c .if2 .left)
+returns-2 c =
+    let start = c .before .before .before .before .before .before in
+    argument-none (start .args .program .now) (start .args .counts) (start .args .i .0) (start .args .n) (start .pre .0) (start .pre .1) (c .if2 .left)
 
 returns-3 : tie.Need-returns-3
-returns-3 c = argument-none (c .before .before .before .before .before .args .p .now) (c .before .before .before .before .before .args .c) (c .before .before .before .before .before .args .i .0) (c .before .before .before .before .before .args .n) (c .before .before .before .before .before .pre .0) (c .before .before .before .before .before .pre .1) (omega arith)
+returns-3 c =
+    argument-none (c .before .before .before .before .before .args .program .now) (c .before .before .before .before .before .args .counts) (c .before .before .before .before .before .args .i .0)
+    (c .before .before .before .before .before .args .n) (c .before .before .before .before .before .pre .0) (c .before .before .before .before .before .pre .1) (omega arith)
 
 pub argument-at-spec : {M : Type 1} → statement M
 argument-at-spec =

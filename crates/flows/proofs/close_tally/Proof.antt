@@ -5,27 +5,21 @@ use Rattle.flows.proofs.close_tally.Tie as tie
 use Rattle.flows.proofs.close_tally.Reads as reads
 use Rattle.flows.proofs.close_tally.Lts as lts
 
--- src/lib.rt:188:38
 enum-told : tie.Need-enum-told
 enum-told c = search needs
 
--- src/lib.rt:189:23
 enum-known-t : tie.Need-enum-known-t
 enum-known-t c = search needs
 
--- src/lib.rt:190:21
 enum-known-t-2 : tie.Need-enum-known-t-2
 enum-known-t-2 c = search needs
 
--- src/lib.rt:184:1
 returns : tie.Need-returns
 returns c = close-none (c .enum-told .given .1)
 
--- src/lib.rt:184:1
 returns-2 : tie.Need-returns-2
 returns-2 c = close-one (c .before .t .given .1)
 
--- src/lib.rt:184:1
 returns-3 : tie.Need-returns-3
 returns-3 c = search needs
 

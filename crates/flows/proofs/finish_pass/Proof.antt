@@ -7,19 +7,15 @@ use Rattle.flows.proofs.finish_pass.Lts as lts
 use Rattle.flows.proofs.close_tally.Reads as close-tally-reads
 use Rattle.kinds.proofs.join.Reads as join-reads
 
--- src/lib.rt:197:9
 close-tally-requires : tie.Need-close-tally-requires
 close-tally-requires c κs = search needs
 
--- src/lib.rt:199:9
 join-requires : tie.Need-join-requires
 join-requires c κs = search needs
 
--- src/lib.rt:199:9
 returns : tie.Need-returns
 returns c = search finish-any
 
--- src/lib.rt:194:1
 returns-2 : tie.Need-returns-2
 returns-2 c = search finish-all
 

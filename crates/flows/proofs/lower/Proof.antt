@@ -1,5 +1,5 @@
 use Rattle.flows.proofs.Tallied.{lower-yes, lower-past, lower-not}
-use Rattle.opnds.proofs.Given.{inside-at}
+use Rattle.machine.proofs.opnds.Given.{inside-at}
 use borrow.Author.Needs.{needs}
 use Rattle.flows.proofs.lower.Statement.{statement}
 use Rattle.flows.proofs.lower.Tie as tie
@@ -8,39 +8,30 @@ use Rattle.flows.proofs.lower.Lts as lts
 use Rattle.kinds.proofs.Kind.is_any.Reads as is-any-reads
 use Rattle.state.proofs.kind_at.Reads as kind-at-reads
 
--- src/lib.rt:52:27
 enum-told : tie.Need-enum-told
 enum-told c = search needs
 
--- src/lib.rt:53:20
 enum-known-o : tie.Need-enum-known-o
 enum-known-o c = search needs
 
--- src/lib.rt:54:17
 kind-at-requires : tie.Need-kind-at-requires
 kind-at-requires c κs = (search needs, search inside-at)
 
--- src/lib.rt:55:21
 cast-j : tie.Need-cast-j
 cast-j c = search needs
 
--- src/lib.rt:56:16
 is-any-requires : tie.Need-is-any-requires
 is-any-requires c κs = search needs
 
--- src/lib.rt:58:21
 returns : tie.Need-returns
 returns c = search lower-yes
 
--- src/lib.rt:46:1
 returns-2 : tie.Need-returns-2
 returns-2 c = search needs
 
--- src/lib.rt:46:1
 returns-3 : tie.Need-returns-3
 returns-3 c = search lower-past
 
--- src/lib.rt:46:1
 returns-4 : tie.Need-returns-4
 returns-4 c = search lower-not
 

@@ -10,7 +10,12 @@ enum-known-s : tie.Need-enum-known-s
 enum-known-s c = search needs
 
 returns : tie.Need-returns
-returns c = param-set (c .before .before .before .before .before .before .before .args .p .now) (c .before .before .before .before .before .before .before .args .c) (c .before .before .before .before .before .before .before .args .z) (c .before .before .before .before .before .before .before .args .m .now) (c .before .before .before .before .before .before .before .args .f .0) (c .before .before .before .before .before .before .before .args .n) (c .before .before .before .before .join-sets .ensures) (c .before .before .s .given .1) (c .if1 .taken)
+returns c =
+    let at-s = c .before .before in
+    let at-join-sets = at-s .before .before in
+    let start = at-join-sets .before .before .before in
+    param-set (start .args .program .now) (start .args .counts) (start .args .sizes) (start .args .state .now) (start .args .f .0) (start .args .n) (at-join-sets .join-sets .ensures)
+    (at-s .s .given .1) (c .if1 .taken)
 
 param-by-passes-requires : tie.Need-param-by-passes-requires
 param-by-passes-requires c κs = search needs

@@ -15,45 +15,66 @@ Inv-loop p c m z f n x₀ from₀ x from = Passing p c z m (f .0) n x₀ x (from
 abbrev μ-loop : tie.MeasureT-loop
 μ-loop p c m z f n x₀ from₀ x from = z .insns - from .0
 
--- src/lib.rt:170:5
 loop-holds : tie.Need-loop-holds Inv-loop μ-loop
-loop-holds c = callers-start (c .before .before .args .p .now) (c .before .before .args .c) (c .before .before .args .z) (c .before .before .args .m .now) (c .before .before .args .f .0) (c .before .before .args .n) (c .before .before .args .start)
+loop-holds c =
+    let start = c .before .before in
+    callers-start (start .args .program .now) (start .args .counts) (start .args .sizes) (start .args .state .now) (start .args .f .0) (start .args .n) (start .args .start)
 
--- src/lib.rt:171:15
 next-caller-requires : tie.Need-next-caller-requires Inv-loop μ-loop
 next-caller-requires c κs = search needs
 
--- src/lib.rt:172:29
 enum-known-i : tie.Need-enum-known-i Inv-loop μ-loop
 enum-known-i c = search needs
 
--- src/lib.rt:173:21
 argument-requires : tie.Need-argument-requires Inv-loop μ-loop
-argument-requires c κs = (c .before .before .before .before .before .before .before .pre .1 .0 .ready, caller-below (c .before .before .before .before .before .before .before .args .m .now) (c .before .before .before .before .before .before .before .pre .1 .0) (c .before .before .before .next-caller .ensures) (c .before .i .given .0 .0) (c .before .i .given .1))
+argument-requires c κs =
+    let at-i = c .before in
+    let at-next-caller = at-i .before .before in
+    let start = at-next-caller .before .before .before .before in
+    (start .pre .1 .0 .ready, caller-below (start .args .state .now) (start .pre .1 .0) (at-next-caller .next-caller .ensures) (at-i .i .given .0 .0) (at-i .i .given .1))
 
--- src/lib.rt:174:17
 pass-one-requires : tie.Need-pass-one-requires Inv-loop μ-loop
-pass-one-requires c κs = (c .before .before .before .before .before .before .before .before .pre .0, caller-inside (c .before .before .before .before .before .before .before .before .args .m .now) (c .before .before .before .before .before .before .before .before .pre .1 .0) (c .before .before .before .before .next-caller .ensures) (c .before .before .before .before .before .before .before .before .args .n) (c .before .before .i .given .0 .0) (c .before .before .i .given .1) (c .argument .ensures))
+pass-one-requires c κs =
+    let at-i = c .before .before in
+    let at-next-caller = at-i .before .before in
+    let start = at-next-caller .before .before .before .before in
+    (start .pre .0, caller-inside (start .args .state .now) (start .pre .1 .0) (at-next-caller .next-caller .ensures) (start .args .n) (at-i .i .given .0 .0) (at-i .i .given .1) (c .argument .ensures))
 
--- src/lib.rt:175:31
 add-t13 : tie.Need-add-t13 Inv-loop μ-loop
-add-t13 c = caller-fits (c .before .before .before .before .before .before .before .before .before .before .args .m .now) (c .before .before .before .before .before .before .before .before .before .before .pre .1 .0) (c .before .before .before .before .before .before .next-caller .ensures) (c .before .before .before .before .before .before .before .before .before .before .pre .0) (c .before .before .before .before .i .given .0 .0) (c .before .before .before .before .i .given .1)
+add-t13 c =
+    let at-i = c .before .before .before .before in
+    let at-next-caller = at-i .before .before in
+    let start = at-next-caller .before .before .before .before in
+    caller-fits (start .args .state .now) (start .pre .1 .0) (at-next-caller .next-caller .ensures) (start .pre .0) (at-i .i .given .0 .0) (at-i .i .given .1)
 
--- src/lib.rt:170:5
 loop-less : tie.Need-loop-less Inv-loop μ-loop
-loop-less c = caller-falls (c .before .before .before .before .before .before .before .before .before .before .args .m .now) (c .before .before .before .before .before .before .before .before .before .before .pre .1 .0) (c .before .before .before .before .before .before .next-caller .ensures) (c .before .before .before .before .i .given .0 .0) (c .before .before .before .before .i .given .1)
+loop-less c =
+    let at-i = c .before .before .before .before in
+    let at-next-caller = at-i .before .before in
+    let start = at-next-caller .before .before .before .before in
+    caller-falls (start .args .state .now) (start .pre .1 .0) (at-next-caller .next-caller .ensures) (at-i .i .given .0 .0) (at-i .i .given .1)
 
--- src/lib.rt:170:5
 loop-again : tie.Need-loop-again Inv-loop μ-loop
-loop-again c = caller-more (c .before .before .before .before .before .before .before .before .before .before .args .m .now) (c .before .before .before .before .before .before .before .before .before .before .pre .1 .0) (c .before .before .before .before .before .before .next-caller .ensures) (c .before .before .before .before .before .before .before .before .before .before .args .n) (c .before .before .before .before .before .before .before .before .before .before .args .start) (c .before .before .before .before .before .before .before .loop .x) (c .before .before .before .before .i .given .0 .0) (c .before .before .before .before .i .given .1) (c .before .before .argument .ensures) (c .before .pass-one .ensures) (c .before .before .before .before .before .before .before .loop .inv)
+loop-again c =
+    let at-pass-one = c .before in
+    let at-argument = at-pass-one .before in
+    let at-i = at-argument .before .before in
+    let at-next-caller = at-i .before .before in
+    let at-loop = at-next-caller .before in
+    let start = at-loop .before .before .before in
+    caller-more (start .args .state .now) (start .pre .1 .0) (at-next-caller .next-caller .ensures) (start .args .n) (start .args .start) (at-loop .loop .x) (at-i .i .given .0 .0) (at-i .i .given .1)
+    (at-argument .argument .ensures) (at-pass-one .pass-one .ensures) (at-loop .loop .inv)
 
--- src/lib.rt:178:17
 enum-told : tie.Need-enum-told Inv-loop μ-loop
 enum-told c = search needs
 
--- src/lib.rt:178:17
 returns : tie.Need-returns Inv-loop μ-loop
-returns c = caller-done (c .before .before .before .before .before .before .args .m .now) (c .before .before .before .before .before .before .pre .1 .0) (c .before .before .next-caller .ensures) (c .before .before .before .before .before .before .args .n) (c .before .before .before .before .before .before .args .start) (c .before .before .before .loop .x) (c .enum-told .given .1) (c .before .before .before .loop .inv)
+returns c =
+    let at-next-caller = c .before .before in
+    let at-loop = at-next-caller .before in
+    let start = at-loop .before .before .before in
+    caller-done (start .args .state .now) (start .pre .1 .0) (at-next-caller .next-caller .ensures) (start .args .n) (start .args .start) (at-loop .loop .x) (c .enum-told .given .1)
+    (at-loop .loop .inv)
 
 pub pass-callers-spec : {M : Type 1} → statement M
 pass-callers-spec =

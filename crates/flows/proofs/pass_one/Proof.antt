@@ -11,7 +11,10 @@ take-requires : tie.Need-take-requires
 take-requires c κs = search needs
 
 returns : tie.Need-returns
-returns c = pass-both (kindsOf (c .before .before .before .args .z) (c .before .before .before .args .m .now)) (c .before .before .before .args .x) (c .before .before .before .args .o) (c .before .lower .ensures) (c .take .ensures)
+returns c =
+    let at-lower = c .before in
+    let start = at-lower .before .before in
+    pass-both (kindsOf (start .args .sizes) (start .args .state .now)) (start .args .x) (start .args .o) (at-lower .lower .ensures) (c .take .ensures)
 
 pub pass-one-spec : {M : Type 1} → statement M
 pass-one-spec = tie.close (tie.spec lower-requires take-requires returns)

@@ -9,43 +9,49 @@ use Rattle.flows.proofs.add.Reads as add-reads
 use Rattle.flows.proofs.before.Reads as before-reads
 use Rattle.kinds.proofs.Kind.is_any.Reads as is-any-reads
 use Rattle.kinds.proofs.Kind.is_empty.Reads as is-empty-reads
-use Rattle.opnds.proofs.kind_of.Reads as kind-of-reads
+use Rattle.machine.proofs.opnds.kind_of.Reads as kind-of-reads
 
--- src/lib.rt:86:8
 before-requires : tie.Need-before-requires
 before-requires c κs = search needs
 
--- src/lib.rt:87:13
 kind-of-requires : tie.Need-kind-of-requires
 kind-of-requires c κs = search needs
 
--- src/lib.rt:88:12
 is-empty-requires : tie.Need-is-empty-requires
 is-empty-requires c κs = search needs
 
--- src/lib.rt:89:13
 returns : tie.Need-returns
-returns c = take-void (kindsOf (c .before .before .before .before .before .before .args .z) (c .before .before .before .before .before .before .args .m .now)) (c .before .before .before .before .before .before .args .a) (c .before .before .before .before .before .before .args .t) (c .before .before .before .before .before .before .args .o) (c .before .before .before .before .before2 .ensures) (c .before .before .kind-of .ensures) (c .before .is-empty .ensures) (c .if2 .taken)
+returns c =
+    take-void (kindsOf (c .before .before .before .before .before .before .args .sizes) (c .before .before .before .before .before .before .args .state .now))
+    (c .before .before .before .before .before .before .args .a) (c .before .before .before .before .before .before .args .t) (c .before .before .before .before .before .before .args .o)
+    (c .before .before .before .before .before2 .ensures) (c .before .before .kind-of .ensures) (c .before .is-empty .ensures) (c .if2 .taken)
 
--- src/lib.rt:91:12
 is-any-requires : tie.Need-is-any-requires
 is-any-requires c κs = search needs
 
--- src/lib.rt:92:13
 returns-2 : tie.Need-returns-2
-returns-2 c = take-any (kindsOf (c .before .before .before .before .before .before .before .before .args .z) (c .before .before .before .before .before .before .before .before .args .m .now)) (c .before .before .before .before .before .before .before .before .args .a) (c .before .before .before .before .before .before .before .before .args .t) (c .before .before .before .before .before .before .before .before .args .o) (c .before .before .before .before .before .before .before2 .ensures) (c .before .before .before .before .kind-of .ensures) (c .before .before .before .is-empty .ensures) (c .before .is-any .ensures) (c .before .before .if2 .left) (c .if3 .taken)
+returns-2 c =
+    take-any (kindsOf (c .before .before .before .before .before .before .before .before .args .sizes) (c .before .before .before .before .before .before .before .before .args .state .now))
+    (c .before .before .before .before .before .before .before .before .args .a) (c .before .before .before .before .before .before .before .before .args .t)
+    (c .before .before .before .before .before .before .before .before .args .o) (c .before .before .before .before .before .before .before2 .ensures)
+    (c .before .before .before .before .kind-of .ensures) (c .before .before .before .is-empty .ensures) (c .before .is-any .ensures) (c .before .before .if2 .left) (c .if3 .taken)
 
--- src/lib.rt:94:9
 add-requires : tie.Need-add-requires
 add-requires c κs = search needs
 
--- src/lib.rt:94:9
 returns-3 : tie.Need-returns-3
-returns-3 c = take-it (kindsOf (c .before .before .before .before .before .before .before .before .before .args .z) (c .before .before .before .before .before .before .before .before .before .args .m .now)) (c .before .before .before .before .before .before .before .before .before .args .a) (c .before .before .before .before .before .before .before .before .before .args .t) (c .before .before .before .before .before .before .before .before .before .args .o) (c .before .before .before .before .before .before .before .before2 .ensures) (c .before .before .before .before .before .kind-of .ensures) (c .before .before .before .before .is-empty .ensures) (c .before .before .is-any .ensures) (c .before .before .before .before .before .before .if1 .taken) (c .before .before .before .if2 .left) (c .before .if3 .left) (c .add .ensures)
+returns-3 c =
+    take-it
+    (kindsOf (c .before .before .before .before .before .before .before .before .before .args .sizes) (c .before .before .before .before .before .before .before .before .before .args .state .now))
+    (c .before .before .before .before .before .before .before .before .before .args .a) (c .before .before .before .before .before .before .before .before .before .args .t)
+    (c .before .before .before .before .before .before .before .before .before .args .o) (c .before .before .before .before .before .before .before .before2 .ensures)
+    (c .before .before .before .before .before .kind-of .ensures) (c .before .before .before .before .is-empty .ensures) (c .before .before .is-any .ensures)
+    (c .before .before .before .before .before .before .if1 .taken) (c .before .before .before .if2 .left) (c .before .if3 .left) (c .add .ensures)
 
--- src/lib.rt:81:1
 returns-4 : tie.Need-returns-4
-returns-4 c = take-none (kindsOf (c .before .before .before .args .z) (c .before .before .before .args .m .now)) (c .before .before .before .args .a) (c .before .before .before .args .t) (c .before .before .before .args .o) (c .before .before2 .ensures) (c .if1 .left)
+returns-4 c =
+    take-none (kindsOf (c .before .before .before .args .sizes) (c .before .before .before .args .state .now)) (c .before .before .before .args .a) (c .before .before .before .args .t)
+    (c .before .before .before .args .o) (c .before .before2 .ensures) (c .if1 .left)
 
 pub take-spec : {M : Type 1} → statement M
 take-spec =

@@ -132,133 +132,190 @@ same-length c = search needs
 
 returns : tie.Need-returns
 unfolding questions wordsOf
-returns c = words-put (c .before .before .before .before .before .match .keys1) refl (c .before .before .put .ensures)
+returns c =
+    let at-put = c .before .before in
+    let at-match = at-put .before .before .before in
+    words-put (at-match .match .keys1) refl (at-put .put .ensures)
 
 same-length-2 : tie.Need-same-length-2
 same-length-2 c = search needs
 
 returns-2 : tie.Need-returns-2
 unfolding questions wordsOf
-returns-2 c = words-put (c .before .before .before .before .before .match .keys2) refl (c .before .before .put2 .ensures)
+returns-2 c =
+    let at-put2 = c .before .before in
+    let at-match = at-put2 .before .before .before in
+    words-put (at-match .match .keys2) refl (at-put2 .put2 .ensures)
 
 same-length-3 : tie.Need-same-length-3
 same-length-3 c = search needs
 
 returns-3 : tie.Need-returns-3
 unfolding questions wordsOf
-returns-3 c = words-put (c .before .before .before .before .before .match .keys3) refl (c .before .before .put3 .ensures)
+returns-3 c =
+    let at-put3 = c .before .before in
+    let at-match = at-put3 .before .before .before in
+    words-put (at-match .match .keys3) refl (at-put3 .put3 .ensures)
 
 same-length-4 : tie.Need-same-length-4
 same-length-4 c = search needs
 
 returns-4 : tie.Need-returns-4
 unfolding questions wordsOf
-returns-4 c = words-put (c .before .before .before .before .before .match .keys4) refl (c .before .before .put4 .ensures)
+returns-4 c =
+    let at-put4 = c .before .before in
+    let at-match = at-put4 .before .before .before in
+    words-put (at-match .match .keys4) refl (at-put4 .put4 .ensures)
 
 same-length-5 : tie.Need-same-length-5
 same-length-5 c = search needs
 
 returns-5 : tie.Need-returns-5
 unfolding questions wordsOf
-returns-5 c = words-put (c .before .before .before .before .before .match .keys5) refl (c .before .before .put5 .ensures)
+returns-5 c =
+    let at-put5 = c .before .before in
+    let at-match = at-put5 .before .before .before in
+    words-put (at-match .match .keys5) refl (at-put5 .put5 .ensures)
 
 same-length-6 : tie.Need-same-length-6
 same-length-6 c = search needs
 
 returns-6 : tie.Need-returns-6
 unfolding questions wordsOf
-returns-6 c = words-put (c .before .before .before .before .before .match .keys6) refl (c .before .before .put6 .ensures)
+returns-6 c =
+    let at-put6 = c .before .before in
+    let at-match = at-put6 .before .before .before in
+    words-put (at-match .match .keys6) refl (at-put6 .put6 .ensures)
 
 same-length-7 : tie.Need-same-length-7
 same-length-7 c = search needs
 
 returns-7 : tie.Need-returns-7
 unfolding questions wordsOf
-returns-7 c = words-put (c .before .before .before .before .before .match .keys7) refl (c .before .before .put7 .ensures)
+returns-7 c =
+    let at-put7 = c .before .before in
+    let at-match = at-put7 .before .before .before in
+    words-put (at-match .match .keys7) refl (at-put7 .put7 .ensures)
 
 same-length-8 : tie.Need-same-length-8
 same-length-8 c = search needs
 
 returns-8 : tie.Need-returns-8
 unfolding questions wordsOf
-returns-8 c = words-put (c .before .before .before .before .before .match .keys8) refl (c .before .before .put8 .ensures)
+returns-8 c =
+    let at-put8 = c .before .before in
+    let at-match = at-put8 .before .before .before in
+    words-put (at-match .match .keys8) refl (at-put8 .put8 .ensures)
 
 same-length-9 : tie.Need-same-length-9
 same-length-9 c = search needs
 
 returns-9 : tie.Need-returns-9
 unfolding questions wordsOf
-returns-9 c = words-put (c .before .before .before .before .before .match .keys9) refl (c .before .before .put9 .ensures)
+returns-9 c =
+    let at-put9 = c .before .before in
+    let at-match = at-put9 .before .before .before in
+    words-put (at-match .match .keys9) refl (at-put9 .put9 .ensures)
 
 same-length-10 : tie.Need-same-length-10
 same-length-10 c = search needs
 
 returns-10 : tie.Need-returns-10
 unfolding questions wordsOf
-returns-10 c = words-put (c .before .before .before .before .before .match .keys10) refl (c .before .before .put10 .ensures)
+returns-10 c =
+    let at-put10 = c .before .before in
+    let at-match = at-put10 .before .before .before in
+    words-put (at-match .match .keys10) refl (at-put10 .put10 .ensures)
 
 same-length-11 : tie.Need-same-length-11
 same-length-11 c = search needs
 
 returns-11 : tie.Need-returns-11
 unfolding questions wordsOf
-returns-11 c = words-put (c .before .before .before .before .before .match .keys11) refl (c .before .before .put11 .ensures)
+returns-11 c =
+    let at-put11 = c .before .before in
+    let at-match = at-put11 .before .before .before in
+    words-put (at-match .match .keys11) refl (at-put11 .put11 .ensures)
 
 same-length-12 : tie.Need-same-length-12
 same-length-12 c = search needs
 
 returns-12 : tie.Need-returns-12
 unfolding questions wordsOf
-returns-12 c = words-put (c .before .before .before .before .before .match .keys12) refl (c .before .before .put12 .ensures)
+returns-12 c =
+    let at-put12 = c .before .before in
+    let at-match = at-put12 .before .before .before in
+    words-put (at-match .match .keys12) refl (at-put12 .put12 .ensures)
 
 same-length-13 : tie.Need-same-length-13
 same-length-13 c = search needs
 
 returns-13 : tie.Need-returns-13
 unfolding questions wordsOf
-returns-13 c = words-put (c .before .before .before .before .before .match .keys13) refl (c .before .before .put13 .ensures)
+returns-13 c =
+    let at-put13 = c .before .before in
+    let at-match = at-put13 .before .before .before in
+    words-put (at-match .match .keys13) refl (at-put13 .put13 .ensures)
 
 same-length-14 : tie.Need-same-length-14
 same-length-14 c = search needs
 
 returns-14 : tie.Need-returns-14
 unfolding questions wordsOf
-returns-14 c = words-put (c .before .before .before .before .before .match .keys14) refl (c .before .before .put14 .ensures)
+returns-14 c =
+    let at-put14 = c .before .before in
+    let at-match = at-put14 .before .before .before in
+    words-put (at-match .match .keys14) refl (at-put14 .put14 .ensures)
 
 same-length-15 : tie.Need-same-length-15
 same-length-15 c = search needs
 
 returns-15 : tie.Need-returns-15
 unfolding questions wordsOf
-returns-15 c = words-put (c .before .before .before .before .before .match .keys15) refl (c .before .before .put15 .ensures)
+returns-15 c =
+    let at-put15 = c .before .before in
+    let at-match = at-put15 .before .before .before in
+    words-put (at-match .match .keys15) refl (at-put15 .put15 .ensures)
 
 same-length-16 : tie.Need-same-length-16
 same-length-16 c = search needs
 
 returns-16 : tie.Need-returns-16
 unfolding questions wordsOf
-returns-16 c = words-put (c .before .before .before .before .before .match .keys16) refl (c .before .before .put16 .ensures)
+returns-16 c =
+    let at-put16 = c .before .before in
+    let at-match = at-put16 .before .before .before in
+    words-put (at-match .match .keys16) refl (at-put16 .put16 .ensures)
 
 same-length-17 : tie.Need-same-length-17
 same-length-17 c = search needs
 
 returns-17 : tie.Need-returns-17
 unfolding questions wordsOf
-returns-17 c = words-put (c .before .before .before .before .before .match .keys17) refl (c .before .before .put17 .ensures)
+returns-17 c =
+    let at-put17 = c .before .before in
+    let at-match = at-put17 .before .before .before in
+    words-put (at-match .match .keys17) refl (at-put17 .put17 .ensures)
 
 same-length-18 : tie.Need-same-length-18
 same-length-18 c = search needs
 
 returns-18 : tie.Need-returns-18
 unfolding questions wordsOf
-returns-18 c = words-put (c .before .before .before .before .before .match .keys18) refl (c .before .before .put18 .ensures)
+returns-18 c =
+    let at-put18 = c .before .before in
+    let at-match = at-put18 .before .before .before in
+    words-put (at-match .match .keys18) refl (at-put18 .put18 .ensures)
 
 same-length-19 : tie.Need-same-length-19
 same-length-19 c = search needs
 
 returns-19 : tie.Need-returns-19
 unfolding questions wordsOf
-returns-19 c = words-put (c .before .before .before .before .before .match .keys19) refl (c .before .before .put19 .ensures)
+returns-19 c =
+    let at-put19 = c .before .before in
+    let at-match = at-put19 .before .before .before in
+    words-put (at-match .match .keys19) refl (at-put19 .put19 .ensures)
 
 same-length-20 : tie.Need-same-length-20
 same-length-20 c = search needs

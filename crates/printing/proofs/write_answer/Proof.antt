@@ -39,7 +39,10 @@ returns : tie.Need-returns
 returns c = let k = c .before .before .before .before .before .before .before .analyze in answer-told _ _ _ _ (k .result) (length-replicate {A = ℕ} answerLen 0) (length-replicate {A = ℕ} programLen 0) (length-replicate {A = ℕ} stateLen 0) (k .ensures) (c .tell-answer .result) (search needs) (search needs) (c .tell-answer .ensures)
 
 returns-2 : tie.Need-returns-2
-returns-2 c = let k = c .before .before .before .before .before .before .before .analyze in refusal-told _ _ _ _ (k .result) (length-replicate {A = ℕ} answerLen 0) (length-replicate {A = ℕ} programLen 0) (length-replicate {A = ℕ} stateLen 0) (k .ensures) (c .tell-refusal .result) (c .before .before .q .given .1) (c .tell-refusal .ensures)
+returns-2 c =
+    let at-q = c .before .before in
+    let at-analyze = at-q .before .before .before .before .before in
+    let k = at-analyze .analyze in refusal-told _ _ _ _ (k .result) (length-replicate {A = ℕ} answerLen 0) (length-replicate {A = ℕ} programLen 0) (length-replicate {A = ℕ} stateLen 0) (k .ensures) (c .tell-refusal .result) (at-q .q .given .1) (c .tell-refusal .ensures)
 
 pub write-answer-spec : {M : Type 1} → statement M
 write-answer-spec =

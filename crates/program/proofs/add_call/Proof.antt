@@ -26,7 +26,8 @@ add-commit : tie.Need-add-commit
 add-commit c = search needs
 
 commit-requires : tie.Need-commit-requires
-commit-requires c κs = (call-ready _ _ _ _ (c .before .before .before .before .before .before .before .before .before .before .before .before .args .g) _ (c .before .before .before .before .before .before .before .before .before .before .before .before .pre .0) (c .before .before .before .before .before .before .before .before .before .before .before .before .pre .1 .0) (c .before .before .before .before .before .before .before .before .before .before .before .before .pre .1 .1 .0) (c .before .before .before .before .before .before .before .put-given .ensures) (c .before .before .before .copy-opnds .ensures), search needs)
+commit-requires c κs =
+    (call-ready _ _ _ _ (c .before .before .before .before .before .before .before .before .before .before .before .before .args .g) _ (c .before .before .before .before .before .before .before .before .before .before .before .before .pre .0) (c .before .before .before .before .before .before .before .before .before .before .before .before .pre .1 .0) (c .before .before .before .before .before .before .before .before .before .before .before .before .pre .1 .1 .0) (c .before .before .before .before .before .before .before .put-given .ensures) (c .before .before .before .copy-opnds .ensures), search needs)
 
 same-length : tie.Need-same-length
 same-length c = search needs

@@ -34,14 +34,14 @@ mul-at c = search needs
 add-at : tie.Need-add-at
 add-at c = search needs
 
-add-m : tie.Need-add-m
-add-m c = search needs
+add-program : tie.Need-add-program
+add-program c = search needs
 
-mul-m : tie.Need-mul-m
-mul-m c = search needs
+mul-program : tie.Need-mul-program
+mul-program c = search needs
 
-slice-write-m : tie.Need-slice-write-m
-slice-write-m c = search needs
+slice-write-program : tie.Need-slice-write-program
+slice-write-program c = search needs
 
 same-length : tie.Need-same-length
 same-length c = search needs
@@ -69,9 +69,9 @@ commit-spec =
     cast-at
     mul-at
     add-at
-    add-m
-    mul-m
-    slice-write-m
+    add-program
+    mul-program
+    slice-write-program
     same-length
     returns
     same-length-2

@@ -43,32 +43,32 @@ mul-x-2 c = search needs
 shared-slice-read-x : tie.Need-shared-slice-read-x Inv-loop μ-loop
 shared-slice-read-x c = search needs
 
-mul-m : tie.Need-mul-m Inv-loop μ-loop
-mul-m c = search needs
+mul-program : tie.Need-mul-program Inv-loop μ-loop
+mul-program c = search needs
 
-add-m : tie.Need-add-m Inv-loop μ-loop
-add-m c = search needs
+add-program : tie.Need-add-program Inv-loop μ-loop
+add-program c = search needs
 
-mul-m-2 : tie.Need-mul-m-2 Inv-loop μ-loop
-mul-m-2 c = search needs
+mul-program-2 : tie.Need-mul-program-2 Inv-loop μ-loop
+mul-program-2 c = search needs
 
-slice-write-m : tie.Need-slice-write-m Inv-loop μ-loop
-slice-write-m c = search needs
+slice-write-program : tie.Need-slice-write-program Inv-loop μ-loop
+slice-write-program c = search needs
 
-mul-m-3 : tie.Need-mul-m-3 Inv-loop μ-loop
-mul-m-3 c = search needs
+mul-program-3 : tie.Need-mul-program-3 Inv-loop μ-loop
+mul-program-3 c = search needs
 
-add-m-2 : tie.Need-add-m-2 Inv-loop μ-loop
-add-m-2 c = search needs
+add-program-2 : tie.Need-add-program-2 Inv-loop μ-loop
+add-program-2 c = search needs
 
-add-m-3 : tie.Need-add-m-3 Inv-loop μ-loop
-add-m-3 c = search needs
+add-program-3 : tie.Need-add-program-3 Inv-loop μ-loop
+add-program-3 c = search needs
 
-mul-m-4 : tie.Need-mul-m-4 Inv-loop μ-loop
-mul-m-4 c = search needs
+mul-program-4 : tie.Need-mul-program-4 Inv-loop μ-loop
+mul-program-4 c = search needs
 
-slice-write-m-2 : tie.Need-slice-write-m-2 Inv-loop μ-loop
-slice-write-m-2 c = simp length-set (omega arith)
+slice-write-program-2 : tie.Need-slice-write-program-2 Inv-loop μ-loop
+slice-write-program-2 c = simp length-set (omega arith)
 
 add-i : tie.Need-add-i Inv-loop μ-loop
 add-i c = search needs
@@ -101,15 +101,15 @@ copy-opnds-spec =
     add-x-2
     mul-x-2
     shared-slice-read-x
-    mul-m
-    add-m
-    mul-m-2
-    slice-write-m
-    mul-m-3
-    add-m-2
-    add-m-3
-    mul-m-4
-    slice-write-m-2
+    mul-program
+    add-program
+    mul-program-2
+    slice-write-program
+    mul-program-3
+    add-program-2
+    add-program-3
+    mul-program-4
+    slice-write-program-2
     add-i
     loop-less
     loop-again

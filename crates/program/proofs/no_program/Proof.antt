@@ -21,7 +21,13 @@ same-length : tie.Need-same-length
 same-length c = search needs
 
 returns : tie.Need-returns
-returns c = starts-is _ refl (c .before .before .before .before .before .before .before .before .before .before .before .before .before .before .before .before .before .pre) (c .before .before .before .before .before .before .before .before .before .before .before .before .before .before .put-class .ensures) (c .before .before .before .before .before .before .before .before .before .before .put-class2 .ensures) (c .before .before .before .before .before .before .put-class3 .ensures) (c .before .before .put-class4 .ensures)
+returns c =
+    let at-put-class4 = c .before .before in
+    let at-put-class3 = at-put-class4 .before .before .before .before in
+    let at-put-class2 = at-put-class3 .before .before .before .before in
+    let at-put-class = at-put-class2 .before .before .before .before in
+    let start = at-put-class .before .before .before in
+    starts-is _ refl (start .pre) (at-put-class .put-class .ensures) (at-put-class2 .put-class2 .ensures) (at-put-class3 .put-class3 .ensures) (at-put-class4 .put-class4 .ensures)
 
 pub no-program-spec : {M : Type 1} → statement M
 no-program-spec =

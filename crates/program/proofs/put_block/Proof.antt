@@ -15,23 +15,23 @@ mul-at c = search needs
 add-at : tie.Need-add-at
 add-at c = search needs
 
-cast-m : tie.Need-cast-m
-cast-m c = search needs
+cast-program : tie.Need-cast-program
+cast-program c = search needs
 
-mul-m : tie.Need-mul-m
-mul-m c = search needs
+mul-program : tie.Need-mul-program
+mul-program c = search needs
 
-slice-write-m : tie.Need-slice-write-m
-slice-write-m c = search needs
+slice-write-program : tie.Need-slice-write-program
+slice-write-program c = search needs
 
-add-m : tie.Need-add-m
-add-m c = search needs
+add-program : tie.Need-add-program
+add-program c = search needs
 
-mul-m-2 : tie.Need-mul-m-2
-mul-m-2 c = search needs
+mul-program-2 : tie.Need-mul-program-2
+mul-program-2 c = search needs
 
-slice-write-m-2 : tie.Need-slice-write-m-2
-slice-write-m-2 c = simp length-set (omega arith)
+slice-write-program-2 : tie.Need-slice-write-program-2
+slice-write-program-2 c = simp length-set (omega arith)
 
 same-length : tie.Need-same-length
 same-length c = search needs
@@ -46,11 +46,11 @@ put-block-spec =
     cast-at
     mul-at
     add-at
-    cast-m
-    mul-m
-    slice-write-m
-    add-m
-    mul-m-2
-    slice-write-m-2
+    cast-program
+    mul-program
+    slice-write-program
+    add-program
+    mul-program-2
+    slice-write-program-2
     same-length
     returns)

@@ -15,38 +15,38 @@ mul-at c = search needs
 add-at : tie.Need-add-at
 add-at c = search needs
 
-mul-m : tie.Need-mul-m
-mul-m c = search needs
+mul-program : tie.Need-mul-program
+mul-program c = search needs
 
-slice-write-m : tie.Need-slice-write-m
-slice-write-m c = search needs
+slice-write-program : tie.Need-slice-write-program
+slice-write-program c = search needs
 
-add-m : tie.Need-add-m
-add-m c = search needs
+add-program : tie.Need-add-program
+add-program c = search needs
 
-mul-m-2 : tie.Need-mul-m-2
-mul-m-2 c = search needs
+mul-program-2 : tie.Need-mul-program-2
+mul-program-2 c = search needs
 
-slice-write-m-2 : tie.Need-slice-write-m-2
-slice-write-m-2 c = simp length-set (omega arith)
+slice-write-program-2 : tie.Need-slice-write-program-2
+slice-write-program-2 c = simp length-set (omega arith)
 
-add-m-2 : tie.Need-add-m-2
-add-m-2 c = search needs
+add-program-2 : tie.Need-add-program-2
+add-program-2 c = search needs
 
-mul-m-3 : tie.Need-mul-m-3
-mul-m-3 c = search needs
+mul-program-3 : tie.Need-mul-program-3
+mul-program-3 c = search needs
 
-slice-write-m-3 : tie.Need-slice-write-m-3
-slice-write-m-3 c = simp length-set (omega arith)
+slice-write-program-3 : tie.Need-slice-write-program-3
+slice-write-program-3 c = simp length-set (omega arith)
 
-add-m-3 : tie.Need-add-m-3
-add-m-3 c = search needs
+add-program-3 : tie.Need-add-program-3
+add-program-3 c = search needs
 
-mul-m-4 : tie.Need-mul-m-4
-mul-m-4 c = search needs
+mul-program-4 : tie.Need-mul-program-4
+mul-program-4 c = search needs
 
-slice-write-m-4 : tie.Need-slice-write-m-4
-slice-write-m-4 c = simp length-set (omega arith)
+slice-write-program-4 : tie.Need-slice-write-program-4
+slice-write-program-4 c = simp length-set (omega arith)
 
 same-length : tie.Need-same-length
 same-length c = search needs
@@ -61,16 +61,16 @@ put-class-spec =
     cast-at
     mul-at
     add-at
-    mul-m
-    slice-write-m
-    add-m
-    mul-m-2
-    slice-write-m-2
-    add-m-2
-    mul-m-3
-    slice-write-m-3
-    add-m-3
-    mul-m-4
-    slice-write-m-4
+    mul-program
+    slice-write-program
+    add-program
+    mul-program-2
+    slice-write-program-2
+    add-program-2
+    mul-program-3
+    slice-write-program-3
+    add-program-3
+    mul-program-4
+    slice-write-program-4
     same-length
     returns)

@@ -7,20 +7,20 @@ use Rattle.program.proofs.put_opnd.Tie as tie
 opnd-words-requires : tie.Need-opnd-words-requires
 opnd-words-requires c κs = search needs
 
-mul-m : tie.Need-mul-m
-mul-m c = search needs
+mul-program : tie.Need-mul-program
+mul-program c = search needs
 
-slice-write-m : tie.Need-slice-write-m
-slice-write-m c = search needs
+slice-write-program : tie.Need-slice-write-program
+slice-write-program c = search needs
 
-add-m : tie.Need-add-m
-add-m c = search needs
+add-program : tie.Need-add-program
+add-program c = search needs
 
-mul-m-2 : tie.Need-mul-m-2
-mul-m-2 c = search needs
+mul-program-2 : tie.Need-mul-program-2
+mul-program-2 c = search needs
 
-slice-write-m-2 : tie.Need-slice-write-m-2
-slice-write-m-2 c = search needs
+slice-write-program-2 : tie.Need-slice-write-program-2
+slice-write-program-2 c = search needs
 
 same-length : tie.Need-same-length
 same-length c = search needs
@@ -33,10 +33,10 @@ put-opnd-spec =
     tie.close
     (tie.spec
     opnd-words-requires
-    mul-m
-    slice-write-m
-    add-m
-    mul-m-2
-    slice-write-m-2
+    mul-program
+    slice-write-program
+    add-program
+    mul-program-2
+    slice-write-program-2
     same-length
     returns)

@@ -39,9 +39,9 @@ use denote.Triple.Table.{entered}
 use denote.Triple.Walked.{says, needs, Stays, stay-slice, stay-none, walkOf, goes-slice, goes-none, Walks, ends-at, walked, walk-meets}
 use denote.Exit.{yes}
 use Rattle.records.specs.Records.{none}
-use Rattle.records.specs.declared.Insn.{Insn}
-use Rattle.records.proofs.Insn as T
-use Rattle.records.proofs.Insn.Laws as T′
+use Rattle.records.specs.declared.Record.{Record}
+use Rattle.records.proofs.Record as T
+use Rattle.records.proofs.Record.Laws as T′
 use Rattle.records.proofs.append.Key.{name as #records·append}
 use Rattle.records.proofs.append as append
 use Rattle.records.proofs.append.Statement as stated
@@ -50,7 +50,7 @@ use Rattle.records.proofs.append.Code as code
 abbrev stayed : Stays (append.ended .signature .params) (append.ended .kept)
 stayed = (stay-slice (0 ∷ []) tt (plain (λ _. T.the-row)), (stay-none (λ _. usize) yes, (stay-none (λ _. T.the-row) yes, tt)))
 
-abbrev spelled : Insn → List Val
+abbrev spelled : Record → List Val
 spelled = LL.vals T.the-type T′.the-laws
 
 -- the place of an element that is there, in bytes, and the next place are usizes
@@ -60,14 +60,14 @@ place-fits i n l room = omega (arith, l, room .1)
 next-fits : (i n : ℕ) → i < n → Room T.the-row n → i + 1 < 2 ^ 64
 next-fits i n l room = omega (arith, l, room .1)
 
-module _ {M : Type 1} (𝓤 : URA M) (H : Heap 𝓤) (A : Atoms 𝓤) (W : Given 𝓤 H A) (mem : Memory → SProp 𝓤) (run : Routine → Fun 𝓤) (κ : Lft) (q : Share) (b o : ℕ) (γ : GName) (ys : List Insn) (n : ℕ) (new : Insn) where
-  abbrev x : RefT (List Insn) × (ℕ × (Insn × Unit {0}))
+module _ {M : Type 1} (𝓤 : URA M) (H : Heap 𝓤) (A : Atoms 𝓤) (W : Given 𝓤 H A) (mem : Memory → SProp 𝓤) (run : Routine → Fun 𝓤) (κ : Lft) (q : Share) (b o : ℕ) (γ : GName) (ys : List Record) (n : ℕ) (new : Record) where
+  abbrev x : RefT (List Record) × (ℕ × (Record × Unit {0}))
   x = (record { ptr = (b, o); name = γ; now = ys }, (n, (new, tt)))
 
   abbrev at : Vals append.signature (κ, tt)
   at = (sliceVal (b, o) (length ys) ∷ [], (vint w64 n ∷ [], (spelled new, tt)))
 
-  abbrev zs : List Insn
+  abbrev zs : List Record
   zs = set ys n new
 
   abbrev Post : Val → SProp 𝓤
@@ -77,12 +77,16 @@ module _ {M : Type 1} (𝓤 : URA M) (H : Heap 𝓤) (A : Atoms 𝓤) (W : Given
   abbrev Nums : Fml
   Nums = fsep (usize .own n (vint w64 n ∷ [])) (fsep (T.the-row .own new (spelled new)) ftrue)
 
-  exits : Room T.the-row (length ys) → n < length ys → ent 𝓤 (⋆ 𝓤 H A (‵ (fobs γ (codedHoleys T.the-row .code (heres T.the-row zs))) ∷ ‵ (fbor κ (Held T.the-row (length zs) b o γ)) ∷ ‵ (flft κ q) ∷ ‵ Nums ∷ [])) (Post (vint w64 (n + 1)))
+  exits : Room T.the-row (length ys) → n < length ys
+      → ent 𝓤 (⋆ 𝓤 H A (‵ (fobs γ (codedHoleys T.the-row .code (heres T.the-row zs))) ∷ ‵ (fbor κ (Held T.the-row (length zs) b o γ)) ∷ ‵ (flft κ q) ∷ ‵ Nums ∷ [])) (Post (vint w64 (n + 1)))
   exits room l =
       qed W (‵ (fobs γ (codedHoleys T.the-row .code (heres T.the-row zs))) ∷ ‵ (fbor κ (Held T.the-row (length zs) b o γ)) ∷ ‵ (flft κ q) ∷ ‵ Nums ∷ []) ∵
-      suffices ! _ (ends-at 𝓤 H A append.ended stayed (append.clauses 𝓤 H A mem run) W (((κ, tt), (q, tt), tt, x, at), tt) (vint w64 (n + 1)) (n + 1) (zs, (tt, (tt, tt))) (length-set ys n new, (tt, (tt, tt)))) $ says ! (refl, refl) $
+      suffices ! _
+      (ends-at 𝓤 H A append.ended stayed (append.clauses 𝓤 H A mem run) W (((κ, tt), (q, tt), tt, x, at), tt) (vint w64 (n + 1)) (n + 1) (zs, (tt, (tt, tt))) (length-set ys n new, (tt, (tt, tt)))) $
+      says ! (refl, refl) $
       nothing ! $ move ! (3 ∷ 0 ∷ []) $ join ! $ frame ! $
-      fjoin ! $ pureI ! (at-slice T.the-row (record { ptr = (b, o); name = γ; now = zs }) (at .0)) (tt, (tt, tt)) (ap (λ (m : ℕ). sliceVal (b, o) m ∷ []) (sym (length-set ys n new)), subst (Room T.the-row) (sym (length-set ys n new)) room) $ fjoin ! $ fjoin ! $ frame ! $
+      fjoin ! $ pureI ! (at-slice T.the-row (record { ptr = (b, o); name = γ; now = zs }) (at .0)) (tt, (tt, tt))
+      (ap (λ (m : ℕ). sliceVal (b, o) m ∷ []) (sym (length-set ys n new)), subst (Room T.the-row) (sym (length-set ys n new)) room) $ fjoin ! $ fjoin ! $ frame ! $
       owned ! usize (Is usize) (uint-makes 𝓤 H A W w64) (n + 1) _ (refl, next-fits n (length ys) l room) $ done !
 
   module _ (C : Calls 𝓤 H) (Λ : Loops 𝓤 H) where
@@ -90,23 +94,28 @@ module _ {M : Type 1} (𝓤 : URA M) (H : Heap 𝓤) (A : Atoms 𝓤) (W : Given
         → ent 𝓤 (onEntry 𝓤 H A append.signature (κ, tt) (q, tt) x at) (WpFn 𝓤 H C Λ code.function (sliceVal (b, o) (length ys) ∷ vint w64 n ∷ T′.lowered new ∷ []) Post)
     walk room gn made l =
         let typed = LL.lawful T.the-type T′.the-laws 𝓤 H A W .typed new _ made .0 in
-        qed W ((‵ (flft κ q) ⊛ ‵ ftrue) ∷ ‵ (owns (MutSlice (named 0) κ T.the-row ∷ usize ∷ T.the-row ∷ []) x at) ∷ []) ∵ enter ! C Λ code.function (sliceVal (b, o) (length ys) ∷ vint w64 n ∷ T′.lowered new ∷ []) _ $
+        qed W ((‵ (flft κ q) ⊛ ‵ ftrue) ∷ ‵ (owns (MutSlice (named 0) κ T.the-row ∷ usize ∷ T.the-row ∷ []) x at) ∷ []) ∵ enter ! C Λ code.function
+        (sliceVal (b, o) (length ys) ∷ vint w64 n ∷ T′.lowered new ∷ []) _ $
         alloc1 ! (λ l₀. alloc1 ! (λ l₁. alloc1 ! (λ l₂. alloc1 ! (λ l₃. alloc1 ! (λ l₄. alloc1 ! (λ l₅. alloc0 ! $ params1 ! $
         pass1 ! (init ! 8 refl (tt, (tt, (record { fits = room .0 }, tt)))) $ pass1 ! (init ! 6 refl (tt, record { fits = gn })) $ pass1 ! (init ! 4 refl typed) $ pass0 ! $
         -- [_5; …; _4; …; _3; …; _2; …; _1; …; _0; …; the token; what the parameters own]
-        assigns ! (bin ! (load ! (from ! (stop !)) (look ! 6 refl)) (lit ! tt) (record { fits = place-fits n (length ys) l room })) (from ! (stop !)) (init ! 2 refl (tt, record { fits = place-fits n (length ys) l room })) $
+        assigns ! (bin ! (load ! (from ! (stop !)) (look ! 6 refl)) (lit ! tt) (record { fits = place-fits n (length ys) l room })) (from ! (stop !))
+        (init ! 2 refl (tt, record { fits = place-fits n (length ys) l room })) $
         assigns ! (bin ! (load ! (from ! (fld ! refl (stop !))) (look-in ! 8 (sub ! 0 refl (whole !)))) (load ! (from ! (stop !)) (look ! 2 refl)) tt) (from ! (stop !)) (init ! 0 refl (tt, tt)) $
         rewrite ! 0 (λ (p : ℕ). ‵ (fat fullShare tyPtr l₅ 0 (vptr b p))) (sym (place-is 48 o n)) refl $
         move ! (13 ∷ []) $ fsplit ! $ fsplit ! $ move ! (1 ∷ []) $ fsplit ! $ move ! (16 ∷ []) $ split ! $ move ! (2 ∷ 3 ∷ 0 ∷ []) $
         opens-slice ! tt T.the-row ys b o $ elem-out ! T.the-row (Is T.the-row) (shows 𝓤 H A T.the-row) spelled (LL.tells T.the-type T′.the-laws) fullShare ys n none b o l (λ _.
         -- [t[n]; what it owns; the others; the open borrow; obs; auth; true; t's fact; the others'; _5; …; _4; …; _3; …; …; _0; …]
         assigns ! (of-opd ! (load ! (from ! (stop !)) (look ! 13 refl))) (from ! (hop ! (look ! 9 refl) (stop !))) (store-raw ! 0 refl typed) $
-        move ! (1 ∷ []) $ drop ! $ owned ! T.the-row (Is T.the-row) (LL.makes T.the-type T′.the-plain 𝓤 H A) new _ made $ move ! (1 ∷ 0 ∷ []) $ elem-put ! T.the-row fullShare ys n new (spelled new) b o l $
+        move ! (1 ∷ []) $ drop ! $ owned ! T.the-row (Is T.the-row) (LL.makes T.the-type T′.the-plain 𝓤 H A) new _ made $ move ! (1 ∷ 0 ∷ []) $ elem-put ! T.the-row fullShare ys n new (spelled new) b
+        o l $
         closes-slice ! tt T.the-row ys zs (length-set ys n new) b o $
         -- [obs; the borrow; the token; true; t's fact; the others'; _5; …; _4; …; _3; …; _2 at 12; …; _1; …; _0 at 16; …]
-        assigns ! (bin ! (load ! (from ! (stop !)) (look ! 12 refl)) (lit ! tt) (record { fits = next-fits n (length ys) l room })) (from ! (stop !)) (init ! 16 refl (tt, record { fits = next-fits n (length ys) l room })) $
+        assigns ! (bin ! (load ! (from ! (stop !)) (look ! 12 refl)) (lit ! tt) (record { fits = next-fits n (length ys) l room })) (from ! (stop !))
+        (init ! 16 refl (tt, record { fits = next-fits n (length ys) l room })) $
         returns ! (look ! 16 refl) $ forget ! 6 refl $ forget ! 8 refl $ forget ! 10 refl $ forget ! 12 refl $ forget ! 14 refl $ forget ! 16 refl $
-        move ! (16 ∷ 17 ∷ []) $ free1 ! $ move ! (14 ∷ 15 ∷ []) $ free1 ! $ move ! (12 ∷ 13 ∷ []) $ free1 ! $ move ! (10 ∷ 11 ∷ []) $ free1 ! $ move ! (8 ∷ 9 ∷ []) $ free1 ! $ move ! (6 ∷ 7 ∷ []) $ free1 ! $ free0 ! $
+        move ! (16 ∷ 17 ∷ []) $ free1 ! $ move ! (14 ∷ 15 ∷ []) $ free1 ! $ move ! (12 ∷ 13 ∷ []) $ free1 ! $ move ! (10 ∷ 11 ∷ []) $ free1 ! $ move ! (8 ∷ 9 ∷ []) $ free1 ! $ move ! (6 ∷ 7 ∷ []) $
+        free1 ! $ free0 ! $
         keep ! (0 ∷ 1 ∷ 2 ∷ 5 ∷ []) $ by ! (exits room l))))))))
 
 module _ {M : Type 1} (𝓤 : URA M) (H : Heap 𝓤) (A : Atoms 𝓤) (W : Given 𝓤 H A) (mem : Memory → SProp 𝓤) (run : Routine → Fun 𝓤) where
@@ -119,7 +128,9 @@ module _ {M : Type 1} (𝓤 : URA M) (H : Heap 𝓤) (A : Atoms 𝓤) (W : Given
 append-meets : {M : Type 1} (𝓤 : URA M) (H : Heap 𝓤) (A : Atoms 𝓤) → Given 𝓤 H A → (mem : Memory → SProp 𝓤) (run : Routine → Fun 𝓤) (𝓣 : Tables 𝓤 H)
     → Meets 𝓤 H A append.signature (WpFn 𝓤 H (𝓣 .C) (𝓣 .Λ) code.function) (append.spec 𝓤 H A mem run)
 append-meets 𝓤 H A W mem run 𝓣 =
-    walk-meets 𝓤 H A append.ended stayed W (goes-slice 𝓤 H A W 1 0 tt (plain (λ _. T.the-row)), (goes-none 𝓤 H A W 1 (λ _. usize) yes (λ κs x f. refl), (goes-none 𝓤 H A W 1 (λ _. T.the-row) yes (λ κs x f. refl), tt))) (append.clauses 𝓤 H A mem run)
+    walk-meets 𝓤 H A append.ended stayed W
+    (goes-slice 𝓤 H A W 1 0 tt (plain (λ _. T.the-row)), (goes-none 𝓤 H A W 1 (λ _. usize) yes (λ κs x f. refl), (goes-none 𝓤 H A W 1 (λ _. T.the-row) yes (λ κs x f. refl), tt)))
+    (append.clauses 𝓤 H A mem run)
     (WpFn 𝓤 H (𝓣 .C) (𝓣 .Λ) code.function) (WpFn-mono 𝓤 H (W .laws) 𝓣 code.function) (append-walks 𝓤 H A W mem run (𝓣 .C) (𝓣 .Λ))
 
 pub append-spec : {M : Type 1} → stated.statement M

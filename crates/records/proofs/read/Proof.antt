@@ -37,9 +37,9 @@ use denote.Triple.Table.{entered}
 use denote.Triple.Walked.{says, needs, Stays, stay-none-slice, stay-none, walkOf, goes-none-slice, goes-none, Walks, ends-at, walked, walk-meets}
 use denote.Exit.{yes}
 use Rattle.records.specs.Records.{none}
-use Rattle.records.specs.declared.Insn.{Insn}
-use Rattle.records.proofs.Insn as T
-use Rattle.records.proofs.Insn.Laws as T′
+use Rattle.records.specs.declared.Record.{Record}
+use Rattle.records.proofs.Record as T
+use Rattle.records.proofs.Record.Laws as T′
 use Rattle.records.proofs.read.Key.{name as #records·read}
 use Rattle.records.proofs.read as read
 use Rattle.records.proofs.read.Statement as stated
@@ -48,18 +48,18 @@ use Rattle.records.proofs.read.Code as code
 abbrev stayed : Stays (read.ended .signature .params) (read.ended .kept)
 stayed = (stay-none-slice (0 ∷ []) tt (plain (λ _. T.the-row)) yes, (stay-none (λ _. usize) yes, tt))
 
-abbrev spelled : Insn → List Val
+abbrev spelled : Record → List Val
 spelled = LL.vals T.the-type T′.the-laws
 
 -- the place of an element that is there, in bytes, is a usize
 place-fits : (i n : ℕ) → i < n → Room T.the-row n → i * 48 < 2 ^ 64
 place-fits i n l room = omega (arith, l, room .1)
 
-module _ {M : Type 1} (𝓤 : URA M) (H : Heap 𝓤) (A : Atoms 𝓤) (W : Given 𝓤 H A) (mem : Memory → SProp 𝓤) (run : Routine → Fun 𝓤) (κ : Lft) (q : Share) (b o : ℕ) (γ : GName) (ys : List Insn) (i : ℕ) where
-  abbrev x : RefT (List Insn) × (ℕ × Unit {0})
+module _ {M : Type 1} (𝓤 : URA M) (H : Heap 𝓤) (A : Atoms 𝓤) (W : Given 𝓤 H A) (mem : Memory → SProp 𝓤) (run : Routine → Fun 𝓤) (κ : Lft) (q : Share) (b o : ℕ) (γ : GName) (ys : List Record) (i : ℕ) where
+  abbrev x : RefT (List Record) × (ℕ × Unit {0})
   x = (record { ptr = (b, o); name = γ; now = ys }, (i, tt))
 
-  abbrev elem : Insn
+  abbrev elem : Record
   elem = getD ys i none
 
   abbrev at : Vals read.signature (κ, tt)
@@ -76,13 +76,15 @@ module _ {M : Type 1} (𝓤 : URA M) (H : Heap 𝓤) (A : Atoms 𝓤) (W : Given
       frame ! $ frame ! $ owned ! T.the-row (Is T.the-row) (LL.makes T.the-type T′.the-plain 𝓤 H A) elem _ g $ done !
 
   module _ (C : Calls 𝓤 H) (Λ : Loops 𝓤 H) where
-    walk : Room T.the-row (length ys) → i < 2 ^ 64 → i < length ys → ent 𝓤 (onEntry 𝓤 H A read.signature (κ, tt) (q, tt) x at) (WpFn 𝓤 H C Λ code.function (sliceVal (b, o) (length ys) ∷ vint w64 i ∷ []) Post)
+    walk : Room T.the-row (length ys) → i < 2 ^ 64 → i < length ys
+        → ent 𝓤 (onEntry 𝓤 H A read.signature (κ, tt) (q, tt) x at) (WpFn 𝓤 H C Λ code.function (sliceVal (b, o) (length ys) ∷ vint w64 i ∷ []) Post)
     walk room gi l =
         qed W ((‵ (flft κ q) ⊛ ‵ ftrue) ∷ ‵ (owns (ShrSlice (named 0) κ T.the-row ∷ usize ∷ []) x at) ∷ []) ∵ enter ! C Λ code.function (sliceVal (b, o) (length ys) ∷ vint w64 i ∷ []) _ $
         alloc1 ! (λ l₀. alloc1 ! (λ l₁. alloc1 ! (λ l₂. alloc1 ! (λ l₃. alloc1 ! (λ l₄. alloc1 ! (λ l₅. alloc0 ! $ params1 ! $
         pass1 ! (init ! 8 refl (tt, (tt, (record { fits = room .0 }, tt)))) $ pass1 ! (init ! 6 refl (tt, record { fits = gi })) $ pass0 ! $
         -- [_5; …; _4; …; _3; …; _2; …; _1; …; _0; …; the token; what t and i own]
-        assigns ! (bin ! (load ! (from ! (stop !)) (look ! 6 refl)) (lit ! tt) (record { fits = place-fits i (length ys) l room })) (from ! (stop !)) (init ! 4 refl (tt, record { fits = place-fits i (length ys) l room })) $
+        assigns ! (bin ! (load ! (from ! (stop !)) (look ! 6 refl)) (lit ! tt) (record { fits = place-fits i (length ys) l room })) (from ! (stop !))
+        (init ! 4 refl (tt, record { fits = place-fits i (length ys) l room })) $
         assigns ! (bin ! (load ! (from ! (fld ! refl (stop !))) (look-in ! 8 (sub ! 0 refl (whole !)))) (load ! (from ! (stop !)) (look ! 4 refl)) tt) (from ! (stop !)) (init ! 2 refl (tt, tt)) $
         rewrite ! 2 (λ (p : ℕ). ‵ (fat fullShare tyPtr l₄ 0 (vptr b p))) (sym (place-is 48 o i)) refl $
         move ! (13 ∷ []) $ fsplit ! $ fsplit ! $ move ! (1 ∷ []) $ fsplit ! $ move ! (16 ∷ []) $ split ! $ move ! (3 ∷ 0 ∷ []) $
@@ -93,18 +95,23 @@ module _ {M : Type 1} (𝓤 : URA M) (H : Heap 𝓤) (A : Atoms 𝓤) (W : Given
         assigns ! (of-opd ! (load ! (from ! (stop !)) (look ! 9 refl))) (from ! (stop !)) (init ! 19 refl (LL.lawful T.the-type T′.the-laws 𝓤 H A W .typed elem _ g .0)) $
         elem-back ! T.the-row q′ ys i none (spelled elem) b o l $ shuts-slice ! tt T.the-row q′ ys b o $
         returns ! (look ! 16 refl) $ forget ! 6 refl $ forget ! 8 refl $ forget ! 10 refl $ forget ! 12 refl $ forget ! 14 refl $ forget ! 16 refl $
-        move ! (16 ∷ 17 ∷ []) $ free1 ! $ move ! (14 ∷ 15 ∷ []) $ free1 ! $ move ! (12 ∷ 13 ∷ []) $ free1 ! $ move ! (10 ∷ 11 ∷ []) $ free1 ! $ move ! (8 ∷ 9 ∷ []) $ free1 ! $ move ! (6 ∷ 7 ∷ []) $ free1 ! $ free0 ! $
+        move ! (16 ∷ 17 ∷ []) $ free1 ! $ move ! (14 ∷ 15 ∷ []) $ free1 ! $ move ! (12 ∷ 13 ∷ []) $ free1 ! $ move ! (10 ∷ 11 ∷ []) $ free1 ! $ move ! (8 ∷ 9 ∷ []) $ free1 ! $ move ! (6 ∷ 7 ∷ []) $
+        free1 ! $ free0 ! $
         move ! (3 ∷ 1 ∷ []) $ fjoin ! $ move ! (3 ∷ 0 ∷ []) $ fjoin ! $ move ! (3 ∷ []) $ fsplit ! $ keep ! (3 ∷ 2 ∷ 0 ∷ []) $ by ! (exits g)))))))))
 
 module _ {M : Type 1} (𝓤 : URA M) (H : Heap 𝓤) (A : Atoms 𝓤) (W : Given 𝓤 H A) (mem : Memory → SProp 𝓤) (run : Routine → Fun 𝓤) where
   read-walks : (C : Calls 𝓤 H) (Λ : Loops 𝓤 H) → Walks 𝓤 H A read.ended stayed (WpFn 𝓤 H C Λ code.function) (read.clauses 𝓤 H A mem run)
-  read-walks C Λ = walked 𝓤 H A read.ended stayed (read.clauses 𝓤 H A mem run) (WpFn 𝓤 H C Λ code.function) (λ κs. (slice-vals, (uint-vals w64, tt))) (λ κs. (shr-slice-tells (named 0) (κs .0) T.the-row, (uint-tells w64, tt)))
+  read-walks C Λ =
+      walked 𝓤 H A read.ended stayed (read.clauses 𝓤 H A mem run) (WpFn 𝓤 H C Λ code.function) (λ κs. (slice-vals, (uint-vals w64, tt)))
+      (λ κs. (shr-slice-tells (named 0) (κs .0) T.the-row, (uint-tells w64, tt)))
       (λ κs qs bounds a g are. needs 𝓤 _ _
       (walk 𝓤 H A W mem run (κs .0) (qs .0) (a .0 .ptr .0) (a .0 .ptr .1) (a .0 .name) (a .0 .now) (a .1 .0) C Λ (are .0 .0 .1) (are .1 .0 .1)))
 
 read-meets : {M : Type 1} (𝓤 : URA M) (H : Heap 𝓤) (A : Atoms 𝓤) → Given 𝓤 H A → (mem : Memory → SProp 𝓤) (run : Routine → Fun 𝓤) (𝓣 : Tables 𝓤 H)
     → Meets 𝓤 H A read.signature (WpFn 𝓤 H (𝓣 .C) (𝓣 .Λ) code.function) (read.spec 𝓤 H A mem run)
-read-meets 𝓤 H A W mem run 𝓣 = walk-meets 𝓤 H A read.ended stayed W (goes-none-slice 𝓤 H A W 1 (0 ∷ []) tt (plain (λ _. T.the-row)) yes, (goes-none 𝓤 H A W 1 (λ _. usize) yes (λ κs x f. refl), tt)) (read.clauses 𝓤 H A mem run) (WpFn 𝓤 H (𝓣 .C) (𝓣 .Λ) code.function) (WpFn-mono 𝓤 H (W .laws) 𝓣 code.function) (read-walks 𝓤 H A W mem run (𝓣 .C) (𝓣 .Λ))
+read-meets 𝓤 H A W mem run 𝓣 =
+    walk-meets 𝓤 H A read.ended stayed W (goes-none-slice 𝓤 H A W 1 (0 ∷ []) tt (plain (λ _. T.the-row)) yes, (goes-none 𝓤 H A W 1 (λ _. usize) yes (λ κs x f. refl), tt)) (read.clauses 𝓤 H A mem run)
+    (WpFn 𝓤 H (𝓣 .C) (𝓣 .Λ) code.function) (WpFn-mono 𝓤 H (W .laws) 𝓣 code.function) (read-walks 𝓤 H A W mem run (𝓣 .C) (𝓣 .Λ))
 
 pub read-spec : {M : Type 1} → stated.statement M
 unfolding code.routine tablesOf

@@ -1,6 +1,6 @@
 -- `replay::one` meets its contract. Assumes nothing.
 use borrow.Author.Needs.{needs}
-use Rattle.batches.proofs.Laws.{script-most, script-count}
+use Rattle.replay.proofs.batches.Laws.{script-most, script-count}
 use Rattle.replay.proofs.one.Statement.{statement}
 use Rattle.replay.proofs.one.Tie as tie
 

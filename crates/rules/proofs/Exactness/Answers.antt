@@ -14,7 +14,7 @@ use Rattle.kinds.specs.declared.Joined.{Joined}
 use Rattle.kinds.specs.declared.Joined.the-variants.{Of, Refused}
 use Rattle.kinds.specs.Kinds.{sameOf}
 use Rattle.kinds.specs.Union.{unionOf, unionAll}
-use Rattle.sets.specs.Sets.{membersOf}
+use Rattle.ids.specs.Sets.{membersOf}
 use Rattle.rules.specs.Actions.{Answer, answered, refused, ifAnswered, needed, lift, unless, each, ask}
 use Rattle.rules.specs.Lists.{keep, places, isJustName}
 use Rattle.rules.specs.Values.{toAnswer, classesIn}

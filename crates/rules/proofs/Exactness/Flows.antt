@@ -7,7 +7,7 @@ use mathlib.Core.Bool.{Bool as 𝔹, true, false, true≢false, false≢true}
 use mathlib.Core.Option.{some}
 use mathlib.Core.List.{List, [], _∷_, map, List·Memᴰ·head, List·Memᴰ·tail, List·Memᴰ·cases-cons}
 use lib.ListN.{length, getD, List·getD-eq-default}
-use Rattle.sets.specs.Sets.{membersOf}
+use Rattle.ids.specs.Sets.{membersOf}
 use Rattle.kinds.specs.declared.Kind.{Kind}
 use Rattle.kinds.specs.declared.Kind.the-variants.{Empty, Nil, Num, Truth, Fun, Class, Int, Bool, Objects, Any}
 use Rattle.kinds.specs.declared.Joined.the-variants.{Of}

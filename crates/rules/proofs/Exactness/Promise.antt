@@ -8,7 +8,7 @@ use mathlib.Core.Option.{Option, none, some}
 use mathlib.Core.List.{List, [], _∷_, map, List·Memᴰ·head, List·Memᴰ·tail, List·Memᴰ·cases-cons}
 use lib.ListN.{length, getD, List·getD-eq-default}
 use lib.Dec.{eqb, ltb, leb, ltb→lt, leb→le}
-use Rattle.sets.specs.Sets.{membersFrom, membersOf}
+use Rattle.ids.specs.Sets.{membersFrom, membersOf}
 use Rattle.kinds.specs.declared.Kind.{Kind}
 use Rattle.kinds.specs.declared.Kind.the-variants.{Empty, Nil, Num, Truth, Fun, Class, Int, Bool, Objects, Any}
 use Rattle.kinds.specs.Kinds.{tagOf, fitsOf}
@@ -112,7 +112,7 @@ members-from a w zero i s = omega arith
 members-from a w (suc d) i s = go (s % 2) (members-from a w d (suc i) (s / 2))
   where
     go : (b : ℕ) → sum (λ c. cond (eqb a c) w 0) (membersFrom d (suc i) (s / 2)) ≤ sum (λ c. cond (eqb a c) w 0) (from (suc i) d)
-        → sum (λ c. cond (eqb a c) w 0) (Rattle.sets.specs.Sets.keep b i (membersFrom d (suc i) (s / 2))) ≤ cond (eqb a i) w 0 + sum (λ c. cond (eqb a c) w 0) (from (suc i) d)
+        → sum (λ c. cond (eqb a c) w 0) (Rattle.ids.specs.Sets.keep b i (membersFrom d (suc i) (s / 2))) ≤ cond (eqb a i) w 0 + sum (λ c. cond (eqb a c) w 0) (from (suc i) d)
     go zero h = omega arith
     go (suc b) h = omega arith
 

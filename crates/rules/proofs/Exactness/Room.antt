@@ -7,7 +7,7 @@ use mathlib.Core.Option.{Option, none, some}
 use mathlib.Core.List.{List, [], _∷_, _++_, map}
 use lib.Dec.{ltb, leb, eqb}
 use lib.ListN.{length, getD, length-append}
-use Rattle.sets.specs.Sets.{membersOf}
+use Rattle.ids.specs.Sets.{membersOf}
 use Rattle.kinds.specs.declared.Kind.{Kind}
 use Rattle.kinds.specs.declared.Kind.the-variants.{Empty}
 use Rattle.kinds.specs.Kinds.{sameOf, isEmpty}

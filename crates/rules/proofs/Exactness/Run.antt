@@ -7,7 +7,7 @@ use mathlib.Core.Bool.{Bool as 𝔹, true, false, cond, true≢false, false≢tr
 use mathlib.Core.Option.{Option, none, some}
 use mathlib.Core.List.{List, [], _∷_, _++_, map, List·Memᴰ·head, Memᴰ·append-left}
 use lib.ListN.{length, getD}
-use Rattle.sets.specs.Sets.{membersOf}
+use Rattle.ids.specs.Sets.{membersOf}
 use Rattle.kinds.specs.declared.Kind.{Kind}
 use Rattle.kinds.specs.declared.Kind.the-variants.{Empty}
 use Rattle.kinds.specs.Rules.{admits}

@@ -8,7 +8,7 @@ use Rattle.sctp.proofs.analyse_parts.Statement.{statement}
 use Rattle.sctp.proofs.analyse_parts.Tie as tie
 
 slice-aggregate-analyse : tie.Need-slice-aggregate-analyse
-slice-aggregate-analyse c = sym (length-take-le 47872 (c .before .before .before .before .before .args .p .now) (omega (arith, c .before .before .before .before .before .pre .1 .0)))
+slice-aggregate-analyse c = sym (length-take-le 47872 (c .before .before .before .before .before .args .program .now) (omega (arith, c .before .before .before .before .before .pre .1 .0)))
 
 sub-analyse : tie.Need-sub-analyse
 sub-analyse c = search needs
@@ -20,7 +20,9 @@ part-analyse-end : tie.Need-part-analyse-end
 part-analyse-end c = search needs
 
 analyse-requires : tie.Need-analyse-requires
-analyse-requires c κs = (chains-lent (c .before .before .before .before .before .before .before .before .args .p .now) (c .before .before .before .before .before .before .before .before .pre .1 .0) (c .before .before .before .before .before .before .before .before .pre .0), (c .before .before .before .before .before .before .before .before .pre .1 .1 .0, c .before .before .before .before .before .before .before .before .pre .1 .1 .1))
+analyse-requires c κs =
+    let start = c .before .before .before .before .before .before .before .before in
+    (chains-lent (start .args .program .now) (start .pre .1 .0) (start .pre .0), (start .pre .1 .1 .0, start .pre .1 .1 .1))
 
 same-length : tie.Need-same-length
 same-length c = search needs

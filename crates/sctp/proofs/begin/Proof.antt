@@ -8,7 +8,10 @@ clear-tables-requires : tie.Need-clear-tables-requires
 clear-tables-requires c κs = search needs
 
 start-aside-requires : tie.Need-start-aside-requires
-start-aside-requires c κs = (c .before .before .before .before .before .before .before .before .before .before .before .pre .0, (c .before .before .before .before .before .before .before .before .before .before .before .pre .1 .0, c .before .before .before .before .clear-tables .ensures))
+start-aside-requires c κs =
+    let at-clear-tables = c .before .before .before .before in
+    let start = at-clear-tables .before .before .before .before .before .before .before in
+    (start .pre .0, (start .pre .1 .0, at-clear-tables .clear-tables .ensures))
 
 clear-callers-requires : tie.Need-clear-callers-requires
 clear-callers-requires c κs = search needs
@@ -20,7 +23,10 @@ same-length-2 : tie.Need-same-length-2
 same-length-2 c = search needs
 
 returns : tie.Need-returns
-returns c = begun-aside (c .before .before .before .before .before .before .before .before .start-aside .ensures) (c .before .before .clear-callers .ensures)
+returns c =
+    let at-clear-callers = c .before .before in
+    let at-start-aside = at-clear-callers .before .before .before .before .before .before in
+    begun-aside (at-start-aside .start-aside .ensures) (at-clear-callers .clear-callers .ensures)
 
 pub begin-spec : {M : Type 1} → statement M
 begin-spec =

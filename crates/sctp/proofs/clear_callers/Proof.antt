@@ -20,7 +20,10 @@ same-length : tie.Need-same-length
 same-length c = search needs
 
 returns : tie.Need-returns
-returns c = callers-cleared (c .before .before .before .before .before .args .u .now) (c .before .before .clear .last .0) _ (c .before .before .before .before .before .pre) (c .before .before .clear .ensures)
+returns c =
+    let at-clear = c .before .before in
+    let start = at-clear .before .before .before in
+    callers-cleared (start .args .users .now) (at-clear .clear .last .0) _ (start .pre) (at-clear .clear .ensures)
 
 pub clear-callers-spec : {M : Type 1} → statement M
 clear-callers-spec =

@@ -11,25 +11,30 @@ slice-reshare-prefix-build-index : tie.Need-slice-reshare-prefix-build-index
 slice-reshare-prefix-build-index c = search needs
 
 slice-aggregate-build-index : tie.Need-slice-aggregate-build-index
-slice-aggregate-build-index c = sym (length-take-le 47872 (c .before .before .before .args .p .now) (omega (arith, c .before .before .before .pre .1 .0)))
+slice-aggregate-build-index c = sym (length-take-le 47872 (c .before .before .before .args .program .now) (omega (arith, c .before .before .before .pre .1 .0)))
 
 slice-relend-prefix-build-index : tie.Need-slice-relend-prefix-build-index
 slice-relend-prefix-build-index c = search needs
 
 slice-aggregate-build-index-2 : tie.Need-slice-aggregate-build-index-2
-slice-aggregate-build-index-2 c = sym (length-take-le 9216 (c .before .before .before .before .args .m .now) (omega (arith, c .before .before .before .before .pre .1 .1)))
+slice-aggregate-build-index-2 c = sym (length-take-le 9216 (c .before .before .before .before .args .state .now) (omega (arith, c .before .before .before .before .pre .1 .1)))
 
 build-index-requires : tie.Need-build-index-requires
-build-index-requires c κs = (c .before .before .before .before .pre .0, omega (arith, length-take-le 9216 (c .before .before .before .before .args .m .now) (omega (arith, c .before .before .before .before .pre .1 .1))))
+build-index-requires c κs =
+    (c .before .before .before .before .pre .0, omega (arith, length-take-le 9216 (c .before .before .before .before .args .state .now) (omega (arith, c .before .before .before .before .pre .1 .1))))
 
 slice-reshare-prefix-copy-index : tie.Need-slice-reshare-prefix-copy-index
 slice-reshare-prefix-copy-index c = search needs
 
 slice-aggregate-copy-index : tie.Need-slice-aggregate-copy-index
-slice-aggregate-copy-index c = sym (built-taken (c .before .before .before .before .before .before .before .before .args .m .now) (c .before .before .before .build-index .last .1 .1 .0) (c .before .before .before .before .before .before .before .before .pre .1 .1) (c .before .before .before .build-index .kept .1 .1 .0))
+slice-aggregate-copy-index c =
+    let at-build-index = c .before .before .before in
+    let start = at-build-index .before .before .before .before .before in
+    sym (built-taken (start .args .state .now) (at-build-index .build-index .last .1 .1 .0) (start .pre .1 .1) (at-build-index .build-index .kept .1 .1 .0))
 
 copy-index-requires : tie.Need-copy-index-requires
-copy-index-requires c κs = ((omega (arith, built-taken (c .before .before .before .before .before .before .before .before .before .args .m .now) (c .before .before .before .before .build-index .last .1 .1 .0) (c .before .before .before .before .before .before .before .before .before .pre .1 .1) (c .before .before .before .before .build-index .kept .1 .1 .0)), c .before .before .before .before .before .before .before .before .before .pre .0 .insns), omega (arith, c .before .before .before .before .before .before .before .before .before .pre .1 .0))
+copy-index-requires c κs =
+    ((omega (arith, built-taken (c .before .before .before .before .before .before .before .before .before .args .state .now) (c .before .before .before .before .build-index .last .1 .1 .0) (c .before .before .before .before .before .before .before .before .before .pre .1 .1) (c .before .before .before .before .build-index .kept .1 .1 .0)), c .before .before .before .before .before .before .before .before .before .pre .0 .insns), omega (arith, c .before .before .before .before .before .before .before .before .before .pre .1 .0))
 
 same-length : tie.Need-same-length
 same-length c = search needs
@@ -38,7 +43,12 @@ same-length-2 : tie.Need-same-length-2
 same-length-2 c = search needs
 
 returns : tie.Need-returns
-returns c = index-laid (c .before .before .before .before .before .before .before .before .before .before .before .before .args .m .now) (c .before .before .before .before .before .before .before .build-index .last .1 .1 .0) (c .before .before .before .before .before .before .before .before .before .before .before .before .pre .1 .1) (c .before .before .before .before .before .before .before .build-index .kept .1 .1 .0) (c .before .before .before .before .before .before .before .before .before .before .before .before .args .c) (c .before .before .before .before .before .before .before .before .before .before .before .before .args .p .now) (c .before .before .copy-index .last .1 .1 .0) (c .before .before .before .before .before .before .before .before .before .before .before .before .pre .1 .0) (c .before .before .before .before .before .before .before .build-index .ensures) (c .before .before .copy-index .ensures)
+returns c =
+    let at-copy-index = c .before .before in
+    let at-build-index = at-copy-index .before .before .before .before .before in
+    let start = at-build-index .before .before .before .before .before in
+    index-laid (start .args .state .now) (at-build-index .build-index .last .1 .1 .0) (start .pre .1 .1) (at-build-index .build-index .kept .1 .1 .0) (start .args .counts) (start .args .program .now)
+    (at-copy-index .copy-index .last .1 .1 .0) (start .pre .1 .0) (at-build-index .build-index .ensures) (at-copy-index .copy-index .ensures)
 
 pub lay-index-spec : {M : Type 1} → statement M
 lay-index-spec =

@@ -11,19 +11,25 @@ sizes-requires : tie.Need-sizes-requires
 sizes-requires c κs = search needs
 
 lay-index-requires : tie.Need-lay-index-requires
-lay-index-requires c κs = (c .before .before .before .before .before .before .before .pre .ready, (c .before .before .before .before .before .before .before .pre .program, c .before .before .before .before .before .before .before .pre .state))
+lay-index-requires c κs =
+    let start = c .before .before .before .before .before .before .before in
+    (start .pre .ready, (start .pre .program, start .pre .state))
 
 slice-reshare-prefix-compute-uses : tie.Need-slice-reshare-prefix-compute-uses
 slice-reshare-prefix-compute-uses c = search needs
 
 slice-aggregate-compute-uses : tie.Need-slice-aggregate-compute-uses
-slice-aggregate-compute-uses c = sym (length-take-le 47872 (c .before .before .before .before .before .lay-index .last .0) (omega (arith, c .before .before .before .before .before .lay-index .kept .0, c .before .before .before .before .before .before .before .before .before .before .before .before .before .pre .program)))
+slice-aggregate-compute-uses c =
+    sym
+    (length-take-le 47872 (c .before .before .before .before .before .lay-index .last .0) (omega (arith, c .before .before .before .before .before .lay-index .kept .0, c .before .before .before .before .before .before .before .before .before .before .before .before .before .pre .program)))
 
 compute-uses-requires : tie.Need-compute-uses-requires
-compute-uses-requires c κs = (tables-ready (c .before .before .before .before .before .before .before .before .before .before .before .before .before .before .before .pre) (c .before .before .before .before .before .before .before .lay-index .ensures), (search needs, (search needs, search needs)))
+compute-uses-requires c κs =
+    (tables-ready (c .before .before .before .before .before .before .before .before .before .before .before .before .before .before .before .pre) (c .before .before .before .before .before .before .before .lay-index .ensures), (search needs, (search needs, search needs)))
 
 analyse-parts-requires : tie.Need-analyse-parts-requires
-analyse-parts-requires c κs = (all-analysed (c .before .before .before .before .before .before .before .before .before .before .before .before .before .before .before .before .before .before .before .before .before .before .before .pre) (c .before .before .before .before .before .before .before .before .before .before .before .before .before .before .before .lay-index .ensures) (c .before .before .before .before .before .before .before .before .before .before .before .before .before .before .before .before .before .before .sizes .ensures) (c .before .before .before .before .before .before .before .compute-uses .ensures), (search needs, (search needs, search needs)))
+analyse-parts-requires c κs =
+    (all-analysed (c .before .before .before .before .before .before .before .before .before .before .before .before .before .before .before .before .before .before .before .before .before .before .before .pre) (c .before .before .before .before .before .before .before .before .before .before .before .before .before .before .before .lay-index .ensures) (c .before .before .before .before .before .before .before .before .before .before .before .before .before .before .before .before .before .before .sizes .ensures) (c .before .before .before .before .before .before .before .compute-uses .ensures), (search needs, (search needs, search needs)))
 
 same-length : tie.Need-same-length
 same-length c = search needs
@@ -35,7 +41,13 @@ same-length-3 : tie.Need-same-length-3
 same-length-3 c = search needs
 
 returns : tie.Need-returns
-returns c = analysed-whole (c .before .before .before .before .before .before .before .before .before .before .before .before .before .before .before .before .before .before .before .before .before .before .before .before .before .before .before .before .pre) (c .before .before .before .before .before .before .before .before .before .before .before .before .before .before .before .before .before .before .before .before .lay-index .ensures) (c .before .before .before .before .before .before .before .before .before .before .before .before .before .before .before .before .before .before .before .before .before .before .before .sizes .ensures) (c .before .before .before .before .before .before .before .before .before .before .before .before .compute-uses .ensures) (search needs) (c .before .before .before .before .analyse-parts .ensures)
+returns c =
+    analysed-whole
+    (c .before .before .before .before .before .before .before .before .before .before .before .before .before .before .before .before .before .before .before .before .before .before .before .before .before .before .before .before .pre)
+    (c .before .before .before .before .before .before .before .before .before .before .before .before .before .before .before .before .before .before .before .before .lay-index .ensures)
+    (c .before .before .before .before .before .before .before .before .before .before .before .before .before .before .before .before .before .before .before .before .before .before .before .sizes .ensures)
+    (c .before .before .before .before .before .before .before .before .before .before .before .before .compute-uses .ensures) (search needs)
+    (c .before .before .before .before .analyse-parts .ensures)
 
 pub sctp-spec : {M : Type 1} → statement M
 sctp-spec =

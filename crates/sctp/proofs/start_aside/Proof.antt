@@ -14,7 +14,9 @@ part-start-end : tie.Need-part-start-end
 part-start-end c = search needs
 
 start-requires : tie.Need-start-requires
-start-requires c κs = (c .before .before .before .before .before .before .before .pre .0, (callers-room (c .before .before .before .before .before .before .before .args .u .now) (c .before .before .before .before .before .before .before .pre .1 .0), c .before .before .before .before .before .before .before .pre .1 .1))
+start-requires c κs =
+    let start = c .before .before .before .before .before .before .before in
+    (start .pre .0, (callers-room (start .args .users .now) (start .pre .1 .0), start .pre .1 .1))
 
 same-length : tie.Need-same-length
 same-length c = search needs
@@ -23,7 +25,10 @@ same-length-2 : tie.Need-same-length-2
 same-length-2 c = search needs
 
 returns : tie.Need-returns
-returns c = callers-used (c .before .before .before .before .before .before .before .before .before .before .before .before .args .u .now) (c .before .before .before .before .start .last .1 .1 .1 .1 .0) (c .before .before .before .before .before .before .before .before .before .before .before .before .pre .1 .0) (c .before .before .before .before .start .ensures)
+returns c =
+    let at-start = c .before .before .before .before in
+    let start = at-start .before .before .before .before .before .before .before .before in
+    callers-used (start .args .users .now) (at-start .start .last .1 .1 .1 .1 .0) (start .pre .1 .0) (at-start .start .ensures)
 
 pub start-aside-spec : {M : Type 1} → statement M
 start-aside-spec =

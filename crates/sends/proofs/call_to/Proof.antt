@@ -7,37 +7,43 @@ use Rattle.sends.proofs.call_to.Lts as lts
 use Rattle.sends.proofs.enter_call.Reads as enter-call-reads
 use Rattle.sends.proofs.pass.Reads as pass-reads
 
--- src/lib.rt:86:11
 enter-call-requires : tie.Need-enter-call-requires
 enter-call-requires c κs = search needs
 
--- src/lib.rt:87:18
 enum-known-next : tie.Need-enum-known-next
 enum-known-next c = search needs
 
--- src/lib.rt:87:27
 pass-requires : tie.Need-pass-requires
-pass-requires c κs = (next-ready (c .before .before .before .before .before .before .before .before .before .before .before .args .p .now) (c .before .before .before .before .before .before .before .before .before .before .before .args .c) (c .before .before .before .before .before .before .before .before .before .before .before .args .i .0) (c .before .before .before .before .before .before .before .before .before .before .before .args .args) (c .before .before .before .before .before .before .before .before .before .before .before .args .f .0) (c .before .before .before .before .before .before .enter-call .ensures) (c .before .before .next .given .1), (c .before .before .before .before .before .before .before .before .before .before .before .pre .1 .0, c .before .before .before .before .before .before .before .before .before .before .before .pre .1 .1))
+pass-requires c κs =
+    let at-next = c .before .before in
+    let at-enter-call = at-next .before .before .before .before in
+    let start = at-enter-call .before .before .before .before .before in
+    (next-ready (start .args .program .now) (start .args .counts) (start .args .i .0) (start .args .args) (start .args .f .0) (at-enter-call .enter-call .ensures) (at-next .next .given .1), (start .pre .1 .0, start .pre .1 .1))
 
--- src/lib.rt:88:18
 enum-known-e : tie.Need-enum-known-e
 enum-known-e c = search needs
 
--- src/lib.rt:70:1
 same-length : tie.Need-same-length
 same-length c = search needs
 
--- src/lib.rt:70:1
 returns : tie.Need-returns
-returns c = to-both (c .before .before .before .before .before .before .before .before .before .before .before .before .before .before .args .p .now) (c .before .before .before .before .before .before .before .before .before .before .before .before .before .before .args .c) (c .before .before .before .before .before .before .before .before .before .before .before .before .before .before .args .i .0) (c .before .before .before .before .before .before .before .before .before .before .before .before .before .before .args .args) (c .before .before .before .before .before .before .before .before .before .before .before .before .before .before .args .f .0) (c .before .before .before .before .before .before .before .before .before .enter-call .ensures) (c .before .before .before .before .before .next .given .1) (c .before .before .pass .ensures)
+returns c =
+    let at-pass = c .before .before in
+    let at-next = at-pass .before .before .before in
+    let at-enter-call = at-next .before .before .before .before in
+    let start = at-enter-call .before .before .before .before .before in
+    to-both (start .args .program .now) (start .args .counts) (start .args .i .0) (start .args .args) (start .args .f .0) (at-enter-call .enter-call .ensures) (at-next .next .given .1)
+    (at-pass .pass .ensures)
 
--- src/lib.rt:70:1
 same-length-2 : tie.Need-same-length-2
 same-length-2 c = search needs
 
--- src/lib.rt:70:1
 returns-2 : tie.Need-returns-2
-returns-2 c = to-stop (c .before .before .before .before .before .before .before .before .before .before .args .p .now) (c .before .before .before .before .before .before .before .before .before .before .args .c) (c .before .before .before .before .before .before .before .before .before .before .args .i .0) (c .before .before .before .before .before .before .before .before .before .before .args .args) (c .before .before .before .before .before .before .before .before .before .before .args .f .0) (c .before .before .before .before .before .enter-call .ensures) (c .before .e .given .1)
+returns-2 c =
+    let at-e = c .before in
+    let at-enter-call = at-e .before .before .before .before in
+    let start = at-enter-call .before .before .before .before .before in
+    to-stop (start .args .program .now) (start .args .counts) (start .args .i .0) (start .args .args) (start .args .f .0) (at-enter-call .enter-call .ensures) (at-e .e .given .1)
 
 pub call-to-spec : {M : Type 1} → statement M
 call-to-spec =

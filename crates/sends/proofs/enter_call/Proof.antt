@@ -10,22 +10,36 @@ same-length : tie.Need-same-length
 same-length c = search needs
 
 returns : tie.Need-returns
-returns c = caller-known (c .before .before .before .before .before .before .args .i .0) (c .before .before .before .before .before .before .args .f .0) (c .before .before .before .before .before .before .pre .0) (c .before .has-called .ensures) (c .if1 .taken)
+returns c =
+    let at-has-called = c .before in
+    let start = at-has-called .before .before .before .before .before in
+    caller-known (start .args .i .0) (start .args .f .0) (start .pre .0) (at-has-called .has-called .ensures) (c .if1 .taken)
 
 read-fun-requires : tie.Need-read-fun-requires
 read-fun-requires c κs = search needs
 
 count-params-requires : tie.Need-count-params-requires
-count-params-requires c κs = params-there (c .before .before .before .before .before .before .before .before .pre .1 .0) (c .before .before .before .before .before .before .before .before .pre .1 .1) (c .before .read-fun .ensures)
+count-params-requires c κs =
+    let at-read-fun = c .before in
+    let start = at-read-fun .before .before .before .before .before .before .before in
+    params-there (start .pre .1 .0) (start .pre .1 .1) (at-read-fun .read-fun .ensures)
 
 add-call-requires : tie.Need-add-call-requires
-add-call-requires c κs = (c .before .before .before .before .before .before .before .before .before .before .pre .0, ((fun-below (c .before .before .before .before .before .before .before .before .before .before .pre .1 .0) (c .before .before .before .before .before .before .before .before .before .before .pre .1 .1) (c .before .before .before .read-fun .ensures), caller-below (c .before .before .before .before .before .before .before .before .before .before .pre .1 .0) (c .before .before .before .before .before .before .before .before .before .before .pre .1 .1) (c .before .before .before .read-fun .ensures)), entry-below (c .before .before .before .before .before .before .before .before .before .before .pre .1 .0) (c .before .before .before .before .before .before .before .before .before .before .pre .1 .1) (c .before .before .before .read-fun .ensures)))
+add-call-requires c κs =
+    let at-read-fun = c .before .before .before in
+    let start = at-read-fun .before .before .before .before .before .before .before in
+    (start .pre .0, ((fun-below (start .pre .1 .0) (start .pre .1 .1) (at-read-fun .read-fun .ensures), caller-below (start .pre .1 .0) (start .pre .1 .1) (at-read-fun .read-fun .ensures)), entry-below (start .pre .1 .0) (start .pre .1 .1) (at-read-fun .read-fun .ensures)))
 
 same-length-2 : tie.Need-same-length-2
 same-length-2 c = search needs
 
 returns-2 : tie.Need-returns-2
-returns-2 c = call-entered (c .before .before .before .before .before .before .before .before .before .before .before .before .before .pre .1 .0) (c .before .before .before .before .before .before .before .before .before .before .before .before .before .pre .1 .1) (c .before .before .before .before .before .before .read-fun .ensures) (c .before .before .before .before .count-params .ensures) (c .before .before .add-call .ensures)
+returns-2 c =
+    let at-add-call = c .before .before in
+    let at-count-params = at-add-call .before .before in
+    let at-read-fun = at-count-params .before .before in
+    let start = at-read-fun .before .before .before .before .before .before .before in
+    call-entered (start .pre .1 .0) (start .pre .1 .1) (at-read-fun .read-fun .ensures) (at-count-params .count-params .ensures) (at-add-call .add-call .ensures)
 
 pub enter-call-spec : {M : Type 1} → statement M
 enter-call-spec =

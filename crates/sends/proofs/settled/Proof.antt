@@ -1,4 +1,4 @@
-use Rattle.passing.proofs.Passes.{no-truth}
+use Rattle.sends.proofs.passing.Passes.{no-truth}
 use Rattle.sends.proofs.Called.{params-there, call-idle}
 use borrow.Author.Needs.{needs}
 use Rattle.sends.proofs.settled.Statement.{statement}
@@ -11,10 +11,18 @@ read-fun-requires : tie.Need-read-fun-requires
 read-fun-requires c κs = search needs
 
 surely-keeps-all-requires : tie.Need-surely-keeps-all-requires
-surely-keeps-all-requires c κs = (c .before .before .before .before .before .before .before .pre .0, (c .before .before .before .before .before .before .before .pre .1 .0 .caller, params-there (c .before .before .before .before .before .before .before .pre .1 .0) (c .before .before .before .before .before .before .before .pre .1 .1) (c .before .read-fun .ensures)))
+surely-keeps-all-requires c κs =
+    let at-read-fun = c .before in
+    let start = at-read-fun .before .before .before .before .before .before in
+    (start .pre .0, (start .pre .1 .0 .caller, params-there (start .pre .1 .0) (start .pre .1 .1) (at-read-fun .read-fun .ensures)))
 
 returns : tie.Need-returns
-returns c = λ e. call-idle (c .before .before .before .before .before .before .before .before .args .i .0) (c .before .before .before .before .before .before .before .before .args .f .0) (c .before .before .before .before .before .before .before .before .pre .1 .0) (c .before .before .before .before .before .before .before .before .pre .1 .1) (c .before .before .read-fun .ensures) (c .before .before .before .before .has-called .ensures) (c .before .before .before .if1 .taken) (c .surely-keeps-all .ensures e)
+returns c =
+    let at-read-fun = c .before .before in
+    let at-if1 = at-read-fun .before in
+    let at-has-called = at-if1 .before in
+    let start = at-has-called .before .before .before .before in
+    λ e. call-idle (start .args .i .0) (start .args .f .0) (start .pre .1 .0) (start .pre .1 .1) (at-read-fun .read-fun .ensures) (at-has-called .has-called .ensures) (at-if1 .if1 .taken) (c .surely-keeps-all .ensures e)
 
 returns-2 : tie.Need-returns-2
 returns-2 c = λ e. no-truth e

@@ -2,7 +2,7 @@
 use mathlib.Core.Bool.{false≢true}
 use borrow.Author.Tests.{not-false}
 use borrow.Author.Needs.{needs}
-use Rattle.receivers.proofs.Walk.{step, none-left, class-below}
+use Rattle.machine.proofs.receivers.Walk.{step, none-left, class-below}
 use Rattle.flows.specs.Flows.{wordsOf}
 use Rattle.settled.proofs.Settling.{Settling, settling-start, settling-more, settling-done}
 use Rattle.settled.proofs.settled.Statement.{statement}
@@ -37,12 +37,17 @@ returns : tie.Need-returns Inv-loop μ-loop
 returns c = λ h. absurd (false≢true h)
 
 loop-less : tie.Need-loop-less Inv-loop μ-loop
-loop-less c = step (c .before .before .before .before .before .before .loop .inv .walking) (c .before .before .before .before .before .smallest .ensures) (c .before .before .before .x .given .1) .falls
+loop-less c =
+    let at-x = c .before .before .before in
+    let at-smallest = at-x .before .before in
+    let at-loop = at-smallest .before in
+    step (at-loop .loop .inv .walking) (at-smallest .smallest .ensures) (at-x .x .given .1) .falls
 
 loop-again : tie.Need-loop-again Inv-loop μ-loop
 loop-again c =
     let at = c .before .before .before .before .before .before .loop .inv in
-    settling-more at (step (at .walking) (c .before .before .before .before .before .smallest .ensures) (c .before .before .before .x .given .1)) (c .before .settled-in .ensures (not-false _ (c .if1 .left)))
+    settling-more at (step (at .walking) (c .before .before .before .before .before .smallest .ensures) (c .before .before .before .x .given .1))
+    (c .before .settled-in .ensures (not-false _ (c .if1 .left)))
 
 enum-told : tie.Need-enum-told Inv-loop μ-loop
 enum-told c = search needs

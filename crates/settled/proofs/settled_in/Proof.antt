@@ -22,7 +22,7 @@ ivar-words-requires : tie.Need-ivar-words-requires
 ivar-words-requires c κs =
     let found = c .before .before .before in
     let start = found .before .before .before .before .before .before in
-    (start .pre .0, (start .pre .1 .1 .0, at-low (start .args .s .now) (start .args .p .now) (start .args .c) (start .args .x .0) (start .args .n) (found .ivar-named .ensures) (start .pre .1 .0) (start .pre .1 .1 .0) (c .before .a .given .1)))
+    (start .pre .0, (start .pre .1 .1 .0, at-low (start .args .script .now) (start .args .program .now) (start .args .counts) (start .args .x .0) (start .args .n) (found .ivar-named .ensures) (start .pre .1 .0) (start .pre .1 .1 .0) (c .before .a .given .1)))
 
 covers-requires : tie.Need-covers-requires
 covers-requires c κs = search needs
@@ -35,7 +35,8 @@ returns-2 c =
     λ h.
     let found = c .before .before .before .before .before in
     let start = found .before .before .before .before .before .before in
-    settled-at (start .pre .1 .0) (start .pre .1 .1 .0) (found .before .before .has-read .ensures) (found .before .if1 .left) (found .ivar-named .ensures) (c .before .before .before .a .given .1) (c .before .ivar-words .ensures) (c .covers .ensures h)
+    settled-at (start .pre .1 .0) (start .pre .1 .1 .0) (found .before .before .has-read .ensures) (found .before .if1 .left) (found .ivar-named .ensures) (c .before .before .before .a .given .1)
+    (c .before .ivar-words .ensures) (c .covers .ensures h)
 
 returns-3 : tie.Need-returns-3
 returns-3 c = λ h. absurd (false≢true h)

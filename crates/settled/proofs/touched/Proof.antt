@@ -21,7 +21,7 @@ mul-t13 : tie.Need-mul-t13
 mul-t13 c = search needs
 
 shared-slice-read-t15 : tie.Need-shared-slice-read-t15
-shared-slice-read-t15 c = let start = c .before .before .before .before .before in omega (arith, long-tables (start .args .m .now) (start .pre .1 .0), start .pre .1 .0 .insns, start .pre .1 .1)
+shared-slice-read-t15 c = let start = c .before .before .before .before .before in omega (arith, long-tables (start .args .state .now) (start .pre .1 .0), start .pre .1 .0 .insns, start .pre .1 .1)
 
 add-t16 : tie.Need-add-t16
 add-t16 c = search needs
@@ -30,7 +30,7 @@ mul-t17 : tie.Need-mul-t17
 mul-t17 c = search needs
 
 shared-slice-read-t19 : tie.Need-shared-slice-read-t19
-shared-slice-read-t19 c = let start = c .before .before .before .before .before .before in omega (arith, long-tables (start .args .m .now) (start .pre .1 .0), start .pre .1 .0 .insns, start .pre .1 .1)
+shared-slice-read-t19 c = let start = c .before .before .before .before .before .before in omega (arith, long-tables (start .args .state .now) (start .pre .1 .0), start .pre .1 .0 .insns, start .pre .1 .1)
 
 covers-requires : tie.Need-covers-requires
 covers-requires c κs = search needs
@@ -38,10 +38,10 @@ covers-requires c κs = search needs
 returns : tie.Need-returns
 returns c =
     let start = c .before .before .before .before .before .before .before in
-    touched-read (start .args .p .now) (start .args .m .now) (start .pre .1 .0) (start .pre .1 .1) (c .before .before .before .if1 .taken) (c .covers .ensures)
+    touched-read (start .args .program .now) (start .args .state .now) (start .pre .1 .0) (start .pre .1 .1) (c .before .before .before .if1 .taken) (c .covers .ensures)
 
 returns-2 : tie.Need-returns-2
-returns-2 c = let start = c .before .before .before .before in touched-none (start .args .p .now) (start .args .m .now) (c .if1 .left)
+returns-2 c = let start = c .before .before .before .before in touched-none (start .args .program .now) (start .args .state .now) (c .if1 .left)
 
 pub touched-spec : {M : Type 1} → statement M
 touched-spec =

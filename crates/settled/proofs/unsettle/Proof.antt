@@ -20,14 +20,14 @@ loop-holds c = unsettled-start
 touched-requires : tie.Need-touched-requires Inv-loop μ-loop
 touched-requires c κs = let start = c .before .before .before .before .before in (start .pre .0, (unsettled-held (c .before .before .loop .inv) (start .pre .1 .1), omega arith))
 
-add-m : tie.Need-add-m Inv-loop μ-loop
-add-m c = let start = c .before .before .before .before .before .before .before in omega (arith, start .pre .1 .1 .insns)
+add-state : tie.Need-add-state Inv-loop μ-loop
+add-state c = let start = c .before .before .before .before .before .before .before in omega (arith, start .pre .1 .1 .insns)
 
-mul-m : tie.Need-mul-m Inv-loop μ-loop
-mul-m c = let start = c .before .before .before .before .before .before .before in omega (arith, start .pre .1 .1 .insns)
+mul-state : tie.Need-mul-state Inv-loop μ-loop
+mul-state c = let start = c .before .before .before .before .before .before .before in omega (arith, start .pre .1 .1 .insns)
 
-slice-write-m : tie.Need-slice-write-m Inv-loop μ-loop
-slice-write-m c = let start = c .before .before .before .before .before .before .before in omega (arith, start .pre .1 .0, start .pre .1 .1 .insns, c .before .before .before .before .loop .inv .long)
+slice-write-state : tie.Need-slice-write-state Inv-loop μ-loop
+slice-write-state c = let start = c .before .before .before .before .before .before .before in omega (arith, start .pre .1 .0, start .pre .1 .1 .insns, c .before .before .before .before .loop .inv .long)
 
 add-j : tie.Need-add-j Inv-loop μ-loop
 add-j c = let start = c .before .before .before .before .before .before .before in omega (arith, start .pre .1 .1 .insns)
@@ -58,9 +58,9 @@ unsettle-spec =
     μ-loop
     loop-holds
     touched-requires
-    add-m
-    mul-m
-    slice-write-m
+    add-state
+    mul-state
+    slice-write-state
     add-j
     loop-less
     loop-again

@@ -14,13 +14,22 @@ same-length : tie.Need-same-length
 same-length c = search needs
 
 returns : tie.Need-returns
-returns c = live-pushed (c .before .before .before .before .before .before .before .before .args .z) (c .before .before .before .before .before .before .before .before .args .m .now) (c .before .before .before .before .before .before .before .before .args .q) (c .before .before .before .before .before .before .before .before .args .b .0) (c .before .before .before .before .before .before .before .before .args .j .0) (c .before .before .before .before .before .is-live .ensures) (c .before .before .before .before .if1 .taken) (c .before .before .push-insn .ensures)
+returns c =
+    let at-push-insn = c .before .before in
+    let at-if1 = at-push-insn .before .before in
+    let at-is-live = at-if1 .before in
+    let start = at-is-live .before .before .before in
+    live-pushed (start .args .sizes) (start .args .state .now) (start .args .regs) (start .args .b .0) (start .args .j .0) (at-is-live .is-live .ensures) (at-if1 .if1 .taken)
+    (at-push-insn .push-insn .ensures)
 
 same-length-2 : tie.Need-same-length-2
 same-length-2 c = search needs
 
 returns-2 : tie.Need-returns-2
-returns-2 c = dead-passed (c .before .before .before .before .args .z) (c .before .before .before .before .args .m .now) (c .before .before .before .before .args .q) (c .before .before .before .before .args .b .0) (c .before .before .before .before .args .j .0) (c .before .before .before .before .pre .0) (c .before .is-live .ensures) (c .if1 .left)
+returns-2 c =
+    let at-is-live = c .before in
+    let start = at-is-live .before .before .before in
+    dead-passed (start .args .sizes) (start .args .state .now) (start .args .regs) (start .args .b .0) (start .args .j .0) (start .pre .0) (at-is-live .is-live .ensures) (c .if1 .left)
 
 pub push-live-spec : {M : Type 1} → statement M
 push-live-spec =

@@ -7,14 +7,14 @@ use Rattle.state.proofs.set_live.Tie as tie
 cast-at : tie.Need-cast-at
 cast-at c = search needs
 
-add-m : tie.Need-add-m
-add-m c = search needs
+add-state : tie.Need-add-state
+add-state c = search needs
 
-mul-m : tie.Need-mul-m
-mul-m c = search needs
+mul-state : tie.Need-mul-state
+mul-state c = search needs
 
-slice-write-m : tie.Need-slice-write-m
-slice-write-m c = search needs
+slice-write-state : tie.Need-slice-write-state
+slice-write-state c = search needs
 
 same-length : tie.Need-same-length
 same-length c = search needs
@@ -23,4 +23,4 @@ returns : tie.Need-returns
 returns c = search live-put
 
 pub set-live-spec : {M : Type 1} → statement M
-set-live-spec = tie.close (tie.spec cast-at add-m mul-m slice-write-m same-length returns)
+set-live-spec = tie.close (tie.spec cast-at add-state mul-state slice-write-state same-length returns)

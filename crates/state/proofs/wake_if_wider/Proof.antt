@@ -20,7 +20,14 @@ same-length : tie.Need-same-length
 same-length c = search needs
 
 returns : tie.Need-returns
-returns c = wake-same (c .before .before .before .before .before .before .before .before .before .args .z) (c .before .before .before .before .before .before .before .before .before .args .m .now) (c .before .before .before .before .before .before .before .before .before .args .q) (c .before .before .before .before .before .before .before .before .before .args .i .0) (c .before .before .before .before .before .before .before .before .before .args .k) (c .before .before .before .before .before .before .kind-at .ensures) (c .before .before .before .before .before .union .ensures) (c .before .before .before .before .before .before .before .before .before .pre .0) (c .before .before .before .u .given .0 .0) (c .before .before .before .u .given .1) (c .before .same .ensures) (c .if1 .taken)
+returns c =
+    let at-same = c .before in
+    let at-u = at-same .before .before in
+    let at-union = at-u .before .before in
+    let at-kind-at = at-union .before in
+    let start = at-kind-at .before .before .before in
+    wake-same (start .args .sizes) (start .args .state .now) (start .args .regs) (start .args .i .0) (start .args .k) (at-kind-at .kind-at .ensures) (at-union .union .ensures) (start .pre .0)
+    (at-u .u .given .0 .0) (at-u .u .given .1) (at-same .same .ensures) (c .if1 .taken)
 
 push-insn-requires : tie.Need-push-insn-requires
 push-insn-requires c κs = search needs
@@ -32,13 +39,28 @@ same-length-2 : tie.Need-same-length-2
 same-length-2 c = search needs
 
 returns-2 : tie.Need-returns-2
-returns-2 c = wake-wider (c .before .before .before .before .before .before .before .before .before .before .before .before .before .args .z) (c .before .before .before .before .before .before .before .before .before .before .before .before .before .args .m .now) (c .before .before .before .before .before .before .before .before .before .before .before .before .before .args .q) (c .before .before .before .before .before .before .before .before .before .before .before .before .before .args .i .0) (c .before .before .before .before .before .before .before .before .before .before .before .before .before .args .k) (c .before .before .before .before .before .before .before .before .before .before .kind-at .ensures) (c .before .before .before .before .before .before .before .before .before .union .ensures) (c .before .before .before .before .before .before .before .u .given .0 .0) (c .before .before .before .before .before .before .before .u .given .1) (c .before .before .before .before .before .same .ensures) (c .before .before .before .before .if1 .left) (c .before .before .push-insn .ensures)
+returns-2 c =
+    let at-push-insn = c .before .before in
+    let at-if1 = at-push-insn .before .before in
+    let at-same = at-if1 .before in
+    let at-u = at-same .before .before in
+    let at-union = at-u .before .before in
+    let at-kind-at = at-union .before in
+    let start = at-kind-at .before .before .before in
+    wake-wider (start .args .sizes) (start .args .state .now) (start .args .regs) (start .args .i .0) (start .args .k) (at-kind-at .kind-at .ensures) (at-union .union .ensures) (at-u .u .given .0 .0)
+    (at-u .u .given .1) (at-same .same .ensures) (at-if1 .if1 .left) (at-push-insn .push-insn .ensures)
 
 same-length-3 : tie.Need-same-length-3
 same-length-3 c = search needs
 
 returns-3 : tie.Need-returns-3
-returns-3 c = wake-refused (c .before .before .before .before .before .before .before .args .z) (c .before .before .before .before .before .before .before .args .m .now) (c .before .before .before .before .before .before .before .args .q) (c .before .before .before .before .before .before .before .args .i .0) (c .before .before .before .before .before .before .before .args .k) (c .before .before .before .before .kind-at .ensures) (c .before .before .before .union .ensures) (c .before .n .given .0 .0) (c .before .n .given .1)
+returns-3 c =
+    let at-n = c .before in
+    let at-union = at-n .before .before in
+    let at-kind-at = at-union .before in
+    let start = at-kind-at .before .before .before in
+    wake-refused (start .args .sizes) (start .args .state .now) (start .args .regs) (start .args .i .0) (start .args .k) (at-kind-at .kind-at .ensures) (at-union .union .ensures)
+    (at-n .n .given .0 .0) (at-n .n .given .1)
 
 pub wake-if-wider-spec : {M : Type 1} → statement M
 wake-if-wider-spec =

@@ -16,7 +16,9 @@ use Rattle.statements.proofs.+parse_block+parse_else+parse_if+parse_sta
 use Rattle.statements.proofs.+parse_block+parse_else+parse_if+parse_statement+parse_statements.Lts-parse_if as parse-if-lts
 use Rattle.statements.proofs.+parse_block+parse_else+parse_if+parse_statement+parse_statements.Lts-parse_statement as parse-statement-lts
 use Rattle.statements.proofs.+parse_block+parse_else+parse_if+parse_statement+parse_statements.Lts-parse_statements as parse-statements-lts
-use Rattle.statements.proofs.+parse_block+parse_else+parse_if+parse_statement+parse_statements.Proof.Measures.{μ-parse-block, μ-parse-else, μ-parse-if, μ-parse-statement, μ-parse-statements, parse-block-at, parse-else-at, parse-if-at, parse-statement-at, parse-statements-at}
+use Rattle.statements.proofs.+parse_block+parse_else+parse_if+parse_statement+parse_statements.Proof.Measures.{μ-parse-block, μ-parse-else, μ-parse-if, μ-parse-statement, μ-parse-statements}
+use Rattle.statements.proofs.+parse_block+parse_else+parse_if+parse_statement+parse_statements.Proof.Measures.{parse-block-at, parse-else-at, parse-if-at, parse-statement-at}
+use Rattle.statements.proofs.+parse_block+parse_else+parse_if+parse_statement+parse_statements.Proof.Measures.{parse-statements-at}
 use Rattle.statements.proofs.+parse_block+parse_else+parse_if+parse_statement+parse_statements.Proof.Parse-block as the-parse-block
 use Rattle.statements.proofs.+parse_block+parse_else+parse_if+parse_statement+parse_statements.Proof.Parse-else as the-parse-else
 use Rattle.statements.proofs.+parse_block+parse_else+parse_if+parse_statement+parse_statements.Proof.Parse-if as the-parse-if

@@ -10,7 +10,10 @@ same-length : tie.Need-same-length
 same-length c = search needs
 
 returns : tie.Need-returns
-returns c = ends-shut _ _ _ _ _ (c .before .before .before .before .before .before .pre .0) (c .before .is-terminated .ensures) (c .if1 .taken)
+returns c =
+    let at-is-terminated = c .before in
+    let start = at-is-terminated .before .before .before .before .before in
+    ends-shut _ _ _ _ _ (start .pre .0) (at-is-terminated .is-terminated .ensures) (c .if1 .taken)
 
 add-end-requires : tie.Need-add-end-requires
 add-end-requires c κs = search needs
@@ -19,7 +22,12 @@ same-length-2 : tie.Need-same-length-2
 same-length-2 c = search needs
 
 returns-2 : tie.Need-returns-2
-returns-2 c = ends-open _ _ _ _ _ (c .before .before .before .before .before .before .before .before .before .before .pre .0) (c .before .before .before .before .before .is-terminated .ensures) (c .before .before .before .before .if1 .left) (c .before .before .add-end .ensures)
+returns-2 c =
+    let at-add-end = c .before .before in
+    let at-if1 = at-add-end .before .before in
+    let at-is-terminated = at-if1 .before in
+    let start = at-is-terminated .before .before .before .before .before in
+    ends-open _ _ _ _ _ (start .pre .0) (at-is-terminated .is-terminated .ensures) (at-if1 .if1 .left) (at-add-end .add-end .ensures)
 
 pub end-block-spec : {M : Type 1} → statement M
 end-block-spec = tie.close (tie.spec is-terminated-requires same-length returns add-end-requires same-length-2 returns-2)

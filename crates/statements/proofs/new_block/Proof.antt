@@ -19,13 +19,19 @@ same-length : tie.Need-same-length
 same-length c = search needs
 
 returns : tie.Need-returns
-returns c = new-on _ _ _ (c .before .before .before .before .before .before .next-block .ensures) (c .before .before .b .given .1) (c .counted .ensures)
+returns c =
+    let at-b = c .before .before in
+    let at-next-block = at-b .before .before .before .before in
+    new-on _ _ _ (at-next-block .next-block .ensures) (at-b .b .given .1) (c .counted .ensures)
 
 same-length-2 : tie.Need-same-length-2
 same-length-2 c = search needs
 
 returns-2 : tie.Need-returns-2
-returns-2 c = new-no _ _ _ (c .before .before .before .before .before .next-block .ensures) (c .before .e .given .1)
+returns-2 c =
+    let at-e = c .before in
+    let at-next-block = at-e .before .before .before .before in
+    new-no _ _ _ (at-next-block .next-block .ensures) (at-e .e .given .1)
 
 pub new-block-spec : {M : Type 1} → statement M
 new-block-spec = tie.close (tie.spec next-block-requires enum-known-b counted-requires enum-known-e same-length returns same-length-2 returns-2)

@@ -21,121 +21,117 @@ Inv-loop m w u₀ starts users n pos₀ j₀ u pos j = Laying m n starts users u
 abbrev μ-loop : tie.MeasureT-loop
 μ-loop m w u₀ starts users n pos₀ j₀ u pos j = n - j
 
--- src/lib.rt:134:5
 link-all-requires : tie.Need-link-all-requires Inv-loop2 μ-loop2 Inv-loop μ-loop
 link-all-requires c κs = search needs
 
--- src/lib.rt:138:5
 loop-holds : tie.Need-loop-holds Inv-loop2 μ-loop2 Inv-loop μ-loop
-loop-holds c = lay-start (c .before .before .before .before .before .before .before .pre .0) _ _ _ (c .before .before .before .before .before .before .before .pre .1 .1 .0) (c .before .before .before .before .before .before .before .pre .1 .1 .1)
+loop-holds c =
+    let start = c .before .before .before .before .before .before .before in
+    lay-start (start .pre .0) _ _ _ (start .pre .1 .1 .0) (start .pre .1 .1 .1)
 
--- src/lib.rt:139:11
 add-u : tie.Need-add-u Inv-loop2 μ-loop2 Inv-loop μ-loop
 add-u c = search needs
 
--- src/lib.rt:139:9
 mul-u : tie.Need-mul-u Inv-loop2 μ-loop2 Inv-loop μ-loop
 mul-u c = search needs
 
--- src/lib.rt:139:9
 slice-write-u : tie.Need-slice-write-u Inv-loop2 μ-loop2 Inv-loop μ-loop
 slice-write-u c = omega (arith, c .before .before .before .before .before .before .before .before .before .pre .0 .insns, c .before .loop .inv .len-same)
 
--- src/lib.rt:140:21
 mul-h : tie.Need-mul-h Inv-loop2 μ-loop2 Inv-loop μ-loop
 mul-h c = search needs
 
--- src/lib.rt:140:21
 slice-read-h : tie.Need-slice-read-h Inv-loop2 μ-loop2 Inv-loop μ-loop
 slice-read-h c = omega (arith, c .before .before .before .before .before .link-all .ensures .len, c .before .before .before .before .before .before .before .before .before .before .pre .0 .insns)
 
--- src/lib.rt:141:9
 loop2-holds : tie.Need-loop2-holds Inv-loop2 μ-loop2 Inv-loop μ-loop
-loop2-holds c = copy-start (c .before .before .before .before .before .before .before .before .before .before .pre .0) _ _ _ (c .before .before .before .before .before .before .before .before .before .before .pre .1 .1 .0) (c .before .before .before .before .before .before .before .before .before .before .pre .1 .1 .1) (c .before .before .loop .inv) (c .before .before .before .before .before .link-all .ensures) (omega arith)
+loop2-holds c =
+    copy-start (c .before .before .before .before .before .before .before .before .before .before .pre .0) _ _ _
+    (c .before .before .before .before .before .before .before .before .before .before .pre .1 .1 .0) (c .before .before .before .before .before .before .before .before .before .before .pre .1 .1 .1)
+    (c .before .before .loop .inv) (c .before .before .before .before .before .link-all .ensures) (omega arith)
 
--- src/lib.rt:142:23
 add-x : tie.Need-add-x Inv-loop2 μ-loop2 Inv-loop μ-loop
 add-x c = search needs
 
--- src/lib.rt:142:21
 mul-x : tie.Need-mul-x Inv-loop2 μ-loop2 Inv-loop μ-loop
 mul-x c = search needs
 
--- src/lib.rt:142:21
 slice-read-x : tie.Need-slice-read-x Inv-loop2 μ-loop2 Inv-loop μ-loop
 slice-read-x c = omega (arith, c .before .before .before .before .before .before .before .before .link-all .ensures .len)
 
--- src/lib.rt:143:15
 add-u-2 : tie.Need-add-u-2 Inv-loop2 μ-loop2 Inv-loop μ-loop
-add-u-2 c = omega (arith, copy-room (c .before .before .before .before .before .before .before .before .before .before .before .before .before .pre .0) _ _ (c .before .before .before .before .before .before .before .before .before .before .before .before .before .pre .1 .1 .0) (c .before .before .loop2 .inv) (omega arith))
+add-u-2 c =
+    omega
+    (arith, copy-room (c .before .before .before .before .before .before .before .before .before .before .before .before .before .pre .0) _ _ (c .before .before .before .before .before .before .before .before .before .before .before .before .before .pre .1 .1 .0) (c .before .before .loop2 .inv) (omega arith))
 
--- src/lib.rt:143:13
 mul-u-2 : tie.Need-mul-u-2 Inv-loop2 μ-loop2 Inv-loop μ-loop
-mul-u-2 c = omega (arith, copy-room (c .before .before .before .before .before .before .before .before .before .before .before .before .before .pre .0) _ _ (c .before .before .before .before .before .before .before .before .before .before .before .before .before .pre .1 .1 .0) (c .before .before .loop2 .inv) (omega arith))
+mul-u-2 c =
+    omega
+    (arith, copy-room (c .before .before .before .before .before .before .before .before .before .before .before .before .before .pre .0) _ _ (c .before .before .before .before .before .before .before .before .before .before .before .before .before .pre .1 .1 .0) (c .before .before .loop2 .inv) (omega arith))
 
--- src/lib.rt:143:13
 slice-write-u-2 : tie.Need-slice-write-u-2 Inv-loop2 μ-loop2 Inv-loop μ-loop
-slice-write-u-2 c = copy-inside (c .before .before .before .before .before .before .before .before .before .before .before .before .before .pre .0) _ _ (c .before .before .before .before .before .before .before .before .before .before .before .before .before .pre .1 .1 .0) (c .before .before .loop2 .inv) (omega arith) (on-room (c .before .before .before .before .before .before .before .before .before .before .before .before .before .pre .0) _ _ _ (c .before .before .before .before .before .before .before .before .before .before .before .before .before .pre .1 .1 .0) (c .before .before .before .before .before .before .before .before .before .before .before .before .before .pre .1 .1 .1) (c .before .before .before .before .before .loop .inv))
+slice-write-u-2 c =
+    copy-inside (c .before .before .before .before .before .before .before .before .before .before .before .before .before .pre .0) _ _
+    (c .before .before .before .before .before .before .before .before .before .before .before .before .before .pre .1 .1 .0) (c .before .before .loop2 .inv) (omega arith)
+    (on-room (c .before .before .before .before .before .before .before .before .before .before .before .before .before .pre .0) _ _ _ (c .before .before .before .before .before .before .before .before .before .before .before .before .before .pre .1 .1 .0) (c .before .before .before .before .before .before .before .before .before .before .before .before .before .pre .1 .1 .1) (c .before .before .before .before .before .loop .inv))
 
--- src/lib.rt:144:19
 add-h : tie.Need-add-h Inv-loop2 μ-loop2 Inv-loop μ-loop
 add-h c = search needs
 
--- src/lib.rt:144:17
 mul-h-2 : tie.Need-mul-h-2 Inv-loop2 μ-loop2 Inv-loop μ-loop
 mul-h-2 c = search needs
 
--- src/lib.rt:144:17
 slice-read-h-2 : tie.Need-slice-read-h-2 Inv-loop2 μ-loop2 Inv-loop μ-loop
 slice-read-h-2 c = omega (arith, c .before .before .before .before .before .before .before .before .before .link-all .ensures .len)
 
--- src/lib.rt:145:13
 add-pos : tie.Need-add-pos Inv-loop2 μ-loop2 Inv-loop μ-loop
-add-pos c = omega (arith, copy-room (c .before .before .before .before .before .before .before .before .before .before .before .before .before .before .pre .0) _ _ (c .before .before .before .before .before .before .before .before .before .before .before .before .before .before .pre .1 .1 .0) (c .before .before .before .loop2 .inv) (omega arith))
+add-pos c =
+    omega
+    (arith, copy-room (c .before .before .before .before .before .before .before .before .before .before .before .before .before .before .pre .0) _ _ (c .before .before .before .before .before .before .before .before .before .before .before .before .before .before .pre .1 .1 .0) (c .before .before .before .loop2 .inv) (omega arith))
 
--- src/lib.rt:141:9
 loop2-less : tie.Need-loop2-less Inv-loop2 μ-loop2 Inv-loop μ-loop
-loop2-less c = omega (arith, copy-rises (c .before .before .before .before .before .before .before .before .before .before .before .before .before .before .pre .0) _ _ (c .before .before .before .before .before .before .before .before .before .before .before .before .before .before .pre .1 .1 .0) (c .before .before .before .loop2 .inv) (omega arith))
+loop2-less c =
+    omega
+    (arith, copy-rises (c .before .before .before .before .before .before .before .before .before .before .before .before .before .before .pre .0) _ _ (c .before .before .before .before .before .before .before .before .before .before .before .before .before .before .pre .1 .1 .0) (c .before .before .before .loop2 .inv) (omega arith))
 
--- src/lib.rt:141:9
 loop2-again : tie.Need-loop2-again Inv-loop2 μ-loop2 Inv-loop μ-loop
-loop2-again c = copy-more (c .before .before .before .before .before .before .before .before .before .before .before .before .before .before .pre .0) _ _ (c .before .before .before .before .before .before .before .before .before .before .before .before .before .before .pre .1 .1 .0) (c .before .before .before .loop2 .inv) (omega arith) (on-room (c .before .before .before .before .before .before .before .before .before .before .before .before .before .before .pre .0) _ _ _ (c .before .before .before .before .before .before .before .before .before .before .before .before .before .before .pre .1 .1 .0) (c .before .before .before .before .before .before .before .before .before .before .before .before .before .before .pre .1 .1 .1) (c .before .before .before .before .before .before .loop .inv))
+loop2-again c =
+    copy-more (c .before .before .before .before .before .before .before .before .before .before .before .before .before .before .pre .0) _ _
+    (c .before .before .before .before .before .before .before .before .before .before .before .before .before .before .pre .1 .1 .0) (c .before .before .before .loop2 .inv) (omega arith)
+    (on-room (c .before .before .before .before .before .before .before .before .before .before .before .before .before .before .pre .0) _ _ _ (c .before .before .before .before .before .before .before .before .before .before .before .before .before .before .pre .1 .1 .0) (c .before .before .before .before .before .before .before .before .before .before .before .before .before .before .pre .1 .1 .1) (c .before .before .before .before .before .before .loop .inv))
 
--- src/lib.rt:147:9
 add-j : tie.Need-add-j Inv-loop2 μ-loop2 Inv-loop μ-loop
 add-j c = search needs
 
--- src/lib.rt:138:5
 loop-less : tie.Need-loop-less Inv-loop2 μ-loop2 Inv-loop μ-loop
 loop-less c = search needs
 
--- src/lib.rt:138:5
 loop-again : tie.Need-loop-again Inv-loop2 μ-loop2 Inv-loop μ-loop
-loop-again c = copy-done (c .before .before .before .before .before .before .before .before .before .before .before .before .pre .0) _ _ _ (c .before .before .before .before .before .before .before .before .before .before .before .before .pre .1 .1 .0) (c .before .before .before .before .before .before .before .before .before .before .before .before .pre .1 .1 .1) (c .before .before .before .before .loop .inv) (c .before .loop2 .inv) (omega arith)
+loop-again c =
+    copy-done (c .before .before .before .before .before .before .before .before .before .before .before .before .pre .0) _ _ _
+    (c .before .before .before .before .before .before .before .before .before .before .before .before .pre .1 .1 .0)
+    (c .before .before .before .before .before .before .before .before .before .before .before .before .pre .1 .1 .1) (c .before .before .before .before .loop .inv) (c .before .loop2 .inv)
+    (omega arith)
 
--- src/lib.rt:149:7
 add-u-3 : tie.Need-add-u-3 Inv-loop2 μ-loop2 Inv-loop μ-loop
 add-u-3 c = search needs
 
--- src/lib.rt:149:5
 mul-u-3 : tie.Need-mul-u-3 Inv-loop2 μ-loop2 Inv-loop μ-loop
 mul-u-3 c = search needs
 
--- src/lib.rt:149:5
 slice-write-u-3 : tie.Need-slice-write-u-3 Inv-loop2 μ-loop2 Inv-loop μ-loop
 slice-write-u-3 c = omega (arith, c .before .before .before .before .before .before .before .before .before .pre .0 .insns, c .before .loop .inv .len-same)
 
--- src/lib.rt:128:1
 same-length : tie.Need-same-length Inv-loop2 μ-loop2 Inv-loop μ-loop
 same-length c = search needs
 
--- src/lib.rt:128:1
 same-length-2 : tie.Need-same-length-2 Inv-loop2 μ-loop2 Inv-loop μ-loop
 same-length-2 c = simp length-set (c .before .loop .inv .len-same)
 
--- src/lib.rt:128:1
 returns : tie.Need-returns Inv-loop2 μ-loop2 Inv-loop μ-loop
-returns c = lay-done (c .before .before .before .before .before .before .before .before .before .pre .0) _ _ _ (c .before .before .before .before .before .before .before .before .before .pre .1 .1 .0) (c .before .before .before .before .before .before .before .before .before .pre .1 .1 .1) (c .before .loop .inv) (omega arith)
+returns c =
+    lay-done (c .before .before .before .before .before .before .before .before .before .pre .0) _ _ _ (c .before .before .before .before .before .before .before .before .before .pre .1 .1 .0)
+    (c .before .before .before .before .before .before .before .before .before .pre .1 .1 .1) (c .before .loop .inv) (omega arith)
 
 pub compute-uses-spec : {M : Type 1} → statement M
 compute-uses-spec =

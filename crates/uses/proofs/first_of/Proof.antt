@@ -5,23 +5,18 @@ use Rattle.uses.proofs.first_of.Tie as tie
 use Rattle.uses.proofs.first_of.Reads as reads
 use Rattle.uses.proofs.first_of.Lts as lts
 
--- src/lib.rt:56:18
 add-result : tie.Need-add-result
 add-result c = search needs
 
--- src/lib.rt:56:16
 mul-result : tie.Need-mul-result
 mul-result c = search needs
 
--- src/lib.rt:56:16
 shared-slice-read-result : tie.Need-shared-slice-read-result
 shared-slice-read-result c = search needs
 
--- src/lib.rt:56:9
 returns : tie.Need-returns
 returns c = search first-some
 
--- src/lib.rt:51:1
 returns-2 : tie.Need-returns-2
 returns-2 c = search first-none
 

@@ -5,7 +5,7 @@ use Rattle.uses.proofs.link_all.Statement.{statement}
 use Rattle.uses.proofs.link_all.Tie as tie
 use Rattle.uses.proofs.link_all.Reads as reads
 use Rattle.uses.proofs.link_all.Lts as lts
-use Rattle.index.proofs.fill.Reads as fill-reads
+use Rattle.chains.proofs.fill.Reads as fill-reads
 use Rattle.uses.proofs.link_insn.Reads as link-insn-reads
 
 abbrev Inv-loop : tie.InvT-loop
@@ -14,39 +14,33 @@ Inv-loop m c w₀ e₀ i₀ w e i = Linking m (c .insns) w₀ w e i
 abbrev μ-loop : tie.MeasureT-loop
 μ-loop m c w₀ e₀ i₀ w e i = i
 
--- src/lib.rt:117:5
 fill-requires : tie.Need-fill-requires Inv-loop μ-loop
 fill-requires c κs = search needs
 
--- src/lib.rt:120:5
 loop-holds : tie.Need-loop-holds Inv-loop μ-loop
-loop-holds c = all-start (c .before .before .before .before .before .before .pre .0) (c .before .before .before .before .before .before .pre .1) (c .before .before .fill .ensures)
+loop-holds c =
+    let at-fill = c .before .before in
+    let start = at-fill .before .before .before .before in
+    all-start (start .pre .0) (start .pre .1) (at-fill .fill .ensures)
 
--- src/lib.rt:121:9
 sub-i : tie.Need-sub-i Inv-loop μ-loop
 sub-i c = search needs
 
--- src/lib.rt:122:39
 cast-t12 : tie.Need-cast-t12 Inv-loop μ-loop
 cast-t12 c = search needs
 
--- src/lib.rt:122:9
 link-insn-requires : tie.Need-link-insn-requires Inv-loop μ-loop
 link-insn-requires c κs = (search needs, (search needs, all-next (c .before .before .loop .inv) (omega arith)))
 
--- src/lib.rt:120:5
 loop-less : tie.Need-loop-less Inv-loop μ-loop
 loop-less c = search needs
 
--- src/lib.rt:120:5
 loop-again : tie.Need-loop-again Inv-loop μ-loop
 loop-again c = all-more (c .before .before .before .before .before .loop .inv) (omega arith) (search needs) (c .before .before .link-insn .ensures)
 
--- src/lib.rt:112:1
 same-length : tie.Need-same-length Inv-loop μ-loop
 same-length c = search needs
 
--- src/lib.rt:112:1
 returns : tie.Need-returns Inv-loop μ-loop
 returns c = all-done (c .before .loop .inv) (omega arith)
 

@@ -18,94 +18,88 @@ Inv-loop m w₀ from user n most-used used at e₀ q₀ w e q = Turning m n user
 abbrev μ-loop : tie.MeasureT-loop
 μ-loop m w₀ from user n most-used used at e₀ q₀ w e q = used - q
 
--- src/lib.rt:87:16
 cast-user : tie.Need-cast-user Inv-loop μ-loop
 cast-user c = search needs
 
--- src/lib.rt:89:9
 read-insn-requires : tie.Need-read-insn-requires Inv-loop μ-loop
 read-insn-requires c κs = search needs
 
--- src/lib.rt:91:9
 most-requires : tie.Need-most-requires Inv-loop μ-loop
 most-requires c κs = search needs
 
--- src/lib.rt:92:9
 smaller-requires : tie.Need-smaller-requires Inv-loop μ-loop
 smaller-requires c κs = search needs
 
--- src/lib.rt:93:22
 mul-at : tie.Need-mul-at Inv-loop μ-loop
-mul-at c = omega (arith, insn-room (c .before .before .before .before .before .before .before .pre .0) (c .before .before .before .before .before .before .before .pre .1 .0) (c .before .before .before .read-insn .ensures .row))
+mul-at c =
+    omega
+    (arith, insn-room (c .before .before .before .before .before .before .before .pre .0) (c .before .before .before .before .before .before .before .pre .1 .0) (c .before .before .before .read-insn .ensures .row))
 
--- src/lib.rt:93:14
 add-at : tie.Need-add-at Inv-loop μ-loop
-add-at c = omega (arith, insn-room (c .before .before .before .before .before .before .before .pre .0) (c .before .before .before .before .before .before .before .pre .1 .0) (c .before .before .before .read-insn .ensures .row))
+add-at c =
+    omega
+    (arith, insn-room (c .before .before .before .before .before .before .before .pre .0) (c .before .before .before .before .before .before .before .pre .1 .0) (c .before .before .before .read-insn .ensures .row))
 
--- src/lib.rt:96:5
 loop-holds : tie.Need-loop-holds Inv-loop μ-loop
-loop-holds c = turn-start (c .before .before .before .read-insn .ensures .row) (c .before .before .most .ensures) (c .before .smaller .ensures) (c .before .before .before .before .before .before .before .pre .1 .1)
+loop-holds c =
+    let at-smaller = c .before in
+    let at-most = at-smaller .before in
+    let at-read-insn = at-most .before in
+    let start = at-read-insn .before .before .before .before in
+    turn-start (at-read-insn .read-insn .ensures .row) (at-most .most .ensures) (at-smaller .smaller .ensures) (start .pre .1 .1)
 
--- src/lib.rt:97:44
 mul-read-opnd : tie.Need-mul-read-opnd Inv-loop μ-loop
-mul-read-opnd c = omega (arith, opnd-room (c .before .loop .inv) (c .before .before .before .before .before .before .before .before .before .pre .0) (c .before .before .before .before .before .before .before .before .before .pre .1 .0) (omega arith), c .before .before .before .before .before .before .before .before .before .pre .0 .len-mem)
+mul-read-opnd c =
+    omega
+    (arith, opnd-room (c .before .loop .inv) (c .before .before .before .before .before .before .before .before .before .pre .0) (c .before .before .before .before .before .before .before .before .before .pre .1 .0) (omega arith), c .before .before .before .before .before .before .before .before .before .pre .0 .len-mem)
 
--- src/lib.rt:97:39
 add-read-opnd : tie.Need-add-read-opnd Inv-loop μ-loop
-add-read-opnd c = omega (arith, opnd-room (c .before .loop .inv) (c .before .before .before .before .before .before .before .before .before .pre .0) (c .before .before .before .before .before .before .before .before .before .pre .1 .0) (omega arith), c .before .before .before .before .before .before .before .before .before .pre .0 .len-mem)
+add-read-opnd c =
+    omega
+    (arith, opnd-room (c .before .loop .inv) (c .before .before .before .before .before .before .before .before .before .pre .0) (c .before .before .before .before .before .before .before .before .before .pre .1 .0) (omega arith), c .before .before .before .before .before .before .before .before .before .pre .0 .len-mem)
 
--- src/lib.rt:97:13
 read-opnd-requires : tie.Need-read-opnd-requires Inv-loop μ-loop
-read-opnd-requires c κs = opnd-room (c .before .loop .inv) (c .before .before .before .before .before .before .before .before .before .pre .0) (c .before .before .before .before .before .before .before .before .before .pre .1 .0) (omega arith)
+read-opnd-requires c κs =
+    opnd-room (c .before .loop .inv) (c .before .before .before .before .before .before .before .before .before .pre .0)
+    (c .before .before .before .before .before .before .before .before .before .pre .1 .0) (omega arith)
 
--- src/lib.rt:98:9
 add-q : tie.Need-add-q Inv-loop μ-loop
 add-q c = search needs
 
 enum-told : tie.Need-enum-told Inv-loop μ-loop
 enum-told c = search needs
 
--- src/lib.rt:96:5
 loop-less : tie.Need-loop-less Inv-loop μ-loop
 loop-less c = search needs
 
--- src/lib.rt:96:5
 loop-again : tie.Need-loop-again Inv-loop μ-loop
 loop-again c = search turn-const
 
--- src/lib.rt:101:24
 enum-known-o : tie.Need-enum-known-o Inv-loop μ-loop
 enum-known-o c = search needs
 
--- src/lib.rt:102:25
 cast-k : tie.Need-cast-k Inv-loop μ-loop
 cast-k c = search needs
 
--- src/lib.rt:104:21
 link-requires : tie.Need-link-requires Inv-loop μ-loop
-link-requires c κs = (c .before .before .before .before .before .before .before .before .loop .inv .len, ((link-room (c .before .before .before .before .before .before .before .before .loop .inv) (omega arith) (c .before .before .before .before .before .before .read-opnd .ensures), c .before .before .before .before .before .before .before .before .loop .inv .few), (omega (arith, c .before .before .before .before .before .before .before .before .before .before .before .before .before .before .before .before .pre .0 .insns, c .before .before .before .before .before .before .before .before .before .before .before .before .before .before .before .before .pre .1 .0), omega (arith, c .before .before .before .before .before .before .before .before .before .before .before .before .before .before .before .before .pre .0 .insns))))
+link-requires c κs =
+    (c .before .before .before .before .before .before .before .before .loop .inv .len, ((link-room (c .before .before .before .before .before .before .before .before .loop .inv) (omega arith) (c .before .before .before .before .before .before .read-opnd .ensures), c .before .before .before .before .before .before .before .before .loop .inv .few), (omega (arith, c .before .before .before .before .before .before .before .before .before .before .before .before .before .before .before .before .pre .0 .insns, c .before .before .before .before .before .before .before .before .before .before .before .before .before .before .before .before .pre .1 .0), omega (arith, c .before .before .before .before .before .before .before .before .before .before .before .before .before .before .before .before .pre .0 .insns))))
 
--- src/lib.rt:96:5
 loop-less-2 : tie.Need-loop-less-2 Inv-loop μ-loop
 loop-less-2 c = search needs
 
--- src/lib.rt:96:5
 loop-again-2 : tie.Need-loop-again-2 Inv-loop μ-loop
 loop-again-2 c = search turn-link
 
--- src/lib.rt:96:5
 loop-less-3 : tie.Need-loop-less-3 Inv-loop μ-loop
 loop-less-3 c = search needs
 
--- src/lib.rt:96:5
 loop-again-3 : tie.Need-loop-again-3 Inv-loop μ-loop
 loop-again-3 c = search turn-far
 
--- src/lib.rt:81:1
 same-length : tie.Need-same-length Inv-loop μ-loop
 same-length c = search needs
 
--- src/lib.rt:81:1
 returns : tie.Need-returns Inv-loop μ-loop
 returns c = turn-done (c .before .loop .inv) (omega arith) (c .before .before .before .before .before .before .before .before .before .pre .1 .0)
 

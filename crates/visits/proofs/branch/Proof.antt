@@ -5,10 +5,15 @@ use Rattle.visits.proofs.branch.Statement.{statement}
 use Rattle.visits.proofs.branch.Tie as tie
 
 operand-requires : tie.Need-operand-requires
-operand-requires c κs = (c .before .before .before .before .pre .0 .indexed .ready, c .before .before .before .before .pre .0 .read .range)
+operand-requires c κs =
+    let start = c .before .before .before .before in
+    (start .pre .0 .indexed .ready, start .pre .0 .read .range)
 
 choose-requires : tie.Need-choose-requires
-choose-requires c κs = (c .before .before .before .before .before .before .pre .0 .ready, choice-needs (c .before .before .before .before .before .before .pre .0) (c .before .operand .result) (c .before .before .before .before .before .before .pre .1) (c .before .operand .ensures))
+choose-requires c κs =
+    let at-operand = c .before in
+    let start = at-operand .before .before .before .before .before in
+    (start .pre .0 .ready, choice-needs (start .pre .0) (at-operand .operand .result) (start .pre .1) (at-operand .operand .ensures))
 
 nothing-requires : tie.Need-nothing-requires
 nothing-requires c κs = search needs
@@ -17,7 +22,11 @@ same-length : tie.Need-same-length
 same-length c = search needs
 
 returns : tie.Need-returns
-returns c = choice-way (c .before .before .before .before .before .before .before .before .before .before .pre .0) (c .before .before .before .before .before .operand .result) (c .before .before .before .before .before .before .before .before .before .before .pre .1) (c .before .before .before .before .before .operand .ensures) (c .before .before .before .choose .ensures) (c .nothing .ensures)
+returns c =
+    let at-choose = c .before .before .before in
+    let at-operand = at-choose .before .before in
+    let start = at-operand .before .before .before .before .before in
+    choice-way (start .pre .0) (at-operand .operand .result) (start .pre .1) (at-operand .operand .ensures) (at-choose .choose .ensures) (c .nothing .ensures)
 
 pub branch-spec : {M : Type 1} → statement M
 branch-spec =

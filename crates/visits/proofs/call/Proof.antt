@@ -5,13 +5,19 @@ use Rattle.visits.proofs.call.Statement.{statement}
 use Rattle.visits.proofs.call.Tie as tie
 
 send-static-requires : tie.Need-send-static-requires
-send-static-requires c κs = (c .before .before .before .before .before .pre .0 .ready, call-needs (c .before .before .before .before .before .pre .0) (c .before .before .before .before .before .pre .1))
+send-static-requires c κs =
+    let start = c .before .before .before .before .before in
+    (start .pre .0 .ready, call-needs (start .pre .0) (start .pre .1))
 
 enum-known-w : tie.Need-enum-known-w
 enum-known-w c = search needs
 
 call-kind-requires : tie.Need-call-kind-requires
-call-kind-requires c κs = (did-held (c .before .before .before .before .before .before .before .before .before .before .before .before .pre .0) (c .before .before .before .before .before .before .send-static .ensures (c .before .before .before .before .before .before .before .before .before .before .before .before .args .s .now)) (c .before .before .w .given .1), (call-backs (c .before .before .before .before .before .before .before .before .before .before .before .before .pre .0), (c .before .before .before .before .before .before .before .before .before .before .before .before .pre .0 .below, call-room (c .before .before .before .before .before .before .before .before .before .before .before .before .pre .0) (c .before .before .before .before .before .before .before .before .before .before .before .before .pre .1))))
+call-kind-requires c κs =
+    let at-w = c .before .before in
+    let at-send-static = at-w .before .before .before .before in
+    let start = at-send-static .before .before .before .before .before .before in
+    (did-held (start .pre .0) (at-send-static .send-static .ensures (start .args .script .now)) (at-w .w .given .1), (call-backs (start .pre .0), (start .pre .0 .below, call-room (start .pre .0) (start .pre .1))))
 
 with-kind-requires : tie.Need-with-kind-requires
 with-kind-requires c κs = search needs
@@ -23,13 +29,22 @@ same-length : tie.Need-same-length
 same-length c = search needs
 
 returns : tie.Need-returns
-returns c = call-way (c .before .before .before .before .before .before .before .before .before .before .before .before .before .before .pre .0) (c .before .before .before .before .before .before .before .before .before .before .before .before .before .before .pre .1) (c .before .before .before .before .before .before .before .before .send-static .ensures) (c .before .before .before .before .w .given .1) (c .before .call-kind .ensures) (c .with-kind .ensures)
+returns c =
+    let at-call-kind = c .before in
+    let at-w = at-call-kind .before .before .before in
+    let at-send-static = at-w .before .before .before .before in
+    let start = at-send-static .before .before .before .before .before .before in
+    call-way (start .pre .0) (start .pre .1) (at-send-static .send-static .ensures) (at-w .w .given .1) (at-call-kind .call-kind .ensures) (c .with-kind .ensures)
 
 same-length-2 : tie.Need-same-length-2
 same-length-2 c = search needs
 
 returns-2 : tie.Need-returns-2
-returns-2 c = call-stop (c .before .before .before .before .before .before .before .before .before .before .before .pre .0) (c .before .before .before .before .before .before .before .before .before .before .before .pre .1) (c .before .before .before .before .before .send-static .ensures) (c .before .w2 .given .1)
+returns-2 c =
+    let at-w2 = c .before in
+    let at-send-static = at-w2 .before .before .before .before in
+    let start = at-send-static .before .before .before .before .before .before in
+    call-stop (start .pre .0) (start .pre .1) (at-send-static .send-static .ensures) (at-w2 .w2 .given .1)
 
 pub call-spec : {M : Type 1} → statement M
 call-spec =

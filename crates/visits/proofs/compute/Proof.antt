@@ -5,13 +5,21 @@ use Rattle.visits.proofs.compute.Statement.{statement}
 use Rattle.visits.proofs.compute.Tie as tie
 
 operand-requires : tie.Need-operand-requires
-operand-requires c κs = (c .before .before .before .before .pre .0 .indexed .ready, c .before .before .before .before .pre .0 .read .range)
+operand-requires c κs =
+    let start = c .before .before .before .before in
+    (start .pre .0 .indexed .ready, start .pre .0 .read .range)
 
 operand-requires-2 : tie.Need-operand-requires-2
-operand-requires-2 c κs = (c .before .before .before .before .before .pre .0 .indexed .ready, c .before .before .before .before .before .pre .0 .read .range)
+operand-requires-2 c κs =
+    let start = c .before .before .before .before .before in
+    (start .pre .0 .indexed .ready, start .pre .0 .read .range)
 
 compute-requires : tie.Need-compute-requires
-compute-requires c κs = (c .before .before .before .before .before .before .before .pre .0 .ready .held, compute-needs (c .before .before .before .before .before .before .before .pre .0) (c .before .before .operand .result) (c .before .operand2 .result) (c .before .before .operand .ensures) (c .before .operand2 .ensures) (c .before .before .before .before .before .before .before .pre .1))
+compute-requires c κs =
+    let at-operand2 = c .before in
+    let at-operand = at-operand2 .before in
+    let start = at-operand .before .before .before .before .before in
+    (start .pre .0 .ready .held, compute-needs (start .pre .0) (at-operand .operand .result) (at-operand2 .operand2 .result) (at-operand .operand .ensures) (at-operand2 .operand2 .ensures) (start .pre .1))
 
 with-kind-requires : tie.Need-with-kind-requires
 with-kind-requires c κs = search needs
@@ -20,7 +28,13 @@ same-length : tie.Need-same-length
 same-length c = search needs
 
 returns : tie.Need-returns
-returns c = compute-way (c .before .before .before .before .before .before .before .before .before .pre .0) (c .before .before .before .before .operand .result) (c .before .before .before .operand2 .result) (c .before .before .before .before .operand .ensures) (c .before .before .before .operand2 .ensures) (c .before .before .before .before .before .before .before .before .before .pre .1) (c .before .compute .ensures) (c .with-kind .ensures)
+returns c =
+    let at-compute = c .before in
+    let at-operand2 = at-compute .before .before in
+    let at-operand = at-operand2 .before in
+    let start = at-operand .before .before .before .before .before in
+    compute-way (start .pre .0) (at-operand .operand .result) (at-operand2 .operand2 .result) (at-operand .operand .ensures) (at-operand2 .operand2 .ensures) (start .pre .1)
+    (at-compute .compute .ensures) (c .with-kind .ensures)
 
 pub compute-spec : {M : Type 1} → statement M
 compute-spec =

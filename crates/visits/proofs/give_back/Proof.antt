@@ -5,13 +5,21 @@ use Rattle.visits.proofs.give_back.Statement.{statement}
 use Rattle.visits.proofs.give_back.Tie as tie
 
 function-of-requires : tie.Need-function-of-requires
-function-of-requires c κs = (c .before .before .before .before .before .pre .0 .indexed .ready, c .before .before .before .before .before .pre .0 .read .inside)
+function-of-requires c κs =
+    let start = c .before .before .before .before .before in
+    (start .pre .0 .indexed .ready, start .pre .0 .read .inside)
 
 operand-requires : tie.Need-operand-requires
-operand-requires c κs = (c .before .before .before .before .before .before .pre .0 .indexed .ready, c .before .before .before .before .before .before .pre .0 .read .range)
+operand-requires c κs =
+    let start = c .before .before .before .before .before .before in
+    (start .pre .0 .indexed .ready, start .pre .0 .read .range)
 
 give-back-requires : tie.Need-give-back-requires
-give-back-requires c κs = (c .before .before .before .before .before .before .before .before .pre .0 .ready, return-needs (c .before .before .before .before .before .before .before .before .pre .0) (c .before .operand .result) (c .before .before .before .before .before .before .before .before .pre .1) (c .before .operand .ensures) (c .before .before .function-of .ensures))
+give-back-requires c κs =
+    let at-operand = c .before in
+    let at-function-of = at-operand .before in
+    let start = at-function-of .before .before .before .before .before .before in
+    (start .pre .0 .ready, return-needs (start .pre .0) (at-operand .operand .result) (start .pre .1) (at-operand .operand .ensures) (at-function-of .function-of .ensures))
 
 nothing-requires : tie.Need-nothing-requires
 nothing-requires c κs = search needs
@@ -20,7 +28,13 @@ same-length : tie.Need-same-length
 same-length c = search needs
 
 returns : tie.Need-returns
-returns c = return-way (c .before .before .before .before .before .before .before .before .before .before .before .before .pre .0) (c .before .before .before .before .before .operand .result) (c .before .before .before .before .before .before .before .before .before .before .before .before .pre .1) (c .before .before .before .before .before .operand .ensures) (c .before .before .before .before .before .before .function-of .ensures) (c .before .before .before .give-back .ensures) (c .nothing .ensures)
+returns c =
+    let at-give-back = c .before .before .before in
+    let at-operand = at-give-back .before .before in
+    let at-function-of = at-operand .before in
+    let start = at-function-of .before .before .before .before .before .before in
+    return-way (start .pre .0) (at-operand .operand .result) (start .pre .1) (at-operand .operand .ensures) (at-function-of .function-of .ensures) (at-give-back .give-back .ensures)
+    (c .nothing .ensures)
 
 pub give-back-spec : {M : Type 1} → statement M
 give-back-spec =

@@ -6,10 +6,14 @@ use Rattle.visits.proofs.new.Statement.{statement}
 use Rattle.visits.proofs.new.Tie as tie
 
 object-requires : tie.Need-object-requires
-object-requires c κs = new-below (c .before .before .before .before .pre .0) (op-at (c .before .before .before .before .pre .0) (c .before .before .before .before .pre .1))
+object-requires c κs =
+    let start = c .before .before .before .before in
+    new-below (start .pre .0) (op-at (start .pre .0) (start .pre .1))
 
 returns : tie.Need-returns
-returns c = new-way (c .before .before .before .before .before .pre .0) (c .before .before .before .before .before .pre .1) (c .object .ensures)
+returns c =
+    let start = c .before .before .before .before .before in
+    new-way (start .pre .0) (start .pre .1) (c .object .ensures)
 
 pub new-spec : {M : Type 1} → statement M
 new-spec = tie.close (tie.spec object-requires returns)

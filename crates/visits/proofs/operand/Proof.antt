@@ -11,7 +11,9 @@ returns : tie.Need-returns
 returns c = search needs
 
 returns-2 : tie.Need-returns-2
-returns-2 c = operand-none (c .before .before .before .args .p .now) (c .before .before .before .args .row) (c .before .before .before .args .j) (c .if1 .left)
+returns-2 c =
+    let start = c .before .before .before in
+    operand-none (start .args .program .now) (start .args .row) (start .args .j) (c .if1 .left)
 
 pub operand-spec : {M : Type 1} → statement M
 operand-spec = tie.close (tie.spec read-operand-requires returns returns-2)

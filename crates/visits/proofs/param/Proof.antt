@@ -6,10 +6,15 @@ use Rattle.visits.proofs.param.Statement.{statement}
 use Rattle.visits.proofs.param.Tie as tie
 
 function-of-requires : tie.Need-function-of-requires
-function-of-requires c κs = (c .before .before .before .before .before .pre .0 .indexed .ready, c .before .before .before .before .before .pre .0 .read .inside)
+function-of-requires c κs =
+    let start = c .before .before .before .before .before in
+    (start .pre .0 .indexed .ready, start .pre .0 .read .inside)
 
 param-requires : tie.Need-param-requires
-param-requires c κs = (c .before .before .before .before .before .before .before .pre .0 .ready .held, (callers-known (c .before .before .before .before .before .before .before .pre .0), function-below (c .before .before .before .before .before .before .before .pre .0) (c .before .function-of .ensures)))
+param-requires c κs =
+    let at-function-of = c .before in
+    let start = at-function-of .before .before .before .before .before .before in
+    (start .pre .0 .ready .held, (callers-known (start .pre .0), function-below (start .pre .0) (at-function-of .function-of .ensures)))
 
 with-kind-requires : tie.Need-with-kind-requires
 with-kind-requires c κs = search needs
@@ -18,7 +23,11 @@ same-length : tie.Need-same-length
 same-length c = search needs
 
 returns : tie.Need-returns
-returns c = param-way (c .before .before .before .before .before .before .before .before .before .pre .0) (c .before .before .before .before .before .before .before .before .before .pre .1) (c .before .before .before .function-of .ensures) (c .before .param .ensures) (c .with-kind .ensures)
+returns c =
+    let at-param = c .before in
+    let at-function-of = at-param .before .before in
+    let start = at-function-of .before .before .before .before .before .before in
+    param-way (start .pre .0) (start .pre .1) (at-function-of .function-of .ensures) (at-param .param .ensures) (c .with-kind .ensures)
 
 pub param-spec : {M : Type 1} → statement M
 param-spec =

@@ -5,13 +5,21 @@ use Rattle.visits.proofs.phi.Statement.{statement}
 use Rattle.visits.proofs.phi.Tie as tie
 
 operand-requires : tie.Need-operand-requires
-operand-requires c κs = (c .before .before .before .before .pre .0 .indexed .ready, c .before .before .before .before .pre .0 .read .range)
+operand-requires c κs =
+    let start = c .before .before .before .before in
+    (start .pre .0 .indexed .ready, start .pre .0 .read .range)
 
 operand-requires-2 : tie.Need-operand-requires-2
-operand-requires-2 c κs = (c .before .before .before .before .before .pre .0 .indexed .ready, c .before .before .before .before .before .pre .0 .read .range)
+operand-requires-2 c κs =
+    let start = c .before .before .before .before .before in
+    (start .pre .0 .indexed .ready, start .pre .0 .read .range)
 
 phi-requires : tie.Need-phi-requires
-phi-requires c κs = (c .before .before .before .before .before .before .before .pre .0 .ready .held, phi-needs (c .before .before .before .before .before .before .before .pre .0) (c .before .before .operand .result) (c .before .operand2 .result) (c .before .before .operand .ensures) (c .before .operand2 .ensures) (c .before .before .before .before .before .before .before .pre .1))
+phi-requires c κs =
+    let at-operand2 = c .before in
+    let at-operand = at-operand2 .before in
+    let start = at-operand .before .before .before .before .before in
+    (start .pre .0 .ready .held, phi-needs (start .pre .0) (at-operand .operand .result) (at-operand2 .operand2 .result) (at-operand .operand .ensures) (at-operand2 .operand2 .ensures) (start .pre .1))
 
 with-kind-requires : tie.Need-with-kind-requires
 with-kind-requires c κs = search needs
@@ -20,7 +28,13 @@ same-length : tie.Need-same-length
 same-length c = search needs
 
 returns : tie.Need-returns
-returns c = phi-way (c .before .before .before .before .before .before .before .before .before .pre .0) (c .before .before .before .before .operand .result) (c .before .before .before .operand2 .result) (c .before .before .before .before .operand .ensures) (c .before .before .before .operand2 .ensures) (c .before .before .before .before .before .before .before .before .before .pre .1) (c .before .phi .ensures) (c .with-kind .ensures)
+returns c =
+    let at-phi = c .before in
+    let at-operand2 = at-phi .before .before in
+    let at-operand = at-operand2 .before in
+    let start = at-operand .before .before .before .before .before in
+    phi-way (start .pre .0) (at-operand .operand .result) (at-operand2 .operand2 .result) (at-operand .operand .ensures) (at-operand2 .operand2 .ensures) (start .pre .1) (at-phi .phi .ensures)
+    (c .with-kind .ensures)
 
 pub phi-spec : {M : Type 1} → statement M
 phi-spec =

@@ -6,10 +6,14 @@ use Rattle.visits.proofs.self_param.Statement.{statement}
 use Rattle.visits.proofs.self_param.Tie as tie
 
 object-requires : tie.Need-object-requires
-object-requires c κs = self-below (c .before .before .before .before .pre .0) (op-at (c .before .before .before .before .pre .0) (c .before .before .before .before .pre .1))
+object-requires c κs =
+    let start = c .before .before .before .before in
+    self-below (start .pre .0) (op-at (start .pre .0) (start .pre .1))
 
 returns : tie.Need-returns
-returns c = self-way (c .before .before .before .before .before .pre .0) (c .before .before .before .before .before .pre .1) (c .object .ensures)
+returns c =
+    let start = c .before .before .before .before .before in
+    self-way (start .pre .0) (start .pre .1) (c .object .ensures)
 
 pub self-param-spec : {M : Type 1} → statement M
 self-param-spec = tie.close (tie.spec object-requires returns)

@@ -6,19 +6,26 @@ use Rattle.visits.proofs.send.Statement.{statement}
 use Rattle.visits.proofs.send.Tie as tie
 
 operand-requires : tie.Need-operand-requires
-operand-requires c κs = (c .before .before .before .before .pre .0 .indexed .ready, c .before .before .before .before .pre .0 .read .range)
+operand-requires c κs =
+    let start = c .before .before .before .before in
+    (start .pre .0 .indexed .ready, start .pre .0 .read .range)
 
 listed-in-requires : tie.Need-listed-in-requires
 listed-in-requires c κs = search needs
 
 send-dynamic-requires : tie.Need-send-dynamic-requires
-send-dynamic-requires c κs = (c .before .before .before .before .before .before .before .pre .0 .ready, send-needs (c .before .before .before .before .before .before .before .pre .0) (c .before .before .operand .result) (c .before .before .before .before .before .before .before .pre .1) (c .before .before .operand .ensures) (c .before .listed-in .ensures))
+send-dynamic-requires c κs =
+    let at-listed-in = c .before in
+    let at-operand = at-listed-in .before in
+    let start = at-operand .before .before .before .before .before in
+    (start .pre .0 .ready, send-needs (start .pre .0) (at-operand .operand .result) (start .pre .1) (at-operand .operand .ensures) (at-listed-in .listed-in .ensures))
 
 enum-known-w : tie.Need-enum-known-w
 enum-known-w c = search needs
 
 call-kind-requires : tie.Need-call-kind-requires
-call-kind-requires c κs = (did-held (c .before .before .before .before .before .before .before .before .before .before .before .before .before .before .pre .0) (c .before .before .before .before .before .before .send-dynamic .ensures) (c .before .before .w .given .1), (call-backs (c .before .before .before .before .before .before .before .before .before .before .before .before .before .before .pre .0), (c .before .before .before .before .before .before .before .before .before .before .before .before .before .before .pre .0 .below, omega arith)))
+call-kind-requires c κs =
+    (did-held (c .before .before .before .before .before .before .before .before .before .before .before .before .before .before .pre .0) (c .before .before .before .before .before .before .send-dynamic .ensures) (c .before .before .w .given .1), (call-backs (c .before .before .before .before .before .before .before .before .before .before .before .before .before .before .pre .0), (c .before .before .before .before .before .before .before .before .before .before .before .before .before .before .pre .0 .below, omega arith)))
 
 with-kind-requires : tie.Need-with-kind-requires
 with-kind-requires c κs = search needs
@@ -30,13 +37,28 @@ same-length : tie.Need-same-length
 same-length c = search needs
 
 returns : tie.Need-returns
-returns c = send-way (c .before .before .before .before .before .before .before .before .before .before .before .before .before .before .before .before .pre .0) (c .before .before .before .before .before .before .before .before .before .before .before .operand .result) (c .before .before .before .before .before .before .before .before .before .before .before .before .before .before .before .before .pre .1) (c .before .before .before .before .before .before .before .before .before .before .before .operand .ensures) (c .before .before .before .before .before .before .before .before .before .before .listed-in .ensures) (c .before .before .before .before .before .before .before .before .send-dynamic .ensures) (c .before .before .before .before .w .given .1) (c .before .call-kind .ensures) (c .with-kind .ensures)
+returns c =
+    let at-call-kind = c .before in
+    let at-w = at-call-kind .before .before .before in
+    let at-send-dynamic = at-w .before .before .before .before in
+    let at-listed-in = at-send-dynamic .before .before in
+    let at-operand = at-listed-in .before in
+    let start = at-operand .before .before .before .before .before in
+    send-way (start .pre .0) (at-operand .operand .result) (start .pre .1) (at-operand .operand .ensures) (at-listed-in .listed-in .ensures) (at-send-dynamic .send-dynamic .ensures)
+    (at-w .w .given .1) (at-call-kind .call-kind .ensures) (c .with-kind .ensures)
 
 same-length-2 : tie.Need-same-length-2
 same-length-2 c = search needs
 
 returns-2 : tie.Need-returns-2
-returns-2 c = send-stop (c .before .before .before .before .before .before .before .before .before .before .before .before .before .pre .0) (c .before .before .before .before .before .before .before .before .operand .result) (c .before .before .before .before .before .before .before .before .before .before .before .before .before .pre .1) (c .before .before .before .before .before .before .before .before .operand .ensures) (c .before .before .before .before .before .before .before .listed-in .ensures) (c .before .before .before .before .before .send-dynamic .ensures) (c .before .w2 .given .1)
+returns-2 c =
+    let at-w2 = c .before in
+    let at-send-dynamic = at-w2 .before .before .before .before in
+    let at-listed-in = at-send-dynamic .before .before in
+    let at-operand = at-listed-in .before in
+    let start = at-operand .before .before .before .before .before in
+    send-stop (start .pre .0) (at-operand .operand .result) (start .pre .1) (at-operand .operand .ensures) (at-listed-in .listed-in .ensures) (at-send-dynamic .send-dynamic .ensures)
+    (at-w2 .w2 .given .1)
 
 pub send-spec : {M : Type 1} → statement M
 send-spec =

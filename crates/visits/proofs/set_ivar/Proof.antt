@@ -6,13 +6,21 @@ use Rattle.visits.proofs.set_ivar.Statement.{statement}
 use Rattle.visits.proofs.set_ivar.Tie as tie
 
 operand-requires : tie.Need-operand-requires
-operand-requires c κs = (c .before .before .before .before .pre .0 .indexed .ready, c .before .before .before .before .pre .0 .read .range)
+operand-requires c κs =
+    let start = c .before .before .before .before in
+    (start .pre .0 .indexed .ready, start .pre .0 .read .range)
 
 operand-requires-2 : tie.Need-operand-requires-2
-operand-requires-2 c κs = (c .before .before .before .before .before .pre .0 .indexed .ready, c .before .before .before .before .before .pre .0 .read .range)
+operand-requires-2 c κs =
+    let start = c .before .before .before .before .before in
+    (start .pre .0 .indexed .ready, start .pre .0 .read .range)
 
 set-ivar-requires : tie.Need-set-ivar-requires
-set-ivar-requires c κs = (c .before .before .before .before .before .before .before .pre .0 .ready, (matches (c .before .before .before .before .before .before .before .pre .0), set-needs (c .before .before .before .before .before .before .before .pre .0) (c .before .before .operand .result) (c .before .operand2 .result) (c .before .before .operand .ensures) (c .before .operand2 .ensures) (c .before .before .before .before .before .before .before .pre .1)))
+set-ivar-requires c κs =
+    let at-operand2 = c .before in
+    let at-operand = at-operand2 .before in
+    let start = at-operand .before .before .before .before .before in
+    (start .pre .0 .ready, (matches (start .pre .0), set-needs (start .pre .0) (at-operand .operand .result) (at-operand2 .operand2 .result) (at-operand .operand .ensures) (at-operand2 .operand2 .ensures) (start .pre .1)))
 
 nothing-requires : tie.Need-nothing-requires
 nothing-requires c κs = search needs
@@ -21,7 +29,13 @@ same-length : tie.Need-same-length
 same-length c = search needs
 
 returns : tie.Need-returns
-returns c = set-way (c .before .before .before .before .before .before .before .before .before .before .before .pre .0) (c .before .before .before .before .before .before .operand .result) (c .before .before .before .before .before .operand2 .result) (c .before .before .before .before .before .before .operand .ensures) (c .before .before .before .before .before .operand2 .ensures) (c .before .before .before .before .before .before .before .before .before .before .before .pre .1) (c .before .before .before .set-ivar .ensures) (c .nothing .ensures)
+returns c =
+    let at-set-ivar = c .before .before .before in
+    let at-operand2 = at-set-ivar .before .before in
+    let at-operand = at-operand2 .before in
+    let start = at-operand .before .before .before .before .before in
+    set-way (start .pre .0) (at-operand .operand .result) (at-operand2 .operand2 .result) (at-operand .operand .ensures) (at-operand2 .operand2 .ensures) (start .pre .1)
+    (at-set-ivar .set-ivar .ensures) (c .nothing .ensures)
 
 pub set-ivar-spec : {M : Type 1} → statement M
 set-ivar-spec =

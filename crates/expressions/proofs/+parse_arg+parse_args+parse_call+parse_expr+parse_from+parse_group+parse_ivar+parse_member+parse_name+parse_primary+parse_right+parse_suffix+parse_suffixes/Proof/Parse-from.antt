@@ -4,8 +4,8 @@ use native.Mathlib.Omega.{arith}
 use mathlib.Core.Path.{_∙_}
 use borrow.Author.Needs.{needs}
 use mathlib.Core.Path.{ap}
-use Rattle.parser.specs.Promises.{parsedOf}
-use Rattle.parser.proofs.Laws.{got}
+use Rattle.cursor.specs.Promises.{parsedOf}
+use Rattle.cursor.proofs.Laws.{got}
 use Rattle.expressions.proofs.Ways.{expr-deep, expr-on, expr-no}
 use Rattle.expressions.proofs.parse_from.Reads as parse-from
 use Rattle.expressions.proofs.parse_primary.Reads as parse-primary
@@ -23,31 +23,48 @@ pub sub-d : (t : ℕ) → lts.Need-sub-d (calls t) (parse-from-at t) parse-from.
 sub-d t c = search needs
 
 pub parse-primary-requires : (t : ℕ) → lts.Need-parse-primary-requires (calls t) (parse-from-at t) parse-from.Post
-parse-primary-requires t c κs = (omega (arith, c .before .before .before .before .before .before .pre .0, c .before .before .if1 .taken), ((c .before .before .before .before .before .before .pre .1 .0), ((c .before .before .before .before .before .before .pre .1 .1 .0), (c .before .before .before .before .before .before .pre .1 .1 .1))))
+parse-primary-requires t c κs =
+    (omega (arith, c .before .before .before .before .before .before .pre .0, c .before .before .if1 .taken), ((c .before .before .before .before .before .before .pre .1 .0), ((c .before .before .before .before .before .before .pre .1 .1 .0), (c .before .before .before .before .before .before .pre .1 .1 .1))))
 
 pub enum-known-c1 : (t : ℕ) → lts.Need-enum-known-c1 (calls t) (parse-from-at t) parse-from.Post
 enum-known-c1 t c = search needs
 
 pub parse-suffixes-requires : (t : ℕ) → lts.Need-parse-suffixes-requires (calls t) (parse-from-at t) parse-from.Post
-parse-suffixes-requires t c κs = (omega (arith, c .before .before .before .before .before .before .before .before .before .before .before .before .before .before .before .before .pre .0, c .before .before .before .before .before .before .before .before .before .before .before .before .if1 .taken), (got (c .before .before .before .before .before .before .before .before .before .parse-primary .ensures) (ap parsedOf (c .before .before .before .c1 .given .1)) .here, (c .before .before .before .before .before .before .before .before .before .before .before .before .before .before .before .before .pre .1 .1 .0)))
+parse-suffixes-requires t c κs =
+    (omega (arith, c .before .before .before .before .before .before .before .before .before .before .before .before .before .before .before .before .pre .0, c .before .before .before .before .before .before .before .before .before .before .before .before .if1 .taken), (got (c .before .before .before .before .before .before .before .before .before .parse-primary .ensures) (ap parsedOf (c .before .before .before .c1 .given .1)) .here, (c .before .before .before .before .before .before .before .before .before .before .before .before .before .before .before .before .pre .1 .1 .0)))
 
 pub enum-known-e : (t : ℕ) → lts.Need-enum-known-e (calls t) (parse-from-at t) parse-from.Post
 enum-known-e t c = search needs
 
 pub same-length : (t : ℕ) → lts.Need-same-length (calls t) (parse-from-at t) parse-from.Post
-same-length t c = c .before .before .before .before .parse-suffixes .kept .1 .0 ∙ c .before .before .before .before .before .before .before .before .before .before .before .before .before .before .parse-primary .kept .1 .0
+same-length t c =
+    let at-parse-suffixes = c .before .before .before .before in
+    let at-parse-primary = at-parse-suffixes .before .before .before .before .before .before .before .before .before .before in
+    at-parse-suffixes .parse-suffixes .kept .1 .0 ∙ at-parse-primary .parse-primary .kept .1 .0
 
 pub same-length-2 : (t : ℕ) → lts.Need-same-length-2 (calls t) (parse-from-at t) parse-from.Post
-same-length-2 t c = c .before .before .before .before .parse-suffixes .kept .1 .1 .0 ∙ c .before .before .before .before .before .before .before .before .before .before .before .before .before .before .parse-primary .kept .1 .1 .0
+same-length-2 t c =
+    let at-parse-suffixes = c .before .before .before .before in
+    let at-parse-primary = at-parse-suffixes .before .before .before .before .before .before .before .before .before .before in
+    at-parse-suffixes .parse-suffixes .kept .1 .1 .0 ∙ at-parse-primary .parse-primary .kept .1 .1 .0
 
 pub returns : (t : ℕ) → lts.Need-returns (calls t) (parse-from-at t) parse-from.Post
-returns t c = expr-on _ _ _ _ (λ z. omega (arith, c .before .before .before .before .before .before .before .before .before .before .before .before .before .before .before .before .before .if1 .taken, z)) (c .before .before .before .before .before .before .before .before .before .before .before .before .before .before .parse-primary .ensures) (c .before .before .before .before .before .before .before .before .c1 .given .1) (c .before .before .before .before .parse-suffixes .ensures)
+returns t c =
+    expr-on _ _ _ _ (λ z. omega (arith, c .before .before .before .before .before .before .before .before .before .before .before .before .before .before .before .before .before .if1 .taken, z))
+    (c .before .before .before .before .before .before .before .before .before .before .before .before .before .before .parse-primary .ensures)
+    (c .before .before .before .before .before .before .before .before .c1 .given .1) (c .before .before .before .before .parse-suffixes .ensures)
 
 pub same-length-3 : (t : ℕ) → lts.Need-same-length-3 (calls t) (parse-from-at t) parse-from.Post
-same-length-3 t c = c .before .before .before .before .before .before .before .parse-primary .kept .1 .0
+same-length-3 t c =
+    let at-parse-primary = c .before .before .before .before .before .before .before in
+    at-parse-primary .parse-primary .kept .1 .0
 
 pub same-length-4 : (t : ℕ) → lts.Need-same-length-4 (calls t) (parse-from-at t) parse-from.Post
-same-length-4 t c = c .before .before .before .before .before .before .before .parse-primary .kept .1 .1 .0
+same-length-4 t c =
+    let at-parse-primary = c .before .before .before .before .before .before .before in
+    at-parse-primary .parse-primary .kept .1 .1 .0
 
 pub returns-2 : (t : ℕ) → lts.Need-returns-2 (calls t) (parse-from-at t) parse-from.Post
-returns-2 t c = expr-no _ _ _ _ (λ z. omega (arith, c .before .before .before .before .before .before .before .before .before .before .if1 .taken, z)) (c .before .before .before .before .before .before .before .parse-primary .ensures) (c .before .e .given .1)
+returns-2 t c =
+    expr-no _ _ _ _ (λ z. omega (arith, c .before .before .before .before .before .before .before .before .before .before .if1 .taken, z))
+    (c .before .before .before .before .before .before .before .parse-primary .ensures) (c .before .e .given .1)

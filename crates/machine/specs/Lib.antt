@@ -1,0 +1,4 @@
+pub mod blocks
+pub mod receivers
+pub mod opnds
+pub mod Analysed

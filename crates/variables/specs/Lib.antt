@@ -1,0 +1,4 @@
+pub mod scopes
+pub mod Memory
+pub mod Rooms
+pub mod Promises
