@@ -13,7 +13,8 @@ use Rattle.kinds.proofs.Same.{kept}
 use Rattle.rules.specs.Lists.{concat}
 use Rattle.memory.specs.Memory.{filled}
 use Rattle.memory.proofs.Laws.{filled-length, filled-at}
-use Rattle.answer.specs.Layout.{functionsMost, blocksMost, instructionsMost, usesMost, rowWords, liveAt, tagsAt, payloadsAt, startsAt, usersAt, callersAt, answerLen}
+use Rattle.memory.specs.Layout.{functionsMost, blocksMost, instructionsMost, usesMost, rowWords}
+use Rattle.answer.specs.Layout.{liveAt, tagsAt, payloadsAt, startsAt, usersAt, callersAt, answerLen}
 use Rattle.answer.specs.Record.{Record, Legal}
 use Rattle.answer.specs.Image.{startsFrom, wordsOf, tablesOf, imageOf, listed, functionsIn, blocksIn, instructionsIn, countIn, liveIn, tagIn, payloadIn, startIn, userIn, wordIn, callsIn}
 use Rattle.answer.specs.Image.{usersIn, recordIn, WellFormed}

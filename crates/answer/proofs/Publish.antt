@@ -8,7 +8,8 @@ use Rattle.kinds.specs.Kinds.{bitOf, tagOf, payloadOf}
 use Rattle.rules.specs.Lists.{concat}
 use Rattle.memory.specs.Memory.{zeros, Blank, over, filled}
 use Rattle.memory.proofs.Laws.{zeros-length, filled-length, filled-full, grow-table, over-length, over-apart}
-use Rattle.answer.specs.Layout.{functionsMost, blocksMost, instructionsMost, usesMost, rowWords, liveAt, tagsAt, payloadsAt, startsAt, usersAt, callersAt, answerLen}
+use Rattle.memory.specs.Layout.{functionsMost, blocksMost, instructionsMost, usesMost, rowWords}
+use Rattle.answer.specs.Layout.{liveAt, tagsAt, payloadsAt, startsAt, usersAt, callersAt, answerLen}
 use Rattle.answer.specs.Record.{Record, Legal}
 use Rattle.answer.specs.Image.{startsFrom, wordsOf, tablesOf, imageOf, Standing}
 use Rattle.answer.proofs.Laws.{front-table, starts-length}

@@ -6,7 +6,8 @@ use Rattle.rules.specs.Program.{limits}
 use Rattle.rules.specs.Frames.{analyze}
 use Rattle.rules.specs.Opened.{opened}
 use Rattle.memory.specs.Memory.{zeros, filled}
-use Rattle.answer.specs.Layout.{rowWords, liveAt, tagsAt, payloadsAt, startsAt, usersAt, callersAt, answerLen}
+use Rattle.memory.specs.Layout.{rowWords}
+use Rattle.answer.specs.Layout.{liveAt, tagsAt, payloadsAt, startsAt, usersAt, callersAt, answerLen}
 use Rattle.answer.specs.Image.{startsFrom, wordOf, wordsOf, imageOf}
 use Rattle.answer.specs.Published.{published, answerWords, listing, ration}
 
@@ -21,7 +22,8 @@ listing-words = refl
 
 pub ration-words :
     answerWords
-    (analyze limits (bytes "class Cow attr_accessor :fresh def initialize(fresh) @fresh = fresh end end def ration(cow) if cow.fresh return 9 else return 4 end end def main() return ration(Cow.new(true)) end"))
+    (analyze limits (bytes
+    "class Cow attr_accessor :fresh def initialize(fresh) @fresh = fresh end end def ration(cow) if cow.fresh return 9 else return 4 end end def main() return ration(Cow.new(true)) end"))
     ≡ (22788, ration)
 unfolding opened zeros filled startsFrom wordOf wordsOf imageOf
 ration-words = refl

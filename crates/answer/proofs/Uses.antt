@@ -18,6 +18,7 @@ use Rattle.rules.specs.Program.{sameOpnd, about, listedCount}
 use Rattle.rules.specs.Finished.{withinLimits}
 use Rattle.rules.specs.Machine.{State}
 use Rattle.rules.specs.Uses.{uses}
+use Rattle.rules.proofs.Exactness.Sums.{sum-le}
 use Rattle.answer.specs.Record.{Legal, Shaped, usersFrom, recordOf}
 
 -- ---- sums
@@ -51,10 +52,6 @@ module _ {A : Type 0} where
   sum-under : (g h : A → ℕ) (l : List A) → ((x : A) → g x ≤ h x + 2) → sum g l ≤ sum h l + 2 * length l
   sum-under g h [] le = omega arith
   sum-under g h (x ∷ l) le = omega (arith, le x, sum-under g h l le)
-
-  sum-mono : (g h : A → ℕ) (l : List A) → ((x : A) → g x ≤ h x) → sum g l ≤ sum h l
-  sum-mono g h [] le = omega arith
-  sum-mono g h (x ∷ l) le = omega (arith, le x, sum-mono g h l le)
 
   places-count : (k : ℕ) (f : A → 𝔹) (l : List A) → length (placesFrom k f l) ≡ sum (λ x. bitOf (f x)) l
   places-count k f [] = refl
@@ -134,7 +131,7 @@ two-more (SetIvar n r v) = omega arith
 -- ---- all uses
 
 module _ (p : Program) where
-  users-length : (i n : ℕ) → length (usersFrom p i n) ≡ n
+  pub users-length : (i n : ℕ) → length (usersFrom p i n) ≡ n
   users-length i zero = refl
   users-length i (suc n) = ap suc (users-length (suc i) n)
 
@@ -173,7 +170,7 @@ module _ (p : Program) where
         arith,
         users-total 0 n,
         sum-swap h (p .instructions) 0 n,
-        sum-mono (λ (x : Instruction). sumFrom (λ j. h j x) 0 n) (λ (x : Instruction). length (about (x .op) .operands)) (p .instructions) (λ x. used-most (about (x .op) .operands) 0 n),
+        sum-le (λ (x : Instruction). sumFrom (λ j. h j x) 0 n) (λ (x : Instruction). length (about (x .op) .operands)) (p .instructions) (λ x. used-most (about (x .op) .operands) 0 n),
         sum-under (λ (x : Instruction). length (about (x .op) .operands)) (λ (x : Instruction). length (about (x .op) .listed)) (p .instructions) (λ x. two-more (x .op)),
       )
 

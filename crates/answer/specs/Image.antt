@@ -8,7 +8,8 @@ use lib.ListN.{length, getD, take, drop}
 use Rattle.kinds.specs.Kinds.{bitOf, tagOf, payloadOf, kindFrom}
 use Rattle.rules.specs.Lists.{concat}
 use Rattle.memory.specs.Memory.{zeros, filled}
-use Rattle.answer.specs.Layout.{functionsMost, blocksMost, instructionsMost, usesMost, rowWords, liveAt, tagsAt, payloadsAt, startsAt, usersAt, callersAt, answerLen}
+use Rattle.memory.specs.Layout.{functionsMost, blocksMost, instructionsMost, usesMost, rowWords}
+use Rattle.answer.specs.Layout.{liveAt, tagsAt, payloadsAt, startsAt, usersAt, callersAt, answerLen}
 use Rattle.answer.specs.Record.{Record, Legal}
 
 -- ---- tables of a record

@@ -1,24 +1,6 @@
 -- Where the answer memory has its tables: places of 8 bytes (01, "The call", and the limits of its last paragraph). Assumes nothing.
-use Prim.Native.Nat.{ℕ, _+_, _*_, _/_}
-use Rattle.rules.specs.Program.{limits}
-
--- how many things of each sort there can be
-abbrev pub functionsMost : ℕ
-functionsMost = limits .functions
-
-abbrev pub blocksMost : ℕ
-blocksMost = limits .blocks
-
-abbrev pub instructionsMost : ℕ
-instructionsMost = limits .instructions
-
--- an instruction has at most two operands that are neither call arguments nor join operands
-abbrev pub usesMost : ℕ
-usesMost = limits .operands + 2 * instructionsMost
-
--- the words of a row of callers, a bit for each instruction
-abbrev pub rowWords : ℕ
-rowWords = instructionsMost / 64
+use Prim.Native.Nat.{ℕ, _+_, _*_}
+use Rattle.memory.specs.Layout.{functionsMost, blocksMost, instructionsMost, usesMost, rowWords}
 
 -- functions, blocks, instructions, count; then the tables, one behind the other
 abbrev pub totals : ℕ

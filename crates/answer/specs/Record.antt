@@ -11,7 +11,7 @@ use Rattle.rules.specs.Lists.{concat}
 use Rattle.rules.specs.Program.{Program}
 use Rattle.rules.specs.Machine.{State}
 use Rattle.rules.specs.Uses.{uses}
-use Rattle.answer.specs.Layout.{functionsMost, blocksMost, instructionsMost, usesMost}
+use Rattle.memory.specs.Layout.{functionsMost, blocksMost, instructionsMost, usesMost}
 
 -- live: by block; kinds: by instruction; users: by instruction, the users' numbers; callers: by function, whether an instruction calls it.
 -- How many functions, blocks and instructions there are is how long these lists are

@@ -9,36 +9,25 @@ ghost use Prim.Native.Nat.{_+_, _*_, _/_, _≤_, _<_, min};
 ghost use lib.Dec.{eqb};
 ghost use lib.ListN.{length};
 ghost use Rattle.memory.specs.Memory.{over};
-ghost use Rattle.answer.specs.Layout.{answerLen, functionsMost, blocksMost, instructionsMost, usesMost, rowWords, liveAt, tagsAt, payloadsAt, startsAt, usersAt, callersAt};
+ghost use Rattle.memory.specs.Layout.{functionsMost, blocksMost, instructionsMost, usesMost};
+ghost use Rattle.answer.specs.Layout.{answerLen, liveAt, tagsAt, payloadsAt, startsAt, usersAt, callersAt};
 ghost use Rattle.answer.specs.Image.{functionsIn, blocksIn, instructionsIn, countIn, liveIn, tagIn, payloadIn, startIn, userIn, bitsIn, callsIn};
-
-// How many things of each sort there can be.
-pub const FUNCTIONS_MOST: usize = 128;
-
-pub const BLOCKS_MOST: usize = 255;
-
-pub const INSTRUCTIONS_MOST: usize = 2048;
-
-pub const USES_MOST: usize = 12288;
-
-// The words of a row of callers.
-pub const ROW_WORDS: usize = 32;
 
 // Where the tables start, behind the four totals.
 pub const LIVE: usize = 4;
 
-pub const TAGS: usize = LIVE + BLOCKS_MOST;
+pub const TAGS: usize = LIVE + memory::BLOCKS_MOST;
 
-pub const PAYLOADS: usize = TAGS + INSTRUCTIONS_MOST;
+pub const PAYLOADS: usize = TAGS + memory::INSTRUCTIONS_MOST;
 
-pub const STARTS: usize = PAYLOADS + INSTRUCTIONS_MOST;
+pub const STARTS: usize = PAYLOADS + memory::INSTRUCTIONS_MOST;
 
-pub const USERS: usize = STARTS + INSTRUCTIONS_MOST + 1;
+pub const USERS: usize = STARTS + memory::INSTRUCTIONS_MOST + 1;
 
-pub const CALLERS: usize = USERS + USES_MOST;
+pub const CALLERS: usize = USERS + memory::USES_MOST;
 
 // The published length.
-pub const ANSWER_LEN: usize = CALLERS + FUNCTIONS_MOST * ROW_WORDS;
+pub const ANSWER_LEN: usize = CALLERS + memory::FUNCTIONS_MOST * memory::ROW_WORDS;
 
 // Stores the four totals.
 pub fn write_totals(
@@ -68,21 +57,21 @@ pub fn functions(answer: &[usize]) -> usize
     requires { ⌜ length (now answer) ≡ answerLen ⌝ }
     ensures { λ r. ⌜ (r ≡ functionsIn (now (answer .entry))) × (r ≤ functionsMost) ⌝ }
 {
-    at_most(answer[0], FUNCTIONS_MOST)
+    at_most(answer[0], memory::FUNCTIONS_MOST)
 }
 
 pub fn blocks(answer: &[usize]) -> usize
     requires { ⌜ length (now answer) ≡ answerLen ⌝ }
     ensures { λ r. ⌜ (r ≡ blocksIn (now (answer .entry))) × (r ≤ blocksMost) ⌝ }
 {
-    at_most(answer[1], BLOCKS_MOST)
+    at_most(answer[1], memory::BLOCKS_MOST)
 }
 
 pub fn instructions(answer: &[usize]) -> usize
     requires { ⌜ length (now answer) ≡ answerLen ⌝ }
     ensures { λ r. ⌜ (r ≡ instructionsIn (now (answer .entry))) × (r ≤ instructionsMost) ⌝ }
 {
-    at_most(answer[2], INSTRUCTIONS_MOST)
+    at_most(answer[2], memory::INSTRUCTIONS_MOST)
 }
 
 pub fn count(answer: &[usize]) -> usize
@@ -126,7 +115,7 @@ pub fn users_start(answer: &[usize], i: InsnId) -> usize
     ensures { λ r. ⌜ (r ≡ startIn (now (answer .entry)) (i .0)) × (r ≤ usesMost) ⌝ }
 {
     let n = i.0 as usize;
-    at_most(answer[STARTS + n], USES_MOST)
+    at_most(answer[STARTS + n], memory::USES_MOST)
 }
 
 pub fn users_end(answer: &[usize], i: InsnId) -> usize
@@ -135,7 +124,7 @@ pub fn users_end(answer: &[usize], i: InsnId) -> usize
     ensures { λ r. ⌜ (r ≡ startIn (now (answer .entry)) (i .0 + 1)) × (r ≤ usesMost) ⌝ }
 {
     let n = i.0 as usize;
-    at_most(answer[STARTS + (n + 1)], USES_MOST)
+    at_most(answer[STARTS + (n + 1)], memory::USES_MOST)
 }
 
 // The user at a place of their table.
@@ -144,7 +133,7 @@ pub fn user(answer: &[usize], j: usize) -> InsnId
     requires { ⌜ j < usesMost ⌝ }
     ensures { λ r. ⌜ r .0 ≡ userIn (now (answer .entry)) j ⌝ }
 {
-    let n = at_most(answer[USERS + j], INSTRUCTIONS_MOST);
+    let n = at_most(answer[USERS + j], memory::INSTRUCTIONS_MOST);
     InsnId(n as u32)
 }
 
@@ -157,7 +146,7 @@ pub fn callers_from(answer: &[usize], f: FunId, i: InsnId) -> usize
 {
     let g = f.0 as usize;
     let n = i.0 as usize;
-    answer[CALLERS + (g * ROW_WORDS + n / 64)] >> (n % 64)
+    answer[CALLERS + (g * memory::ROW_WORDS + n / 64)] >> (n % 64)
 }
 
 pub fn calls(answer: &[usize], f: FunId, i: InsnId) -> bool

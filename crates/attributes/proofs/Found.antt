@@ -32,7 +32,11 @@ use Rattle.state.specs.declared.Sizes.{Sizes}
 use Rattle.state.specs.View.{Attrs, ivarsOf, stateView}
 use Rattle.machine.specs.opnds.Reads.{StateReads}
 use Rattle.machine.specs.receivers.Receivers.{StateMatches}
+use Rattle.machine.specs.Analysed.{MachineFits}
 use Rattle.attributes.specs.Attributes.{ProgramIs}
+
+pub program-is : {s p : List ℕ} {c : Counts} (P : Program) (v : Attrs) → MachineFits s p c P v → ProgramIs s p c P v
+program-is P v f = record { program = f .is; attrs = λ k _. f .attrs k }
 
 module _ (s m : List ℕ) (c : Counts) (x : ℕ) (n : Name) {r : FoundIvar} (f : ivarFound r ≡ ivarNamed (Prog.programView s m c) x (nameIn s n)) where
   placed : {a : ℕ} → r ≡ At a → ivarNamed (Prog.programView s m c) x (nameIn s n) ≡ some a

@@ -61,7 +61,8 @@ state-in s (refused n) = s
 pub marked-kinds : {z : Sizes} (i : ℕ) (o : Opnd) {m : List ℕ} {q : Regs} {w : List ℕ} {a : Regs} → StateDid z Every (λ L p. markReads i (opndOf o)) m q w (On a) → kindsOf z w ≡ kindsOf z m
 marked-kinds {z} i o {m} {q} {w} {a} d = go (classesIn (kindIn (kindsOf z m) (opndOf o))) refl (d .is limits refl noProgram noAttrs tt)
   where
-    go : (x : Option ℕ) → classesIn (kindIn (kindsOf z m) (opndOf o)) ≡ x → _≡_ {A = Answer (Unit {0} × State)} (answered (tt, stateView z noAttrs w a)) (markReads i (opndOf o) (stateView z noAttrs m q))
+    go : (x : Option ℕ) → classesIn (kindIn (kindsOf z m) (opndOf o)) ≡ x
+        → _≡_ {A = Answer (Unit {0} × State)} (answered (tt, stateView z noAttrs w a)) (markReads i (opndOf o) (stateView z noAttrs m q))
         → kindsOf z w ≡ kindsOf z m
     go none e h =
         let b : _≡_ {A = Answer (Unit {0} × State)} (answered (tt, stateView z noAttrs w a)) (refused 14) = rw (asked-no (opndOf o) (stateView z noAttrs m q) e) at h in

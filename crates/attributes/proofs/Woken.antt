@@ -19,7 +19,7 @@ use Rattle.program.specs.declared.Name.{Name}
 use Rattle.program.specs.declared.Row.{Row}
 use Rattle.program.specs.declared.Op.{Op}
 use Rattle.program.specs.declared.Op.the-variants.{Jump, IfTrue, Return, SendStatic, SendDynamic, Compute, Phi, Param, SelfParam, New, GetIvar, SetIvar}
-use Rattle.program.specs.Rows.{nameIn, opIn, opndsAt, opndsIn, opndOf}
+use Rattle.program.specs.Rows.{nameIn, opIn, opndsIn, opndOf}
 use Rattle.program.specs.View as Prog
 use Rattle.program.specs.View.{ReadsInsn}
 use Rattle.state.specs.declared.Sizes.{Sizes}
@@ -32,6 +32,8 @@ use Rattle.state.specs.View.{Attrs, readsOf, stateView, StateReady}
 use Rattle.state.specs.Changes.{marksFrom, Following, went, StateAfter, StateDid, Every}
 use Rattle.state.proofs.Pushes.{valueIn, push-keeps, noAttrs}
 use Rattle.machine.specs.receivers.Receivers.{StateMatches}
+use Rattle.memory.specs.Layout.{worklistMost}
+use Rattle.program.specs.Layout.{opndsAt}
 use Rattle.attributes.specs.Attributes.{ProgramIs, opGets, pushIf, wakeReads}
 
 -- ---- whether an instruction reads attribute n
@@ -78,7 +80,7 @@ module _ (z : Sizes) (m : List ℕ) (q : Regs) (b : 𝔹) (i : ℕ) where
   pub if-passed : StateReady z m q → b ≡ false → StateDid z Every (λ L p. pushIf L p b i) m q m (On q)
   if-passed r e = rw e (record { is = λ L f p v a. sym (if-no L p i (stateView z v m q)); ok = record { ready = r; count = refl } })
 
-if-keeps : (L : Limits) → L .worklist ≡ 16384 → (p : Program) (b : 𝔹) (i : ℕ) (s t : State) → answered (tt, t) ≡ pushIf L p b i s → t .ivarReads ≡ s .ivarReads
+if-keeps : (L : Limits) → L .worklist ≡ worklistMost → (p : Program) (b : 𝔹) (i : ℕ) (s t : State) → answered (tt, t) ≡ pushIf L p b i s → t .ivarReads ≡ s .ivarReads
 unfolding valueIn
 if-keeps L f p true i s t e = push-keeps (λ (x : State). x .ivarReads) (λ l x. refl) L f p i s t (e ∙ if-yes L p i s)
 if-keeps L f p false i s t e = ap (valueIn (λ (x : State). x .ivarReads) (s .ivarReads)) (e ∙ if-no L p i s)
@@ -99,7 +101,7 @@ pub record Waking (s pm : List ℕ) (pc : Counts) (z : Sizes) (n : Name) (c : �
   pub after : StateAfter z q₀ m q
   pub long : length m ≡ length m₀
   pub reads : readsOf z m ≡ readsOf z m₀
-  pub same : (L : Limits) → L .worklist ≡ 16384 → (p : Program) (v : Attrs) → ProgramIs s pm pc p v
+  pub same : (L : Limits) → L .worklist ≡ worklistMost → (p : Program) (v : Attrs) → ProgramIs s pm pc p v
       → each (keep (getsName p (nameIn s n)) (marksFrom (readsOf z m₀) c from)) (pushInsn L p) (stateView z v m q) ≡ wakeReads L p c (nameIn s n) (stateView z v m₀ q₀)
 
 reads-all : (z : Sizes) (c : ℕ) (m : List ℕ) (q : Regs) (L : Limits) (p : Program) (v : Attrs) (n : P.Name)
@@ -129,7 +131,7 @@ module _ {s pm : List ℕ} {pc : Counts} {z : Sizes} {n : Name} {c : ℕ} {m₀ 
     read-falls = let b = left e .ok in omega (arith, b .0, b .1)
 
     module _ {b : 𝔹} {w : List ℕ} {a : Acted} (t : b ≡ getsName (Prog.programView s pm pc) (nameIn s n) (i .0)) (d : StateDid z Every (λ L p. pushIf L p b (i .0)) m q w a) where
-      turn : {x : Acted} → a ≡ x → (L : Limits) → L .worklist ≡ 16384 → (p : Program) (v : Attrs) → ProgramIs s pm pc p v
+      turn : {x : Acted} → a ≡ x → (L : Limits) → L .worklist ≡ worklistMost → (p : Program) (v : Attrs) → ProgramIs s pm pc p v
           → ifAnswered (went z v w x) (λ y. each (keep (getsName p (nameIn s n)) (marksFrom (readsOf z m₀) c (i .0 + 1))) (pushInsn L p) (y .1)) ≡ wakeReads L p c (nameIn s n) (stateView z v m₀ q₀)
       turn k L f p v h =
           let d1 = rw k at d in

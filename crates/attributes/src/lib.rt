@@ -36,7 +36,9 @@ fn mark_each(state: &mut [usize], sizes: Sizes, set: u64, i: InsnId)
     requires { ⌜ StateHeld sizes (now state) ⌝ }
     requires { ⌜ ClassesBelow (sizes .classes) set ⌝ }
     requires { ⌜ i .0 < sizes .insns ⌝ }
-    ensures { λ _. ⌜ ((q : Regs) → StateReady sizes (now (state .entry)) q → StateDid sizes Every (λ L p. each (membersOf set) (λ c. change (addRead c (i .0)))) (now (state .entry)) q (now (state .exit)) (Acted.On q)) ⌝ }
+    ensures { λ _. ⌜ ((q : Regs) → StateReady sizes (now (state .entry)) q
+        → StateDid sizes Every (λ L p. each (membersOf set) (λ c. change (addRead c (i .0)))) (now (state .entry)) q (now (state .exit))
+        (Acted.On q)) ⌝ }
 {
     let mut left = set;
     loop {
@@ -83,7 +85,8 @@ fn read_one(
     requires { ⌜ StateHeld sizes (now state) ⌝ }
     requires { ⌜ StateMatches sizes (now program) counts ⌝ }
     requires { ⌜ x .0 < sizes .classes ⌝ }
-    ensures { λ r. ⌜ StateReads sizes (ProgramIs (now (script .entry)) (now (program .entry)) counts) (λ L program. getIvar L program (nameIn (now (script .entry)) n) k (x .0)) (now (state .entry)) r ⌝ }
+    ensures { λ r. ⌜ StateReads sizes (ProgramIs (now (script .entry)) (now (program .entry)) counts)
+        (λ L program. getIvar L program (nameIn (now (script .entry)) n) k (x .0)) (now (state .entry)) r ⌝ }
 {
     match lookups::ivar_named(script, program, counts, x, n) {
         FoundIvar::At(a) => {
@@ -107,7 +110,8 @@ fn read_each(
     requires { ⌜ StateHeld sizes (now state) ⌝ }
     requires { ⌜ StateMatches sizes (now program) counts ⌝ }
     requires { ⌜ ClassesBelow (sizes .classes) set ⌝ }
-    ensures { λ r. ⌜ StateReads sizes (ProgramIs (now (script .entry)) (now (program .entry)) counts) (λ L program. fold (getIvar L program (nameIn (now (script .entry)) n)) Kind.Empty (membersOf set)) (now (state .entry)) r ⌝ }
+    ensures { λ r. ⌜ StateReads sizes (ProgramIs (now (script .entry)) (now (program .entry)) counts)
+        (λ L program. fold (getIvar L program (nameIn (now (script .entry)) n)) Kind.Empty (membersOf set)) (now (state .entry)) r ⌝ }
 {
     let mut k = Kind::Empty;
     let mut left = set;
@@ -152,7 +156,8 @@ pub fn read_ivar(
     requires { ⌜ StateMatches sizes (now program) counts ⌝ }
     requires { ⌜ OperandInside sizes o ⌝ }
     requires { ⌜ ReceiverWithin sizes (now state) o ⌝ }
-    ensures { λ r. ⌜ StateReads sizes (ProgramIs (now (script .entry)) (now (program .entry)) counts) (λ L program. readIvars L program (nameIn (now (script .entry)) n) (opndOf o)) (now (state .entry)) r ⌝ }
+    ensures { λ r. ⌜ StateReads sizes (ProgramIs (now (script .entry)) (now (program .entry)) counts)
+        (λ L program. readIvars L program (nameIn (now (script .entry)) n) (opndOf o)) (now (state .entry)) r ⌝ }
 {
     match machine::receivers::classes_of(state, sizes, o) {
         ReceiverClasses::Classes(set) => read_each(script, program, counts, state, sizes, n, set),
@@ -218,7 +223,8 @@ fn wake_reads(
     requires { ⌜ StateReady sizes (now state) regs ⌝ }
     requires { ⌜ StateMatches sizes (now program) counts ⌝ }
     requires { ⌜ x .0 < sizes .classes ⌝ }
-    ensures { λ r. ⌜ StateDid sizes (ProgramIs (now (script .entry)) (now (program .entry)) counts) (λ L program. wakeReads L program (x .0) (nameIn (now (script .entry)) n)) (now (state .entry)) regs (now (state .exit)) r ⌝ }
+    ensures { λ r. ⌜ StateDid sizes (ProgramIs (now (script .entry)) (now (program .entry)) counts)
+        (λ L program. wakeReads L program (x .0) (nameIn (now (script .entry)) n)) (now (state .entry)) regs (now (state .exit)) r ⌝ }
 {
     let mut at = regs;
     let mut from = InsnId(0);
@@ -258,7 +264,8 @@ fn widen_one(
     requires { ⌜ StateReady sizes (now state) regs ⌝ }
     requires { ⌜ StateMatches sizes (now program) counts ⌝ }
     requires { ⌜ x .0 < sizes .classes ⌝ }
-    ensures { λ r. ⌜ StateDid sizes (ProgramIs (now (script .entry)) (now (program .entry)) counts) (λ L program. setIvar L program (nameIn (now (script .entry)) n) k (x .0)) (now (state .entry)) regs (now (state .exit)) r ⌝ }
+    ensures { λ r. ⌜ StateDid sizes (ProgramIs (now (script .entry)) (now (program .entry)) counts)
+        (λ L program. setIvar L program (nameIn (now (script .entry)) n) k (x .0)) (now (state .entry)) regs (now (state .exit)) r ⌝ }
 {
     match lookups::ivar_named(script, program, counts, x, n) {
         FoundIvar::At(a) => {
@@ -292,7 +299,8 @@ fn widen_each(
     requires { ⌜ StateReady sizes (now state) regs ⌝ }
     requires { ⌜ StateMatches sizes (now program) counts ⌝ }
     requires { ⌜ ClassesBelow (sizes .classes) set ⌝ }
-    ensures { λ r. ⌜ StateDid sizes (ProgramIs (now (script .entry)) (now (program .entry)) counts) (λ L program. each (membersOf set) (setIvar L program (nameIn (now (script .entry)) n) k)) (now (state .entry)) regs (now (state .exit)) r ⌝ }
+    ensures { λ r. ⌜ StateDid sizes (ProgramIs (now (script .entry)) (now (program .entry)) counts)
+        (λ L program. each (membersOf set) (setIvar L program (nameIn (now (script .entry)) n) k)) (now (state .entry)) regs (now (state .exit)) r ⌝ }
 {
     let mut at = regs;
     let mut left = set;
@@ -340,7 +348,8 @@ pub fn set_ivar(
     requires { ⌜ StateMatches sizes (now program) counts ⌝ }
     requires { ⌜ OperandInside sizes o × OperandInside sizes v ⌝ }
     requires { ⌜ ReceiverWithin sizes (now state) o ⌝ }
-    ensures { λ r. ⌜ StateDid sizes (ProgramIs (now (script .entry)) (now (program .entry)) counts) (λ L program. setIvars L program (nameIn (now (script .entry)) n) (opndOf o) (opndOf v)) (now (state .entry)) regs (now (state .exit)) r ⌝ }
+    ensures { λ r. ⌜ StateDid sizes (ProgramIs (now (script .entry)) (now (program .entry)) counts)
+        (λ L program. setIvars L program (nameIn (now (script .entry)) n) (opndOf o) (opndOf v)) (now (state .entry)) regs (now (state .exit)) r ⌝ }
 {
     let k = machine::opnds::kind_of(state, sizes, v);
     match machine::receivers::classes_of(state, sizes, o) {

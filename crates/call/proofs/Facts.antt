@@ -23,7 +23,9 @@ use Rattle.answer.specs.Record.{recordOf}
 use Rattle.answer.specs.Image.{imageOf, recordIn, countIn, liveIn}
 use Rattle.answer.proofs.Image.{image-length, record-back, count-is, live-is}
 use Rattle.answer.proofs.Answered.{Published, answer-published}
-use Rattle.call.specs.Call.{programLen, stateLen, Lent, CallLeft, lent, left, answerOf, holding, ended, longEnough, after}
+use Rattle.state.specs.Layout.{stateLen}
+use Rattle.chains.specs.Layout.{programLen}
+use Rattle.call.specs.Call.{Lent, CallLeft, lent, left, answerOf, holding, ended, longEnough, after}
 
 module _ (script : List ℕ) where
   answer-length : (a : Analysis) → analyze limits script ≡ answered a → length (answerOf a) ≡ answerLen

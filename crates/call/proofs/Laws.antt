@@ -34,7 +34,7 @@ use Rattle.state.specs.declared.Acted.the-variants.{On, Refused as No}
 use Rattle.state.specs.declared.Sizes.{Sizes}
 use Rattle.state.specs.View.{Attrs, stateView, StateHeld}
 use Rattle.state.specs.Changes.{went}
-use Rattle.answer.specs.Layout.{answerLen, blocksMost, callersAt}
+use Rattle.answer.specs.Layout.{answerLen, callersAt}
 use Rattle.answer.specs.Record.{Legal, recordOf}
 use Rattle.answer.specs.Image.{imageOf}
 use Rattle.answer.proofs.Answered.{run-published}
@@ -44,22 +44,25 @@ use Rattle.publish.specs.Final.{withState}
 use Rattle.publish.proofs.Tables.{live-length}
 use Rattle.publish.proofs.Uses.{Outside}
 use Rattle.publish.proofs.Whole.{image-written}
-use Rattle.run.specs.Stamps.{tablesOf as wordsOf}
-use Rattle.run.specs.Runs.{Rested}
+use Rattle.run.specs.Runs.{tablesOf as wordsOf, Rested}
 use Rattle.sctp.specs.Sctp.{tablesOf, Given, Analyses}
 use Rattle.parser.specs.Outcomes.{ReadsScript}
 use Rattle.parser.proofs.Laws.{read-ready, read-finished}
 use Rattle.parser.specs.declared.ReadOutcome.{ReadOutcome}
 use Rattle.parser.specs.declared.ReadOutcome.the-variants as R
+use Rattle.memory.specs.Layout.{scriptMost, blocksMost}
+use Rattle.program.specs.Layout.{programSize}
+use Rattle.state.specs.Layout.{stateSize, stateLen}
+use Rattle.chains.specs.Layout.{programLen}
 use Rattle.call.specs.declared.Outcome.{Outcome}
 use Rattle.call.specs.declared.Outcome.the-variants.{Answered, Refused}
-use Rattle.call.specs.Call.{programLen, stateLen, numberOf, Lent, lent, left, answerOf, ended, after}
+use Rattle.call.specs.Call.{numberOf, Lent, lent, left, answerOf, ended, after}
 use Rattle.call.specs.Parts.{frontOf, imaged, analyzed, found, Parsed, PartsSized, PartsFresh, PartsAnalyzed, keptOf, PartsCleared, PartsRan}
 
 -- ---- publish_state
 
 -- the state's tables
-pub words-length : {z : Sizes} (m : List ℕ) → StateHeld z (wordsOf m) → 52224 ≡ length (take 52224 m)
+pub words-length : {z : Sizes} (m : List ℕ) → StateHeld z (wordsOf m) → stateSize ≡ length (take stateSize m)
 words-length m h = sym (h .len)
 
 module _ (c : Counts) (m a : List ℕ) {z : Sizes} (e : z ≡ sizesOf c) where
@@ -139,16 +142,18 @@ module _ (s p : List ℕ) (c : Counts) (u u₁ m : List ℕ) {r : Acted} (h : Pa
 
 -- ---- analyze_script
 
-tables-back : (t d : List ℕ) → length t ≡ 47872 → frontOf (t ++ d) ≡ t
+tables-back : (t d : List ℕ) → length t ≡ programSize → frontOf (t ++ d) ≡ t
 unfolding frontOf
-tables-back t d e = take-at t d 47872 e
+tables-back t d e = take-at t d programSize e
 
 -- the analysis goes on from what was read
 imaged-on : (s : List ℕ) (p : Program) → parseProgram limits s ≡ answered p → imaged (analyze limits s) ≡ analyzed p
 unfolding analyze analyzed
 imaged-on s p e = rw e (go (start limits p))
   where
-    last : (x : Answer State) → ifAnswered (ifAnswered x (λ e. answered (record { program = p; state = e }))) (λ (a : Analysis). answered (answerOf a)) ≡ ifAnswered x (λ e. answered (imageOf (recordOf p e)))
+    last : (x : Answer State) → ifAnswered (ifAnswered x (λ e. answered (record { program = p; state = e })))
+        (λ (a : Analysis). answered (answerOf a))
+        ≡ ifAnswered x (λ e. answered (imageOf (recordOf p e)))
     last (answered e) = refl
     last (refused n) = refl
 
@@ -162,8 +167,8 @@ unfolding analyze
 imaged-no s n e = rw e
 
 -- the tables that were lent and came back
-pub reads-tables : (s t p : List ℕ) {r : ReadOutcome} → ReadsScript s t r → length t ≡ length (take 47872 p) → 47872 ≤ length p → ReadsScript s (frontOf (t ++ drop 47872 p)) r
-reads-tables s t p {r} g e h = subst (λ x. ReadsScript s x r) (sym (tables-back t (drop 47872 p) (e ∙ length-take-le 47872 p h))) g
+pub reads-tables : (s t p : List ℕ) {r : ReadOutcome} → ReadsScript s t r → length t ≡ length (take programSize p) → programSize ≤ length p → ReadsScript s (frontOf (t ++ drop programSize p)) r
+reads-tables s t p {r} g e h = subst (λ x. ReadsScript s x r) (sym (tables-back t (drop programSize p) (e ∙ length-take-le programSize p h))) g
 
 -- the number of a refusal is a question's
 number-of : (s : List ℕ) (n : ℕ) → parseProgram limits s ≡ refused n → n ≤ 20
@@ -224,24 +229,24 @@ ran-is s a₁ p₁ w₁ {a} {p} {w} {r} d t =
 -- ---- the call
 
 module _ (s a p w : List ℕ) where
-  pub too-long : 16384 < length s → after s (lent a p w) ≡ left (some 1) (lent a p w)
+  pub too-long : scriptMost < length s → after s (lent a p w) ≡ left (some 1) (lent a p w)
   unfolding after
-  too-long h = rw (lt-leb (length s) 16384 h)
+  too-long h = rw (lt-leb (length s) scriptMost h)
 
-  pub short-answer : length s ≤ 16384 → length a < answerLen → after s (lent a p w) ≡ left (some 2) (lent a p w)
+  pub short-answer : length s ≤ scriptMost → length a < answerLen → after s (lent a p w) ≡ left (some 2) (lent a p w)
   unfolding after
-  short-answer h i = rw (le-leb (length s) 16384 h, lt-leb answerLen (length a) i)
+  short-answer h i = rw (le-leb (length s) scriptMost h, lt-leb answerLen (length a) i)
 
-  pub short-program : length s ≤ 16384 → answerLen ≤ length a → length p < programLen → after s (lent a p w) ≡ left (some 2) (lent a p w)
+  pub short-program : length s ≤ scriptMost → answerLen ≤ length a → length p < programLen → after s (lent a p w) ≡ left (some 2) (lent a p w)
   unfolding after
-  short-program h i j = rw (le-leb (length s) 16384 h, le-leb answerLen (length a) i, lt-leb programLen (length p) j)
+  short-program h i j = rw (le-leb (length s) scriptMost h, le-leb answerLen (length a) i, lt-leb programLen (length p) j)
 
-  pub short-state : length s ≤ 16384 → answerLen ≤ length a → programLen ≤ length p → length w < stateLen → after s (lent a p w) ≡ left (some 2) (lent a p w)
+  pub short-state : length s ≤ scriptMost → answerLen ≤ length a → programLen ≤ length p → length w < stateLen → after s (lent a p w) ≡ left (some 2) (lent a p w)
   unfolding after
-  short-state h i j k = rw (le-leb (length s) 16384 h, le-leb answerLen (length a) i, le-leb programLen (length p) j, lt-leb stateLen (length w) k)
+  short-state h i j k = rw (le-leb (length s) scriptMost h, le-leb answerLen (length a) i, le-leb programLen (length p) j, lt-leb stateLen (length w) k)
 
-  pub ran-through : {r : Outcome} {a' p' w' : List ℕ} → length s ≤ 16384 → answerLen ≤ length a → programLen ≤ length p → stateLen ≤ length w → PartsRan s r a' p' w'
+  pub ran-through : {r : Outcome} {a' p' w' : List ℕ} → length s ≤ scriptMost → answerLen ≤ length a → programLen ≤ length p → stateLen ≤ length w → PartsRan s r a' p' w'
       → after s (lent a p w) ≡ left (numberOf r) (lent (a' ++ drop answerLen a) (p' ++ drop programLen p) (w' ++ drop stateLen w))
   unfolding after
   ran-through h i j k x =
-      rw (le-leb (length s) 16384 h, le-leb answerLen (length a) i, le-leb programLen (length p) j, le-leb stateLen (length w) k) (x .is (lent a p w))
+      rw (le-leb (length s) scriptMost h, le-leb answerLen (length a) i, le-leb programLen (length p) j, le-leb stateLen (length w) k) (x .is (lent a p w))

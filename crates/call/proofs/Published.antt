@@ -4,13 +4,11 @@ use mathlib.Core.List.{[], _∷_}
 use Prim.Native.Nat.{_+_, _≤_}
 use lib.Dec.{lit≤}
 use Rattle.rules.specs.Program.{limits}
-use Rattle.program.specs.Rows.{insnsAt, opndsAt, blocksAt, functionsAt, classesAt, ivarsAt}
-use Rattle.program.specs.Rows as Rows
-use Rattle.chains.specs.Chains as Chains
-use Rattle.cursor.specs.Cursor as Cursor
 use Rattle.answer.specs.Layout.{answerLen}
-use Rattle.run.specs.Stamps.{stampsAt}
-use Rattle.call.specs.Call.{programLen, stateLen}
+use Rattle.program.specs.Layout.{insnsAt, opndsAt, blocksAt, functionsAt, classesAt, ivarsAt, programSize}
+use Rattle.chains.specs.Layout.{chainsSize, programLen}
+use Rattle.state.specs.Layout.{stateLen, stampsAt}
+use Rattle.cursor.specs.Layout.{stackAt, scratchSize}
 use Rattle.call.specs.Published.{published, program, state, scratch}
 
 pub lengths : published ≡ ("SCRIPT_MOST", limits .script) ∷ ("ANSWER_WORDS", answerLen) ∷ ("PROGRAM_WORDS", programLen) ∷ ("STATE_WORDS", stateLen) ∷ []
@@ -18,21 +16,21 @@ lengths = refl
 
 pub program-places : program
     ≡ ("INSNS", insnsAt) ∷ ("OPNDS", opndsAt) ∷ ("BLOCKS", blocksAt) ∷ ("FUNCTIONS", functionsAt) ∷ ("CLASSES", classesAt) ∷ ("IVARS", ivarsAt)
-    ∷ ("TABLES", Rows.size) ∷ ("INDEX", Chains.size) ∷ []
+    ∷ ("TABLES", programSize) ∷ ("INDEX", chainsSize) ∷ []
 program-places = refl
 
 pub state-places : state ≡ ("STAMPS", stampsAt) ∷ []
 state-places = refl
 
-pub scratch-places : scratch ≡ ("STACK", Cursor.stackAt) ∷ ("SCRATCH", Cursor.size) ∷ []
+pub scratch-places : scratch ≡ ("STACK", stackAt) ∷ ("SCRATCH", scratchSize) ∷ []
 scratch-places = refl
 
 -- the tables and the index fill the program part, the tables and a stamp for each instruction the state part, and there the scratch has room
-pub program-filled : Rows.size + Chains.size ≡ programLen
+pub program-filled : programSize + chainsSize ≡ programLen
 program-filled = refl
 
 pub state-filled : stampsAt + limits .instructions ≡ stateLen
 state-filled = refl
 
-pub scratch-fits : Cursor.size ≤ stateLen
+pub scratch-fits : scratchSize ≤ stateLen
 scratch-fits = lit≤ tt

@@ -12,15 +12,10 @@ use Rattle.memory.specs.Memory.{zeros}
 use Rattle.answer.specs.Layout.{answerLen}
 use Rattle.answer.specs.Record.{recordOf}
 use Rattle.answer.specs.Image.{imageOf}
+use Rattle.state.specs.Layout.{stateLen}
+use Rattle.chains.specs.Layout.{programLen}
 use Rattle.call.specs.declared.Outcome.{Outcome}
 use Rattle.call.specs.declared.Outcome.the-variants.{Answered, Refused}
-
--- the published lengths of the two parts of work memory, in words
-abbrev pub programLen : ℕ
-programLen = 57088
-
-abbrev pub stateLen : ℕ
-stateLen = 54272
 
 -- 01's number of what the call gives; "answered" has none
 abbrev pub numberOf : Outcome → Option ℕ

@@ -10,7 +10,6 @@ use Rattle.rules.specs.Machine.{start, run}
 use Rattle.rules.specs.Bound.{bound}
 use Rattle.rules.specs.Frames.{Analysis, analyze}
 use Rattle.memory.specs.Memory.{zeros, Blank}
-use Rattle.program.specs.Rows.{size}
 use Rattle.program.specs.View.{ProgramReady}
 use Rattle.program.specs.declared.Counts.{Counts}
 use Rattle.answer.specs.Layout.{answerLen}
@@ -19,13 +18,16 @@ use Rattle.answer.specs.Image.{imageOf}
 use Rattle.machine.specs.Analysed.{Suited}
 use Rattle.parser.specs.declared.ReadOutcome.{ReadOutcome}
 use Rattle.parser.specs.Outcomes.{answerOf as readOf, OutcomeReadyIf}
+use Rattle.program.specs.Layout.{programSize}
+use Rattle.state.specs.Layout.{stateLen}
+use Rattle.chains.specs.Layout.{programLen}
 use Rattle.call.specs.declared.Outcome.{Outcome}
 use Rattle.call.specs.declared.Outcome.the-variants.{Answered, Refused}
-use Rattle.call.specs.Call.{programLen, stateLen, numberOf, Lent, lent, left, answerOf, ended}
+use Rattle.call.specs.Call.{numberOf, Lent, lent, left, answerOf, ended}
 
 -- the tables of the program part, in front of its index
 unfoldable pub frontOf : List ℕ → List ℕ
-frontOf p = take size p
+frontOf p = take programSize p
 
 -- the answer's image, or a refusal
 abbrev pub imaged : Answer Analysis → Answer (List ℕ)

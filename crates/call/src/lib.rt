@@ -4,15 +4,16 @@ use state::Acted;
 ghost use mathlib.Core.Path.{_≡_};
 ghost use Prim.Native.Nat.{_≤_};
 ghost use lib.ListN.{length};
-ghost use Rattle.program.specs.Rows.{size as tablesSize};
 ghost use Rattle.program.specs.View.{programView};
-ghost use Rattle.cursor.specs.Cursor.{size as scratchSize};
 ghost use Rattle.state.specs.View.{StateHeld};
-ghost use Rattle.answer.specs.Layout.{answerLen, blocksMost};
+ghost use Rattle.answer.specs.Layout.{answerLen};
 ghost use Rattle.machine.specs.Analysed.{sizesOf};
-ghost use Rattle.run.specs.Stamps.{tablesOf as wordsOf};
+ghost use Rattle.run.specs.Runs.{tablesOf as wordsOf};
 ghost use Rattle.publish.specs.Final.{withState};
 ghost use Rattle.parser.specs.Outcomes.{ReadsScript};
+ghost use Rattle.memory.specs.Layout.{blocksMost};
+ghost use Rattle.program.specs.Layout.{programSize};
+ghost use Rattle.cursor.specs.Layout.{scratchSize};
 ghost use Rattle.call.specs.Call.{numberOf, lent, left, after};
 ghost use Rattle.call.specs.Parts.{frontOf, found, analyzed, Parsed, PartsSized, PartsFresh, PartsAnalyzed, PartsCleared, PartsRan};
 
@@ -25,18 +26,18 @@ pub enum Outcome {
 // The published lengths of the parts, in words of 8 bytes.
 pub const ANSWER_LEN: usize = answer::ANSWER_LEN;
 
-pub const PROGRAM_LEN: usize = 57088;
+pub const PROGRAM_LEN: usize = chains::PROGRAM_LEN;
 
-pub const STATE_LEN: usize = 54272;
+pub const STATE_LEN: usize = state::STATE_LEN;
 
 // The longest script.
-pub const SCRIPT_MOST: usize = 16384;
+pub const SCRIPT_MOST: usize = memory::SCRIPT_MOST;
 
 // The program's tables; its index stands behind them.
-const TABLES: usize = 47872;
+const TABLES: usize = program::SIZE;
 
 fn read_tables(script: &[u8], program: &mut [usize], scratch: &mut [usize]) -> parser::ReadOutcome
-    requires { ⌜ tablesSize ≤ length (now program) ⌝ }
+    requires { ⌜ programSize ≤ length (now program) ⌝ }
     requires { ⌜ scratchSize ≤ length (now scratch) ⌝ }
     ensures { λ r. ⌜ ReadsScript (now (script .entry)) (frontOf (now (program .exit))) r ⌝ }
 {
@@ -131,7 +132,8 @@ pub fn analyze(
     program: &mut [usize],
     state: &mut [usize],
 ) -> Outcome
-    ensures { λ r. ⌜ after (now (script .entry)) (lent (now (answer .entry)) (now (program .entry)) (now (state .entry))) ≡ left (numberOf r) (lent (now (answer .exit)) (now (program .exit)) (now (state .exit))) ⌝ }
+    ensures { λ r. ⌜ after (now (script .entry)) (lent (now (answer .entry)) (now (program .entry)) (now (state .entry)))
+        ≡ left (numberOf r) (lent (now (answer .exit)) (now (program .exit)) (now (state .exit))) ⌝ }
 {
     if SCRIPT_MOST < script.len() {
         return Outcome::Refused(1);

@@ -7,7 +7,9 @@ use native.Mathlib.Omega.{arith}
 use lib.ListN.{length, getD, set, drop, length-set, length-drop}
 use lib.Seq.{getD-set-same, getD-set-other, getD-drop}
 use Rattle.program.specs.declared.Counts.{Counts}
-use Rattle.chains.specs.Chains.{size, at, self, ChainsOnly, Copied, ChainIs, Index, Carried}
+use Rattle.memory.specs.Layout.{instructionsMost, blocksRoom}
+use Rattle.chains.specs.Layout.{sortWords, returnsAt, chainsSize}
+use Rattle.chains.specs.Chains.{at, self, ChainsOnly, Copied, ChainIs, Index, Carried}
 use Rattle.chains.proofs.Lists.{chained-same}
 
 -- ---- words copied
@@ -42,31 +44,32 @@ module _ {base a n : ℕ} {w t₀ t : List ℕ} {i : ℕ} (z : Copying base a n 
 -- ---- an index carried
 
 -- a chain reads no word but those in use
-chain-carried : (w w' : List ℕ) (n sort b : ℕ) (l : List ℕ) → b < 1024 → ((j : ℕ) → j < 1024 + n → getD w' (3072 * sort + j) 0 ≡ getD w (3072 * sort + j) 0) → ChainIs w n sort b l
+chain-carried : (w w' : List ℕ) (n sort b : ℕ) (l : List ℕ) → b < blocksRoom
+    → ((j : ℕ) → j < blocksRoom + n → getD w' (sortWords * sort + j) 0 ≡ getD w (sortWords * sort + j) 0) → ChainIs w n sort b l
     → ChainIs w' n sort b l
 chain-carried w w' n sort b l h e d =
     rw (e b (omega arith))
-    (chained-same self (at w (3072 * sort + 1024)) self (at w' (3072 * sort + 1024)) n 0 0 (getD w (3072 * sort + b) 0) l (omega arith)
+    (chained-same self (at w (sortWords * sort + blocksRoom)) self (at w' (sortWords * sort + blocksRoom)) n 0 0 (getD w (sortWords * sort + b) 0) l (omega arith)
     (λ i g k.
-    let q : 3072 * sort + 1024 + i ≡ 3072 * sort + (1024 + i) = omega arith in
-    (refl, ap (λ (j : ℕ). getD w' j 0) q ∙ e (1024 + i) (omega arith) ∙ sym (ap (λ (j : ℕ). getD w j 0) q)))
+    let q : sortWords * sort + blocksRoom + i ≡ sortWords * sort + (blocksRoom + i) = omega arith in
+    (refl, ap (λ (j : ℕ). getD w' j 0) q ∙ e (blocksRoom + i) (omega arith) ∙ sym (ap (λ (j : ℕ). getD w j 0) q)))
     d)
 
-module _ (c : Counts) {base : ℕ} {w t t₁ t₂ t₃ : List ℕ} {n : ℕ} (few : c .insns ≤ 2048) (e : n ≡ 1024 + c .insns)
-    (x : Copied base 0 n w t t₁) (y : Copied base 3072 n w t₁ t₂) (z : Copied base 6144 n w t₂ t₃) where
+module _ (c : Counts) {base : ℕ} {w t t₁ t₂ t₃ : List ℕ} {n : ℕ} (few : c .insns ≤ instructionsMost) (e : n ≡ blocksRoom + c .insns)
+    (x : Copied base 0 n w t t₁) (y : Copied base sortWords n w t₁ t₂) (z : Copied base returnsAt n w t₂ t₃) where
   long : length t₃ ≡ length t
   long = z .only .len-same ∙ y .only .len-same ∙ x .only .len-same
 
-  first : (j : ℕ) → j < 1024 + c .insns → getD (drop base t₃) (3072 * 0 + j) 0 ≡ getD w (3072 * 0 + j) 0
+  first : (j : ℕ) → j < blocksRoom + c .insns → getD (drop base t₃) (sortWords * 0 + j) 0 ≡ getD w (sortWords * 0 + j) 0
   first j h = getD-drop base t₃ (0 + j) 0 ∙ z .only .others (base + (0 + j)) (λ a b. omega arith) ∙ y .only .others (base + (0 + j)) (λ a b. omega arith) ∙ x .here j (omega arith)
 
-  second : (j : ℕ) → j < 1024 + c .insns → getD (drop base t₃) (3072 * 1 + j) 0 ≡ getD w (3072 * 1 + j) 0
-  second j h = getD-drop base t₃ (3072 + j) 0 ∙ z .only .others (base + (3072 + j)) (λ a b. omega arith) ∙ y .here j (omega arith)
+  second : (j : ℕ) → j < blocksRoom + c .insns → getD (drop base t₃) (sortWords * 1 + j) 0 ≡ getD w (sortWords * 1 + j) 0
+  second j h = getD-drop base t₃ (sortWords + j) 0 ∙ z .only .others (base + (sortWords + j)) (λ a b. omega arith) ∙ y .here j (omega arith)
 
-  third : (j : ℕ) → j < 1024 + c .insns → getD (drop base t₃) (3072 * 2 + j) 0 ≡ getD w (3072 * 2 + j) 0
-  third j h = getD-drop base t₃ (6144 + j) 0 ∙ z .here j (omega arith)
+  third : (j : ℕ) → j < blocksRoom + c .insns → getD (drop base t₃) (sortWords * 2 + j) 0 ≡ getD w (sortWords * 2 + j) 0
+  third j h = getD-drop base t₃ (returnsAt + j) 0 ∙ z .here j (omega arith)
 
-  pub index-carried : base + size ≤ length t → Carried c base w t t₃
+  pub index-carried : base + chainsSize ≤ length t → Carried c base w t t₃
   index-carried room = record {
     only = record {
       len-same = long;

@@ -47,7 +47,9 @@ keep-pick g t k (suc f) = keep-consIf g (t k) k (pick t (suc k) f) (pick (λ i. 
 module _ {A : Type 0} where
   pub tab-cons : (f : ℕ → A) (n : ℕ) → tab f (suc n) ≡ f 0 ∷ tab (λ j. f (suc j)) n
   unfolding tab
-  tab-cons f n = let e : suc n ≡ 1 + n = omega arith in ap (tab f) e ∙ (tab-add f 1 n ∙ ap (λ l. f 0 ∷ l) (tab-ext (λ j. f (1 + j)) (λ j. f (suc j)) n (λ i h. let z : 1 + i ≡ suc i = omega arith in ap f z)))
+  tab-cons f n = let e : suc n ≡ 1 + n = omega arith in
+      ap (tab f) e
+      ∙ (tab-add f 1 n ∙ ap (λ l. f 0 ∷ l) (tab-ext (λ j. f (1 + j)) (λ j. f (suc j)) n (λ i h. let z : 1 + i ≡ suc i = omega arith in ap f z)))
 
   places-from : (F : A → 𝔹) (g : ℕ → A) (k n : ℕ) → placesFrom k F (tab (λ j. g (k + j)) n) ≡ pick (λ i. F (g i)) k n
   unfolding tab pick

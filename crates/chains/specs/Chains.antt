@@ -13,9 +13,8 @@ use Rattle.program.specs.View.{programView}
 use Rattle.program.specs.declared.Op.{Op}
 use Rattle.program.specs.declared.Op.the-variants.{Jump, IfTrue, Return, SendStatic, SendDynamic, Compute, Phi, Param, SelfParam, New, GetIvar, SetIvar}
 use Rattle.program.specs.declared.Counts.{Counts}
-
-abbrev pub size : ℕ
-size = 9216
+use Rattle.memory.specs.Layout.{blocksRoom}
+use Rattle.chains.specs.Layout.{sortWords, chainsSize}
 
 abbrev pub isParam : Op → 𝔹
 isParam (Jump b) = false
@@ -45,12 +44,12 @@ isReturn (New c) = false
 isReturn (GetIvar m) = false
 isReturn (SetIvar m) = false
 
--- the chain of a sort that instruction i belongs to; 1024 stands for none
+-- the chain of a sort that instruction i belongs to; blocksRoom stands for none
 unfoldable pub keyOf : List ℕ → ℕ → ℕ → ℕ
 keyOf m sort i =
     cond (eqb sort 0) (insnAt m i .block .0)
-    (cond (eqb sort 1) (cond (isParam (insnAt m i .op)) (insnAt m i .block .0) 1024)
-    (cond (isReturn (insnAt m i .op)) (blockAt m (insnAt m i .block .0)) 1024))
+    (cond (eqb sort 1) (cond (isParam (insnAt m i .op)) (insnAt m i .block .0) blocksRoom)
+    (cond (isReturn (insnAt m i .op)) (blockAt m (insnAt m i .block .0)) blocksRoom))
 
 -- the numbers from k on, f of them, that pass
 unfoldable pub pick : (ℕ → 𝔹) → ℕ → ℕ → List ℕ
@@ -90,17 +89,17 @@ pub record Copied (base a n : ℕ) (w t t' : List ℕ) : Type 0 where
 -- the chains of a sort, of the instructions from i on
 abbrev pub ChainsHeld : List ℕ → ℕ → ℕ → ℕ → List ℕ → Type 0
 ChainsHeld m n sort i w =
-    (b : ℕ) → b < 1024 → ChainsChained self (at w (3072 * sort + 1024)) n i (getD w (3072 * sort + b) 0) (pick (λ j. eqb (keyOf m sort j) b) i (n - i))
+    (b : ℕ) → b < blocksRoom → ChainsChained self (at w (sortWords * sort + blocksRoom)) n i (getD w (sortWords * sort + b) 0) (pick (λ j. eqb (keyOf m sort j) b) i (n - i))
 
 -- a sort's chain of a number
 abbrev pub ChainIs : List ℕ → ℕ → ℕ → ℕ → List ℕ → Type 0
-ChainIs w n sort b l = ChainsChained self (at w (3072 * sort + 1024)) n 0 (getD w (3072 * sort + b) 0) l
+ChainIs w n sort b l = ChainsChained self (at w (sortWords * sort + blocksRoom)) n 0 (getD w (sortWords * sort + b) 0) l
 
 abbrev pub All : List ℕ → ℕ → ℕ → List ℕ → Type 0
-All m n sort w = (b : ℕ) → b < 1024 → ChainIs w n sort b (pick (λ j. eqb (keyOf m sort j) b) 0 n)
+All m n sort w = (b : ℕ) → b < blocksRoom → ChainIs w n sort b (pick (λ j. eqb (keyOf m sort j) b) 0 n)
 
 pub record Chains (m : List ℕ) (n sort : ℕ) (w w' : List ℕ) : Type 0 where
-  pub only : ChainsOnly (3072 * sort) 3072 w w'
+  pub only : ChainsOnly (sortWords * sort) sortWords w w'
   pub held : All m n sort w'
 
 -- the Return instructions of a function
@@ -108,12 +107,12 @@ unfoldable pub returnsOf : P.Program → ℕ → List ℕ
 returnsOf p f = places (λ (x : P.Instruction). eqb (P.functionAt p (x .block)) f && has (P.returned (x .op))) (p .instructions)
 
 pub record Index (m : List ℕ) (c : Counts) (w : List ℕ) : Type 0 where
-  pub len : size ≤ length w
-  pub codes : (s : List ℕ) (b : ℕ) → b < 1024 → ChainIs w (c .insns) 0 b (code (programView s m c) b)
-  pub params : (s : List ℕ) (f : ℕ) → f < c .functions → entry (programView s m c) f < 1024 → ChainIs w (c .insns) 1 (entry (programView s m c) f) (parameters (programView s m c) f)
-  pub returning : (s : List ℕ) (f : ℕ) → f < 1024 → ChainIs w (c .insns) 2 f (returnsOf (programView s m c) f)
+  pub len : chainsSize ≤ length w
+  pub codes : (s : List ℕ) (b : ℕ) → b < blocksRoom → ChainIs w (c .insns) 0 b (code (programView s m c) b)
+  pub params : (s : List ℕ) (f : ℕ) → f < c .functions → entry (programView s m c) f < blocksRoom → ChainIs w (c .insns) 1 (entry (programView s m c) f) (parameters (programView s m c) f)
+  pub returning : (s : List ℕ) (f : ℕ) → f < blocksRoom → ChainIs w (c .insns) 2 f (returnsOf (programView s m c) f)
 
 -- an index stands in another memory too, from base on
 pub record Carried (c : Counts) (base : ℕ) (w t t' : List ℕ) : Type 0 where
-  pub only : ChainsOnly base size t t'
+  pub only : ChainsOnly base chainsSize t t'
   pub index : (m : List ℕ) → Index m c w → Index m c (drop base t')

@@ -8,14 +8,19 @@ ghost use mathlib.Core.Path.{_≡_};
 ghost use Prim.Native.Nat.{ℕ, _+_, _*_, _≤_, _<_};
 ghost use lib.ListN.{length, getD};
 ghost use Rattle.program.specs.View.{ProgramReady};
-ghost use Rattle.chains.specs.Chains.{size, isParam, isReturn, keyOf, FitsId, ChainsFilled, Copied, Chains, Index, Carried};
+ghost use Rattle.memory.specs.Layout.{instructionsMost, blocksRoom};
+ghost use Rattle.chains.specs.Layout.{codeLinksAt, paramsAt, paramLinksAt, returnsAt, returnLinksAt, chainsSize};
+ghost use Rattle.chains.specs.Chains.{isParam, isReturn, keyOf, FitsId, ChainsFilled, Copied, Chains, Index, Carried};
 
-// Where a sort's heads start, how many there are, and how many words a sort takes; the three sorts are the code, the Params and the Returns.
-const HEADS: usize = 1024;
+// A sort's heads, the words of a sort, and of all three: the code, the Params and the Returns.
+const HEADS: usize = memory::BLOCKS_ROOM;
 
-const SORT: usize = 3072;
+const SORT: usize = HEADS + memory::INSTRUCTIONS_MOST;
 
-pub const SIZE: usize = 9216;
+pub const SIZE: usize = 3 * SORT;
+
+// The published length of the program part: its tables, and the chains behind them.
+pub const PROGRAM_LEN: usize = program::SIZE + SIZE;
 
 fn is_param(op: Op) -> bool
     ensures { λ r. ⌜ r ≡ isParam op ⌝ }
@@ -95,7 +100,7 @@ pub fn fill(scratch: &mut [usize], at: usize, n: usize, v: usize)
 // The chains of a sort, from the last instruction down: each instruction goes in front.
 fn chain(program: &[usize], counts: Counts, scratch: &mut [usize], sort: usize)
     requires { ⌜ ProgramReady (now program) counts ⌝ }
-    requires { ⌜ (size ≤ length (now scratch)) × (sort < 3) ⌝ }
+    requires { ⌜ (chainsSize ≤ length (now scratch)) × (sort < 3) ⌝ }
     ensures { λ _. ⌜ Chains (now (program .entry)) (counts .insns) sort (now (scratch .entry)) (now (scratch .exit)) ⌝ }
 {
     let n = counts.insns;
@@ -115,7 +120,7 @@ fn chain(program: &[usize], counts: Counts, scratch: &mut [usize], sort: usize)
 
 pub fn build_index(program: &[usize], counts: Counts, scratch: &mut [usize])
     requires { ⌜ ProgramReady (now program) counts ⌝ }
-    requires { ⌜ size ≤ length (now scratch) ⌝ }
+    requires { ⌜ chainsSize ≤ length (now scratch) ⌝ }
     ensures { λ _. ⌜ Index (now (program .entry)) counts (now (scratch .exit)) ⌝ }
 {
     chain(program, counts, scratch, 0);
@@ -137,8 +142,8 @@ fn copy(scratch: &[usize], t: &mut [usize], base: usize, at: usize, n: usize)
 
 // What is in use of an index goes to another memory, from `base` on.
 pub fn copy_index(scratch: &[usize], counts: Counts, t: &mut [usize], base: usize)
-    requires { ⌜ (size ≤ length (now scratch)) × (counts .insns ≤ 2048) ⌝ }
-    requires { ⌜ base + size ≤ length (now t) ⌝ }
+    requires { ⌜ (chainsSize ≤ length (now scratch)) × (counts .insns ≤ instructionsMost) ⌝ }
+    requires { ⌜ base + chainsSize ≤ length (now t) ⌝ }
     ensures { λ _. ⌜ Carried counts base (now (scratch .entry)) (now (t .entry)) (now (t .exit)) ⌝ }
 {
     let n = HEADS + counts.insns;
@@ -157,7 +162,7 @@ fn insn_at(scratch: &[usize], at: usize) -> InsnId
 
 // The first of a block's instructions, and the one after an instruction. Where there is none it is the number of instructions: an InsnId that is not below the count, and so stands for no instruction.
 pub fn first_insn(scratch: &[usize], b: BlockId) -> InsnId
-    requires { ⌜ (size ≤ length (now scratch)) × (b .0 < 1024) ⌝ }
+    requires { ⌜ (chainsSize ≤ length (now scratch)) × (b .0 < blocksRoom) ⌝ }
     requires { ⌜ FitsId (now scratch) (b .0) ⌝ }
     ensures { λ r. ⌜ r .0 ≡ getD (now (scratch .entry)) (b .0) 0 ⌝ }
 {
@@ -166,45 +171,45 @@ pub fn first_insn(scratch: &[usize], b: BlockId) -> InsnId
 }
 
 pub fn next_insn(scratch: &[usize], i: InsnId) -> InsnId
-    requires { ⌜ (size ≤ length (now scratch)) × (i .0 < 2048) ⌝ }
-    requires { ⌜ FitsId (now scratch) (1024 + i .0) ⌝ }
-    ensures { λ r. ⌜ r .0 ≡ getD (now (scratch .entry)) (1024 + i .0) 0 ⌝ }
+    requires { ⌜ (chainsSize ≤ length (now scratch)) × (i .0 < instructionsMost) ⌝ }
+    requires { ⌜ FitsId (now scratch) (codeLinksAt + i .0) ⌝ }
+    ensures { λ r. ⌜ r .0 ≡ getD (now (scratch .entry)) (codeLinksAt + i .0) 0 ⌝ }
 {
     let at = i.0 as usize;
     insn_at(scratch, HEADS + at)
 }
 
 pub fn first_param(scratch: &[usize], b: BlockId) -> InsnId
-    requires { ⌜ (size ≤ length (now scratch)) × (b .0 < 1024) ⌝ }
-    requires { ⌜ FitsId (now scratch) (3072 + b .0) ⌝ }
-    ensures { λ r. ⌜ r .0 ≡ getD (now (scratch .entry)) (3072 + b .0) 0 ⌝ }
+    requires { ⌜ (chainsSize ≤ length (now scratch)) × (b .0 < blocksRoom) ⌝ }
+    requires { ⌜ FitsId (now scratch) (paramsAt + b .0) ⌝ }
+    ensures { λ r. ⌜ r .0 ≡ getD (now (scratch .entry)) (paramsAt + b .0) 0 ⌝ }
 {
     let at = b.0 as usize;
     insn_at(scratch, SORT + at)
 }
 
 pub fn next_param(scratch: &[usize], i: InsnId) -> InsnId
-    requires { ⌜ (size ≤ length (now scratch)) × (i .0 < 2048) ⌝ }
-    requires { ⌜ FitsId (now scratch) (4096 + i .0) ⌝ }
-    ensures { λ r. ⌜ r .0 ≡ getD (now (scratch .entry)) (4096 + i .0) 0 ⌝ }
+    requires { ⌜ (chainsSize ≤ length (now scratch)) × (i .0 < instructionsMost) ⌝ }
+    requires { ⌜ FitsId (now scratch) (paramLinksAt + i .0) ⌝ }
+    ensures { λ r. ⌜ r .0 ≡ getD (now (scratch .entry)) (paramLinksAt + i .0) 0 ⌝ }
 {
     let at = i.0 as usize;
     insn_at(scratch, SORT + HEADS + at)
 }
 
 pub fn first_return(scratch: &[usize], f: FunId) -> InsnId
-    requires { ⌜ (size ≤ length (now scratch)) × (f .0 < 1024) ⌝ }
-    requires { ⌜ FitsId (now scratch) (6144 + f .0) ⌝ }
-    ensures { λ r. ⌜ r .0 ≡ getD (now (scratch .entry)) (6144 + f .0) 0 ⌝ }
+    requires { ⌜ (chainsSize ≤ length (now scratch)) × (f .0 < blocksRoom) ⌝ }
+    requires { ⌜ FitsId (now scratch) (returnsAt + f .0) ⌝ }
+    ensures { λ r. ⌜ r .0 ≡ getD (now (scratch .entry)) (returnsAt + f .0) 0 ⌝ }
 {
     let at = f.0 as usize;
     insn_at(scratch, SORT + SORT + at)
 }
 
 pub fn next_return(scratch: &[usize], i: InsnId) -> InsnId
-    requires { ⌜ (size ≤ length (now scratch)) × (i .0 < 2048) ⌝ }
-    requires { ⌜ FitsId (now scratch) (7168 + i .0) ⌝ }
-    ensures { λ r. ⌜ r .0 ≡ getD (now (scratch .entry)) (7168 + i .0) 0 ⌝ }
+    requires { ⌜ (chainsSize ≤ length (now scratch)) × (i .0 < instructionsMost) ⌝ }
+    requires { ⌜ FitsId (now scratch) (returnLinksAt + i .0) ⌝ }
+    ensures { λ r. ⌜ r .0 ≡ getD (now (scratch .entry)) (returnLinksAt + i .0) 0 ⌝ }
 {
     let at = i.0 as usize;
     insn_at(scratch, SORT + SORT + HEADS + at)

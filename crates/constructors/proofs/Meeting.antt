@@ -1,5 +1,5 @@
 -- What is set before a block: the meet over the blocks done that lead to it. Assumes nothing.
-use mathlib.Core.Bool.{Bool as 𝔹, true, false, _&&_, _||_}
+use mathlib.Core.Bool.{Bool as 𝔹, true, false, _&&_, _||_, or-false}
 use mathlib.Core.Option.{Option, none, some}
 use mathlib.Core.Path.{_≡_, refl, sym, ap, ap₂, _∙_}
 use mathlib.Core.List.{List, [], _∷_}
@@ -7,7 +7,7 @@ use Prim.Native.Nat.{ℕ, zero, suc, _+_, _-_, _*_, _/_, _%_, _^_, _≤_, _<_, m
 use native.Mathlib.Nat.{div-self, mod-eq-of-lt, zero-div}
 use native.Mathlib.Omega.{arith}
 use borrow.Author.Tests.{eq-eqb, ne-eqb}
-use lib.Bits.{bitAnd, bitOr, and-shr, or-shr, and-step, or-step, and-mask}
+use lib.Bits.{bitAnd, bitOr, and-shr, and-step, and-mask}
 use lib.Pow.{pow-pos, pow-lt}
 use lib.Dec.{eqb}
 use lib.ListN.{length, getD}
@@ -17,6 +17,8 @@ use Rattle.rules.specs.Constructors.{endOf, setBefore}
 use Rattle.program.specs.View.{programView}
 use Rattle.program.specs.declared.Counts.{Counts}
 use Rattle.ids.specs.declared.BlockId.{BlockId}
+use Rattle.memory.proofs.tables.Bit.{or-bit}
+use Rattle.constructors.specs.Layout.{orderAt, outsAt}
 use Rattle.constructors.specs.declared.Ends.{Ends}
 use Rattle.constructors.specs.declared.Ends.the-variants.{Return, Jump, IfTrue, Open}
 use Rattle.constructors.specs.Walks.{targets, Ended}
@@ -48,16 +50,13 @@ either (suc zero) (suc (suc y)) h g = absurd (omega arith)
 bit-and : (a x y : ℕ) → bitAnd x y / 2 ^ a % 2 ≡ min (x / 2 ^ a % 2) (y / 2 ^ a % 2)
 bit-and a x y = rw (and-shr x y a) (omega (arith, and-step (x / 2 ^ a) (y / 2 ^ a)))
 
-bit-or : (a x y : ℕ) → bitOr x y / 2 ^ a % 2 ≡ max (x / 2 ^ a % 2) (y / 2 ^ a % 2)
-bit-or a x y = rw (or-shr x y a) (omega (arith, or-step (x / 2 ^ a) (y / 2 ^ a)))
-
 pub holds-and : (a x y : ℕ) → holds a (bitAnd x y) ≡ (holds a x && holds a y)
 unfolding holds
 holds-and a x y = ap (λ z. eqb z 1) (bit-and a x y) ∙ both (x / 2 ^ a % 2) (y / 2 ^ a % 2) (bit-two (x / 2 ^ a)) (bit-two (y / 2 ^ a))
 
 pub holds-or : (a x y : ℕ) → holds a (bitOr x y) ≡ (holds a x || holds a y)
 unfolding holds
-holds-or a x y = ap (λ z. eqb z 1) (bit-or a x y) ∙ either (x / 2 ^ a % 2) (y / 2 ^ a % 2) (bit-two (x / 2 ^ a)) (bit-two (y / 2 ^ a))
+holds-or a x y = ap (λ z. eqb z 1) (or-bit x y a) ∙ either (x / 2 ^ a % 2) (y / 2 ^ a % 2) (bit-two (x / 2 ^ a)) (bit-two (y / 2 ^ a))
 
 pub holds-none : (a : ℕ) → holds a 0 ≡ false
 unfolding holds
@@ -75,15 +74,11 @@ holds-full a h =
 
 -- ---- where a block leads
 
-or-none : (t : 𝔹) → t ≡ (t || false)
-or-none true = refl
-or-none false = refl
-
 pub leads-jump : {e : Ends} {a : BlockId} (t : ℕ) → e ≡ Jump a → eqb t (a .0) ≡ any (eqb t) (targets e)
-leads-jump {e} {a} t q = rw q (or-none (eqb t (a .0)))
+leads-jump {e} {a} t q = rw q (sym (or-false (eqb t (a .0))))
 
 pub leads-if : {e : Ends} {a b : BlockId} (t : ℕ) → e ≡ IfTrue a b → (eqb t (a .0) || eqb t (b .0)) ≡ any (eqb t) (targets e)
-leads-if {e} {a} {b} t q = rw q (ap (λ z. eqb t (a .0) || z) (or-none (eqb t (b .0))))
+leads-if {e} {a} {b} t q = rw q (ap (λ z. eqb t (a .0) || z) (sym (or-false (eqb t (b .0)))))
 
 -- ---- the loop
 
@@ -118,26 +113,26 @@ meet-start m c w n b =
 
 module _ {m : List ℕ} {c : Counts} {w : List ℕ} {n b q bits met : ℕ} (z : Meeting m c w n b q bits met) where
   module _ (h : 0 < q) where
-    down : (a : ℕ) → doneFrom w a (q - 1) (n - (q - 1)) ≡ (getD w (1024 + (q - 1)) 0, holds a (getD w (2048 + (q - 1)) 0)) ∷ doneFrom w a q (n - q)
+    down : (a : ℕ) → doneFrom w a (q - 1) (n - (q - 1)) ≡ (getD w (orderAt + (q - 1)) 0, holds a (getD w (outsAt + (q - 1)) 0)) ∷ doneFrom w a q (n - q)
     unfolding doneFrom
     down a =
         let e : n - (q - 1) ≡ suc (n - q) = omega (arith, z .high) in
         let f : suc (q - 1) ≡ q = omega arith in
-        ap (doneFrom w a (q - 1)) e ∙ ap (λ k. (getD w (1024 + (q - 1)) 0, holds a (getD w (2048 + (q - 1)) 0)) ∷ doneFrom w a k (n - q)) f
+        ap (doneFrom w a (q - 1)) e ∙ ap (λ k. (getD w (orderAt + (q - 1)) 0, holds a (getD w (outsAt + (q - 1)) 0)) ∷ doneFrom w a k (n - q)) f
 
-    module _ {r : Ends} {t : 𝔹} (en : Ended m c (getD w (1024 + (q - 1)) 0) r) (le : t ≡ any (eqb b) (targets r)) where
+    module _ {r : Ends} {t : 𝔹} (en : Ended m c (getD w (orderAt + (q - 1)) 0) r) (le : t ≡ any (eqb b) (targets r)) where
       stepped : (s : List ℕ) (a : ℕ) → a < 64
-          → setBefore (programView s m c) b (doneFrom w a (q - 1) (n - (q - 1))) ≡ step t (holds a (getD w (2048 + (q - 1)) 0)) (metAs met (holds a bits))
+          → setBefore (programView s m c) b (doneFrom w a (q - 1) (n - (q - 1))) ≡ step t (holds a (getD w (outsAt + (q - 1)) 0)) (metAs met (holds a bits))
       stepped s a l =
           ap (setBefore (programView s m c) b) (down a)
-          ∙ (before-cons (programView s m c) b (getD w (1024 + (q - 1)) 0) (holds a (getD w (2048 + (q - 1)) 0)) (doneFrom w a q (n - q))
-          ∙ ap₂ {C = Option 𝔹} (λ x y. step x (holds a (getD w (2048 + (q - 1)) 0)) y) (ap (any (eqb b)) (en .onward s) ∙ sym le) (z .is s a l))
+          ∙ (before-cons (programView s m c) b (getD w (orderAt + (q - 1)) 0) (holds a (getD w (outsAt + (q - 1)) 0)) (doneFrom w a q (n - q))
+          ∙ ap₂ {C = Option 𝔹} (λ x y. step x (holds a (getD w (outsAt + (q - 1)) 0)) y) (ap (any (eqb b)) (en .onward s) ∙ sym le) (z .is s a l))
 
       pub meet-skip : t ≡ false → Meeting m c w n b (q - 1) bits met
       meet-skip e =
           record {
             high = omega (arith, z .high);
-            is = λ s a l. stepped s a l ∙ ap (λ x. step x (holds a (getD w (2048 + (q - 1)) 0)) (metAs met (holds a bits))) e;
+            is = λ s a l. stepped s a l ∙ ap (λ x. step x (holds a (getD w (outsAt + (q - 1)) 0)) (metAs met (holds a bits))) e;
             start = z .start;
           }
 
@@ -145,15 +140,15 @@ module _ {m : List ℕ} {c : Counts} {w : List ℕ} {n b q bits met : ℕ} (z : 
       rest zero a l f = sym (ap (holds a) (f refl) ∙ holds-full a l)
       rest (suc k) a l f = refl
 
-      pub meet-more : t ≡ true → Meeting m c w n b (q - 1) (bitAnd (getD w (2048 + (q - 1)) 0) bits) 1
+      pub meet-more : t ≡ true → Meeting m c w n b (q - 1) (bitAnd (getD w (outsAt + (q - 1)) 0) bits) 1
       meet-more e =
           record {
             high = omega (arith, z .high);
             is = λ s a l.
                 stepped s a l
-                ∙ (ap (λ x. step x (holds a (getD w (2048 + (q - 1)) 0)) (metAs met (holds a bits))) e
-                ∙ (ap (λ x. some (holds a (getD w (2048 + (q - 1)) 0) && x)) (rest met a l (z .start))
-                ∙ ap some (sym (holds-and a (getD w (2048 + (q - 1)) 0) bits))));
+                ∙ (ap (λ x. step x (holds a (getD w (outsAt + (q - 1)) 0)) (metAs met (holds a bits))) e
+                ∙ (ap (λ x. some (holds a (getD w (outsAt + (q - 1)) 0) && x)) (rest met a l (z .start))
+                ∙ ap some (sym (holds-and a (getD w (outsAt + (q - 1)) 0) bits))));
             start = λ x. absurd (omega arith);
           }
 

@@ -1,8 +1,8 @@
 -- The attribute places that bear a name. Assumes nothing.
-use mathlib.Core.Bool.{Bool as 𝔹, true, false, not, cond, _&&_, _||_}
+use mathlib.Core.Bool.{Bool as 𝔹, true, false, not, cond, _&&_, _||_, or-true, or-false}
 use mathlib.Core.Option.{Option, none, some}
 use mathlib.Core.Path.{_≡_, refl, sym, ap, ap₂, _∙_}
-use mathlib.Core.List.{List, [], _∷_, _++_}
+use mathlib.Core.List.{List, [], _∷_}
 use Prim.Native.Nat.{ℕ, zero, suc, _+_, _-_, _*_, _/_, _%_, _^_, _≤_, _<_}
 use native.Mathlib.Decide.{ℕ-discrete}
 use native.Mathlib.Nat.{div-self, div-eq-of-lt}
@@ -23,6 +23,8 @@ use Rattle.program.specs.View.{programView, ProgramReady, classesOf}
 use Rattle.program.specs.declared.Counts.{Counts}
 use Rattle.program.specs.declared.Name.{Name}
 use Rattle.program.proofs.Tables.{tab-at, tab-more}
+use Rattle.program.proofs.Committing.{any-snoc}
+use Rattle.program.specs.Layout.{classesAt, ivarsAt, classWords, ivarRowWords}
 use Rattle.constructors.specs.declared.Places.{Places}
 use Rattle.constructors.specs.Flows.{holds, ivarIn, NamedIs}
 use Rattle.constructors.proofs.Meeting.{holds-or, holds-none}
@@ -60,18 +62,6 @@ has-first k f (x ∷ l) = go (f x) (has-first (suc k) f l)
     go true e = refl
     go false e = e
 
-any-snoc : {A : Type 0} (f : A → 𝔹) (l : List A) (x : A) → any f (l ++ x ∷ []) ≡ (any f l || f x)
-any-snoc f [] x = or-none (f x)
-  where
-    or-none : (t : 𝔹) → (t || false) ≡ t
-    or-none true = refl
-    or-none false = refl
-any-snoc f (y ∷ l) x = go (f y) (any-snoc f l x)
-  where
-    go : (t : 𝔹) → any f (l ++ x ∷ []) ≡ (any f l || f x) → (t || any f (l ++ x ∷ [])) ≡ ((t || any f l) || f x)
-    go true e = refl
-    go false e = e
-
 module _ (s m : List ℕ) (c : Counts) (k : ℕ) (h : k < c .classes) (n : List ℕ) where
   named-any : has (ivarNamed (programView s m c) k n) ≡ any (λ x. same x n) (tab (ivarIn s m k) (ivarsOf m k))
   unfolding ivarNamed classesOf classAt
@@ -94,18 +84,11 @@ name-start s m k start len =
     }
 
 module _ {s m : List ℕ} {k start len bits found a : ℕ} (z : Naming s m k start len bits found a) (g : a < ivarsOf m k) {t : 𝔹} (e : t ≡ same (ivarIn s m k a) (name s start len)) where
-  or-false : (t : 𝔹) → (t || false) ≡ t
-  or-false true = refl
-  or-false false = refl
-
-  or-true : (t : 𝔹) → (t || true) ≡ true
-  or-true true = refl
-  or-true false = refl
-
   more-some : any (λ x. same x (name s start len)) (tab (ivarIn s m k) (a + 1)) ≡ (any (λ x. same x (name s start len)) (tab (ivarIn s m k) a) || t)
   more-some =
       ap (any (λ x. same x (name s start len)))
-      (tab-more (ivarIn s m k) a) ∙ (any-snoc (λ x. same x (name s start len)) (tab (ivarIn s m k) a) (ivarIn s m k a) ∙ ap (λ y. any (λ x. same x (name s start len)) (tab (ivarIn s m k) a) || y) (sym e))
+      (tab-more (ivarIn s m k) a) ∙ (any-snoc (λ x. same x (name s start len)) (tab (ivarIn s m k) a) (ivarIn s m k a)
+      ∙ ap (λ y. any (λ x. same x (name s start len)) (tab (ivarIn s m k) a) || y) (sym e))
 
   pub name-skip : t ≡ false → Naming s m k start len bits found (a + 1)
   name-skip f =
@@ -128,7 +111,8 @@ module _ {s m : List ℕ} {k start len bits found a : ℕ} (z : Naming s m k sta
       ]
         where
           same-side : (x : ℕ) → (x ≡ a → ⊥) → ltb x a ≡ ltb x (a + 1)
-          same-side x q = elim (native.Mathlib.Decide.decLe a x) [ yes l ↦ le-ltb x a l ∙ sym (le-ltb x (a + 1) (omega arith)) | no l ↦ lt-ltb x a (omega arith) ∙ sym (lt-ltb x (a + 1) (omega arith)) ]
+          same-side x q = elim (native.Mathlib.Decide.decLe a x)
+              [ yes l ↦ le-ltb x a l ∙ sym (le-ltb x (a + 1) (omega arith)) | no l ↦ lt-ltb x a (omega arith) ∙ sym (lt-ltb x (a + 1) (omega arith)) ]
 
   pub name-more : {bit : ℕ} → bit ≡ 2 ^ a → t ≡ true → Naming s m k start len (bitOr bits bit) 1 (a + 1)
   name-more {bit} l f =
@@ -149,9 +133,11 @@ module _ {s m : List ℕ} {k start len bits found a : ℕ} (z : Naming s m k sta
       ]
         where
           same-side : (x : ℕ) → (x ≡ a → ⊥) → ltb x a ≡ ltb x (a + 1)
-          same-side x q = elim (native.Mathlib.Decide.decLe a x) [ yes l ↦ le-ltb x a l ∙ sym (le-ltb x (a + 1) (omega arith)) | no l ↦ lt-ltb x a (omega arith) ∙ sym (lt-ltb x (a + 1) (omega arith)) ]
+          same-side x q = elim (native.Mathlib.Decide.decLe a x)
+              [ yes l ↦ le-ltb x a l ∙ sym (le-ltb x (a + 1) (omega arith)) | no l ↦ lt-ltb x a (omega arith) ∙ sym (lt-ltb x (a + 1) (omega arith)) ]
 
-pub name-done : {s m : List ℕ} {k bits found a : ℕ} {n : Name} {c : Counts} → Naming s m k (n .start) (n .len) bits found a → ivarsOf m k ≤ a → k < c .classes → NamedIs s m c k n (record { bits = bits; found = found })
+pub name-done : {s m : List ℕ} {k bits found a : ℕ} {n : Name} {c : Counts} → Naming s m k (n .start) (n .len) bits found a → ivarsOf m k ≤ a
+    → k < c .classes → NamedIs s m c k n (record { bits = bits; found = found })
 name-done {s} {m} {k} {bits} {found} {a} {n} {c} z g h =
     let e : a ≡ ivarsOf m k = omega (arith, z .high) in
     record {
@@ -162,8 +148,8 @@ name-done {s} {m} {k} {bits} {found} {a} {n} {c} z g h =
 -- ---- rooms
 
 module _ {m : List ℕ} {c : Counts} {k : ℕ} (ok : ProgramReady m c) (h : k < c .classes) where
-  pub class-room : 39424 + 4 * k + 2 < length m
+  pub class-room : classesAt + classWords * k + 2 < length m
   class-room = omega (arith, ok .classes, ok .len-mem)
 
-  pub ivar-room : (a : ℕ) → a < ivarsOf m k → (39680 + 128 * k + 2 * a + 1 < length m) × (a < 64)
+  pub ivar-room : (a : ℕ) → a < ivarsOf m k → (ivarsAt + ivarRowWords * k + 2 * a + 1 < length m) × (a < 64)
   ivar-room a g = (omega (arith, ok .classes, ok .len-mem, ok .ivars k h), omega (arith, ok .ivars k h))

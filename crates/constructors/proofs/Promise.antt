@@ -2,8 +2,8 @@
 use mathlib.Core.Bool.{Bool as 𝔹, true, false, false≢true}
 use mathlib.Core.Option.{Option, none, some}
 use mathlib.Core.Path.{_≡_, refl, sym, ap, ap₂, _∙_, subst}
-use mathlib.Core.List.{List, [], _∷_, map}
-use Prim.Native.Nat.{ℕ, zero, suc, _+_, _*_, _≤_, _<_}
+use mathlib.Core.List.{List, [], _∷_}
+use Prim.Native.Nat.{ℕ, zero, suc, _+_, _≤_, _<_}
 use native.Mathlib.Omega.{arith}
 use lib.Dec.{eqb}
 use Rattle.rules.specs.Lists.{any, consIf, final}
@@ -13,12 +13,13 @@ use Rattle.rules.specs.Constructors.{endOf}
 use Rattle.rules.specs.Finished.{Finished}
 use Rattle.rules.proofs.Paths.Jumps.{next-in}
 use Rattle.program.specs.Tab.{tab}
-use Rattle.program.specs.Rows.{insnAt, instructionAt, blockAt, opIn, opndOf, opndsIn, opndsAt}
+use Rattle.program.specs.Rows.{insnAt, blockAt}
 use Rattle.program.specs.View.{programView, blocksOf}
 use Rattle.program.specs.declared.Counts.{Counts}
 use Rattle.program.proofs.Tables.{tab-length}
+use Rattle.program.proofs.Reading.{op-is}
 use Rattle.chains.specs.Chains.{pick}
-use Rattle.chains.proofs.Whole.{code-is, insn-of}
+use Rattle.chains.proofs.Whole.{code-is}
 use Rattle.constructors.specs.Walks.{endsFrom, targets, WalkInside}
 use Rattle.constructors.proofs.Endings.{codesOf, finalOr, final-cons, term-onward}
 
@@ -48,17 +49,13 @@ module _ (m : List ℕ) (c : Counts) (b : ℕ) where
   unfolding endOf
   end-by s l e = ap (λ (r : List ℕ). by s (final r)) (code-is s m c b ∙ e)
 
-  op-is : (s : List ℕ) (i : ℕ) → i < c .insns → opOf (programView s m c) i ≡ opIn s (insnAt m i .op) (map opndOf (opndsIn m (opndsAt + 2 * insnAt m i .first) (insnAt m i .count)))
-  unfolding instructionAt
-  op-is s i g = ap (λ (z : P.Instruction). z .op) (insn-of s m c i g)
-
   below : (y : ℕ) (l : List ℕ) → codesOf m (c .insns) b ≡ y ∷ l → finalOr y l < c .insns
   below y l e = let z : 0 + c .insns ≡ c .insns = omega arith in omega (arith, last-below (λ j. eqb (insnAt m j .block .0) b) 0 (c .insns) y l e)
 
   -- where a block leads is the same for any script
   leads-by : (s : List ℕ) (y : ℕ) (l : List ℕ) → codesOf m (c .insns) b ≡ y ∷ l → successors (endOf (programView s m c) b) ≡ targets (endsFrom (insnAt m (finalOr y l) .op))
   leads-by s y l e =
-      ap successors (end-by s (y ∷ l) e ∙ (ap (by s) (final-cons y l) ∙ ap (λ (o : P.Op). about o .terminator) (op-is s (finalOr y l) (below y l e))))
+      ap successors (end-by s (y ∷ l) e ∙ (ap (by s) (final-cons y l) ∙ ap (λ (o : P.Op). about o .terminator) (op-is s m c (finalOr y l) (below y l e))))
       ∙ term-onward s (insnAt m (finalOr y l) .op) _
 
 pub inside-of : {L : P.Limits} (s₀ m : List ℕ) (c : Counts) → Finished L (programView s₀ m c) → WalkInside m c

@@ -1,5 +1,5 @@
 -- What a block sets, and what all blocks surely set. Assumes nothing.
-use mathlib.Core.Bool.{Bool as 𝔹, true, false, not, _&&_, _||_}
+use mathlib.Core.Bool.{Bool as 𝔹, true, false, not, _&&_, _||_, or-false}
 use mathlib.Core.Option.{Option, none, some}
 use mathlib.Core.Path.{_≡_, refl, sym, ap, ap₂, _∙_, subst}
 use mathlib.Core.List.{List, [], _∷_, _++_, map}
@@ -15,16 +15,20 @@ use Rattle.rules.specs.Lists.{any, all, same, has, toList, concat}
 use Rattle.rules.specs.Program as P
 use Rattle.rules.specs.Program.{Program, about, opOf, code, ivarNamed, returnedBy}
 use Rattle.rules.specs.Constructors.{endOf, setsOf, setBefore, flow, initialized, declared, reversePostOrder}
-use Rattle.program.specs.Rows.{insnAt, instructionAt, opIn, opndOf, opndsIn, opndsAt, nameIn, ivarsOf}
+use Rattle.program.specs.Rows.{insnAt, instructionAt, opIn, opndOf, opndsIn, nameIn, ivarsOf}
 use Rattle.program.specs.View.{programView, ProgramReady}
 use Rattle.program.specs.declared.Counts.{Counts}
 use Rattle.program.specs.declared.Name.{Name}
 use Rattle.program.specs.declared.Row.{Row}
 use Rattle.program.specs.declared.Op.{Op}
 use Rattle.program.specs.declared.Op.the-variants as O
+use Rattle.program.proofs.Reading.{instruction-is}
 use Rattle.chains.specs.Chains.{ChainsChained, at, self, Index}
 use Rattle.chains.proofs.Lists.{Starts, chained-below, chained-none, chained-some, chained-low}
-use Rattle.chains.proofs.Whole.{code-is, insn-of}
+use Rattle.chains.proofs.Whole.{code-is}
+use Rattle.program.specs.Layout.{opndsAt}
+use Rattle.chains.specs.Layout.{codeLinksAt}
+use Rattle.constructors.specs.Layout.{orderAt, outsAt, walkSize}
 use Rattle.constructors.specs.declared.Ends.{Ends}
 use Rattle.constructors.specs.declared.Places.{Places}
 use Rattle.constructors.specs.declared.SetName.{SetName}
@@ -33,7 +37,7 @@ use Rattle.constructors.specs.declared.Sets.{Sets}
 use Rattle.constructors.specs.declared.Sets.the-variants as S
 use Rattle.constructors.specs.declared.Sure.{Sure}
 use Rattle.constructors.specs.declared.Sure.the-variants as Q
-use Rattle.constructors.specs.Walks.{work, returning, Ended, outOf, Walked}
+use Rattle.constructors.specs.Walks.{returning, Ended, outOf, Walked}
 use Rattle.constructors.specs.Flows.{holds, doneFrom, orFalse, FlowPlaced, Before, ivarIn, NamedIs, setName, FlowTold, setsIn, sureIn, allDeclared, SetsIs, SureIs}
 use Rattle.constructors.proofs.Endings.{codesOf, chain-of}
 use Rattle.constructors.proofs.Meeting.{holds-and, holds-or, holds-none, holds-full, full}
@@ -64,10 +68,6 @@ name-of e = rw e
 abbrev namesOf : Program → List ℕ → List (List ℕ)
 namesOf p l = concat (map (λ i. toList (about (opOf p i) .sets)) l)
 
-or-none : (t : 𝔹) → (t || false) ≡ t
-or-none true = refl
-or-none false = refl
-
 or-assoc : (a b c : 𝔹) → ((a || b) || c) ≡ (a || (b || c))
 or-assoc true b c = refl
 or-assoc false b c = refl
@@ -77,7 +77,7 @@ module _ (s m : List ℕ) (c : Counts) where
   unfolding instructionAt
   names-at h l {r} {t} g e f =
       ap (λ x. x ++ namesOf (programView s m c) l)
-      (ap (λ (x : P.Instruction). toList (about (x .op) .sets)) (insn-of s m c h g)
+      (ap (λ (x : P.Instruction). toList (about (x .op) .sets)) (instruction-is s m c h g)
       ∙ (sets-is s (insnAt m h .op) (map opndOf (opndsIn m (opndsAt + 2 * insnAt m h .first) (insnAt m h .count)))
       ∙ sym (ap (setIn s) (f ∙ ap (λ (x : Row). setName (x .op)) e))))
 
@@ -88,7 +88,7 @@ module _ (s m : List ℕ) (c : Counts) where
 -- the instructions of block b that are left, and the attributes that those before them set
 pub record Setting (s m x : List ℕ) (c : Counts) (k b bits h : ℕ) : Type 0 where
   pub rest : List ℕ
-  pub cells : ChainsChained self (at x 1024) (c .insns) 0 h rest
+  pub cells : ChainsChained self (at x codeLinksAt) (c .insns) 0 h rest
   pub sets : (a : ℕ) → a < ivarsOf m k → (holds a bits || any (same (ivarIn s m k a)) (namesOf (programView s m c) rest)) ≡ any (same (ivarIn s m k a)) (setsOf (programView s m c) b)
   pub asked : allDeclared s m c k (namesOf (programView s m c) rest) ≡ allDeclared s m c k (setsOf (programView s m c) b)
 
@@ -104,28 +104,28 @@ set-start s {m} {x} {c} k {b} ok ix g e =
 module _ {s m x : List ℕ} {c : Counts} {k b bits h : ℕ} (z : Setting s m x c k b bits h) where
   pub set-done : c .insns ≤ h → SetsIs s m c k b (S.Bits bits)
   set-done g =
-      let e : z .rest ≡ [] = chained-none self (at x 1024) (c .insns) 0 h (z .rest) (z .cells) g in
+      let e : z .rest ≡ [] = chained-none self (at x codeLinksAt) (c .insns) 0 h (z .rest) (z .cells) g in
       record {
         asked = sym (sym (ap (λ l. allDeclared s m c k (namesOf (programView s m c) l)) e) ∙ z .asked);
         bits = λ o q a l.
             let i : bits ≡ o = cc in
-            ap (holds a) (sym i) ∙ (sym (or-none (holds a bits)) ∙ (sym (ap (λ (l : List ℕ). holds a bits || any (same (ivarIn s m k a)) (namesOf (programView s m c) l)) e) ∙ z .sets a l));
+            ap (holds a) (sym i) ∙ (sym (or-false (holds a bits)) ∙ (sym (ap (λ (l : List ℕ). holds a bits || any (same (ivarIn s m k a)) (namesOf (programView s m c) l)) e) ∙ z .sets a l));
       }
 
   module _ (g : h < c .insns) {r : Row} {t : SetName} (re : r ≡ insnAt m h) (te : t ≡ setName (r .op)) where
-    more : Starts self (at x 1024) (c .insns) h (z .rest)
-    more = chained-some self (at x 1024) (c .insns) 0 h (z .rest) (z .cells) g
+    more : Starts self (at x codeLinksAt) (c .insns) h (z .rest)
+    more = chained-some self (at x codeLinksAt) (c .insns) 0 h (z .rest) (z .cells) g
 
     opened : namesOf (programView s m c) (z .rest) ≡ setIn s t ++ namesOf (programView s m c) (more .rest)
     opened = ap (namesOf (programView s m c)) (more .is) ∙ names-at s m c h (more .rest) g re te
 
-    pub set-rises : {h' : ℕ} → h' ≡ getD x (1024 + h) 0 → h < h'
-    set-rises e = omega (arith, chained-low self (at x 1024) (c .insns) (suc h) _ _ (more .onward) (omega arith))
+    pub set-rises : {h' : ℕ} → h' ≡ getD x (orderAt + h) 0 → h < h'
+    set-rises e = omega (arith, chained-low self (at x codeLinksAt) (c .insns) (suc h) _ _ (more .onward) (omega arith))
 
-    onward : {h' : ℕ} → h' ≡ getD x (1024 + h) 0 → ChainsChained self (at x 1024) (c .insns) 0 h' (more .rest)
-    onward e = rw e (chained-below self (at x 1024) (c .insns) (suc h) 0 _ _ (omega arith) (more .onward))
+    onward : {h' : ℕ} → h' ≡ getD x (orderAt + h) 0 → ChainsChained self (at x codeLinksAt) (c .insns) 0 h' (more .rest)
+    onward e = rw e (chained-below self (at x codeLinksAt) (c .insns) (suc h) 0 _ _ (omega arith) (more .onward))
 
-    pub set-skip : {h' : ℕ} → h' ≡ getD x (1024 + h) 0 → t ≡ N.Nothing → Setting s m x c k b bits h'
+    pub set-skip : {h' : ℕ} → h' ≡ getD x (orderAt + h) 0 → t ≡ N.Nothing → Setting s m x c k b bits h'
     set-skip e q =
         let o = opened ∙ ap (λ y. setIn s y ++ namesOf (programView s m c) (more .rest)) q in
         record {
@@ -139,7 +139,7 @@ module _ {s m x : List ℕ} {c : Counts} {k b bits h : ℕ} (z : Setting s m x c
       o : namesOf (programView s m c) (z .rest) ≡ nameIn s n ∷ namesOf (programView s m c) (more .rest)
       o = opened ∙ ap (λ y. setIn s y ++ namesOf (programView s m c) (more .rest)) q
 
-      pub set-more : {h' : ℕ} → ivarsOf m k ≤ 64 → h' ≡ getD x (1024 + h) 0 → (p .found ≡ 0 → ⊥) → Setting s m x c k b (bitOr bits (p .bits)) h'
+      pub set-more : {h' : ℕ} → ivarsOf m k ≤ 64 → h' ≡ getD x (orderAt + h) 0 → (p .found ≡ 0 → ⊥) → Setting s m x c k b (bitOr bits (p .bits)) h'
       set-more few e f =
           record {
             rest = more .rest;
@@ -165,7 +165,7 @@ module _ {s m x : List ℕ} {c : Counts} {k b bits h : ℕ} (z : Setting s m x c
 abbrev atEnd : Program → ℕ × 𝔹 → 𝔹
 atEnd p x = not (has (returnedBy (endOf p (x .0)))) || x .1
 
-done-same : (w w' : List ℕ) (a q f : ℕ) → ((j : ℕ) → q ≤ j → j < q + f → (getD w' (1024 + j) 0 ≡ getD w (1024 + j) 0) × (getD w' (2048 + j) 0 ≡ getD w (2048 + j) 0))
+done-same : (w w' : List ℕ) (a q f : ℕ) → ((j : ℕ) → q ≤ j → j < q + f → (getD w' (orderAt + j) 0 ≡ getD w (orderAt + j) 0) × (getD w' (outsAt + j) 0 ≡ getD w (outsAt + j) 0))
     → doneFrom w' a q f ≡ doneFrom w a q f
 unfolding doneFrom
 done-same w w' a q zero e = refl
@@ -176,7 +176,7 @@ done-same w w' a q (suc f) e =
 pub record Passing (s m : List ℕ) (c : Counts) (k n : ℕ) (w₀ w : List ℕ) (res i : ℕ) : Type 0 where
   pub len-same : length w ≡ length w₀
   pub high : i ≤ n
-  pub order : (j : ℕ) → j < n → getD w (1024 + j) 0 ≡ getD w₀ (1024 + j) 0
+  pub order : (j : ℕ) → j < n → getD w (orderAt + j) 0 ≡ getD w₀ (orderAt + j) 0
   pub flows : (a : ℕ) → a < ivarsOf m k → flow (programView s m c) (ivarIn s m k a) (outOf w₀ i) (doneFrom w a i (n - i)) ≡ flow (programView s m c) (ivarIn s m k a) (outOf w₀ n) []
   pub ends : (a : ℕ) → a < ivarsOf m k → all (atEnd (programView s m c)) (doneFrom w a i (n - i)) ≡ holds a res
   pub asked : declared (programView s m c) k (outOf w₀ i) ≡ declared (programView s m c) k (outOf w₀ n)
@@ -198,7 +198,7 @@ or-is : (o : Option 𝔹) → (elim o [ none ↦ false | some t ↦ t ]) ≡ orF
 or-is none = refl
 or-is (some t) = refl
 
-out-suc : (w : List ℕ) (n : ℕ) → outOf w (suc n) ≡ getD w (1024 + n) 0 ∷ outOf w n
+out-suc : (w : List ℕ) (n : ℕ) → outOf w (suc n) ≡ getD w (orderAt + n) 0 ∷ outOf w n
 unfolding outOf
 out-suc w n = refl
 
@@ -227,59 +227,60 @@ module _ {s m : List ℕ} {c : Counts} {k n : ℕ} {w₀ w : List ℕ} {res i : 
 
   module _ (h : 0 < i) where
     abbrev d : ℕ
-    d = getD w (1024 + (i - 1)) 0
+    d = getD w (orderAt + (i - 1)) 0
 
-    taken : outOf w₀ i ≡ getD w (1024 + (i - 1)) 0 ∷ outOf w₀ (i - 1)
+    taken : outOf w₀ i ≡ getD w (orderAt + (i - 1)) 0 ∷ outOf w₀ (i - 1)
     taken =
         let e : i ≡ suc (i - 1) = omega arith in
         ap (outOf w₀) e ∙ (out-suc w₀ (i - 1) ∙ ap (λ y. y ∷ outOf w₀ (i - 1)) (sym (z .order (i - 1) (omega (arith, z .high)))))
 
-    asks : (allDeclared s m c k (setsOf (programView s m c) (getD w (1024 + (i - 1)) 0)) && declared (programView s m c) k (outOf w₀ (i - 1))) ≡ declared (programView s m c) k (outOf w₀ n)
-    asks = sym (declared-cons s m c k (getD w (1024 + (i - 1)) 0) (outOf w₀ (i - 1))) ∙ (sym (ap (declared (programView s m c) k) taken) ∙ z .asked)
+    asks : (allDeclared s m c k (setsOf (programView s m c) (getD w (orderAt + (i - 1)) 0)) && declared (programView s m c) k (outOf w₀ (i - 1))) ≡ declared (programView s m c) k (outOf w₀ n)
+    asks = sym (declared-cons s m c k (getD w (orderAt + (i - 1)) 0) (outOf w₀ (i - 1))) ∙ (sym (ap (declared (programView s m c) k) taken) ∙ z .asked)
 
-    pub pass-stop : {t : Sets} → SetsIs s m c k (getD w (1024 + (i - 1)) 0) t → t ≡ S.Undeclared → SureIs s m c k (outOf w₀ n) Q.Undeclared
+    pub pass-stop : {t : Sets} → SetsIs s m c k (getD w (orderAt + (i - 1)) 0) t → t ≡ S.Undeclared → SureIs s m c k (outOf w₀ n) Q.Undeclared
     pass-stop y q =
         record {
           asked = sym (sym (ap (λ x. x && declared (programView s m c) k (outOf w₀ (i - 1))) (y .asked ∙ ap (λ x. has (setsIn x)) q)) ∙ asks);
           bits = λ o e. absurd (let v : _≡_ {A = ℕ} 0 1 = cc in omega arith);
         }
 
-    module _ {t : Sets} {o ins : ℕ} {r : Ends} {back : 𝔹} (few : n ≤ 1024) (ivs : ivarsOf m k ≤ 64) (long : work ≤ length w₀)
-        (y : SetsIs s m c k (getD w (1024 + (i - 1)) 0) t) (q : t ≡ S.Bits o) (bf : Before m c w n (i - 1 + 1) (getD w (1024 + (i - 1)) 0) ins)
-        (en : Ended m c (getD w (1024 + (i - 1)) 0) r) (bk : back ≡ returning r) where
+    module _ {t : Sets} {o ins : ℕ} {r : Ends} {back : 𝔹} (few : n ≤ orderAt) (ivs : ivarsOf m k ≤ 64) (long : walkSize ≤ length w₀)
+        (y : SetsIs s m c k (getD w (orderAt + (i - 1)) 0) t) (q : t ≡ S.Bits o) (bf : Before m c w n (i - 1 + 1) (getD w (orderAt + (i - 1)) 0) ins)
+        (en : Ended m c (getD w (orderAt + (i - 1)) 0) r) (bk : back ≡ returning r) where
       abbrev out : ℕ
       out = bitOr o ins
 
       abbrev w' : List ℕ
-      w' = set w (2048 + (i - 1)) (bitOr o ins)
+      w' = set w (outsAt + (i - 1)) (bitOr o ins)
 
-      kept-order : (j : ℕ) → j < n → getD w' (1024 + j) 0 ≡ getD w (1024 + j) 0
-      kept-order j l = getD-set-other w (2048 + (i - 1)) (1024 + j) (bitOr o ins) 0 (λ x. omega arith)
+      kept-order : (j : ℕ) → j < n → getD w' (orderAt + j) 0 ≡ getD w (orderAt + j) 0
+      kept-order j l = getD-set-other w (outsAt + (i - 1)) (orderAt + j) (bitOr o ins) 0 (λ x. omega arith)
 
-      done-on : (a : ℕ) → doneFrom w' a (i - 1) (n - (i - 1)) ≡ (getD w (1024 + (i - 1)) 0, holds a (bitOr o ins)) ∷ doneFrom w a i (n - i)
+      done-on : (a : ℕ) → doneFrom w' a (i - 1) (n - (i - 1)) ≡ (getD w (orderAt + (i - 1)) 0, holds a (bitOr o ins)) ∷ doneFrom w a i (n - i)
       unfolding doneFrom
       done-on a =
           let e : n - (i - 1) ≡ suc (n - i) = omega (arith, z .high) in
           let f : suc (i - 1) ≡ i = omega arith in
           ap (doneFrom w' a (i - 1)) e
           ∙ ap₂ {C = List (ℕ × 𝔹)} (λ u l. u ∷ l)
-          (ap₂ {C = ℕ × 𝔹} (λ u v. (u, holds a v)) (kept-order (i - 1) (omega (arith, z .high))) (getD-set-same w (2048 + (i - 1)) (bitOr o ins) 0 (omega (arith, z .len-same, z .high))))
+          (ap₂ {C = ℕ × 𝔹} (λ u v. (u, holds a v)) (kept-order (i - 1) (omega (arith, z .high))) (getD-set-same w (outsAt + (i - 1)) (bitOr o ins) 0 (omega (arith, z .len-same, z .high))))
           (ap (λ u. doneFrom w' a u (n - i)) f
-          ∙ done-same w w' a i (n - i) (λ j g l. (kept-order j (omega (arith, z .high)), getD-set-other w (2048 + (i - 1)) (2048 + j) (bitOr o ins) 0 (λ x. omega arith))))
+          ∙ done-same w w' a i (n - i) (λ j g l. (kept-order j (omega (arith, z .high)), getD-set-other w (outsAt + (i - 1)) (outsAt + j) (bitOr o ins) 0 (λ x. omega arith))))
 
       flag : (a : ℕ) → a < ivarsOf m k
-          → holds a (bitOr o ins) ≡ (any (same (ivarIn s m k a)) (setsOf (programView s m c) (getD w (1024 + (i - 1)) 0)) || orFalse (setBefore (programView s m c) (getD w (1024 + (i - 1)) 0) (doneFrom w a i (n - i))))
+          → holds a (bitOr o ins) ≡ (any (same (ivarIn s m k a)) (setsOf (programView s m c) (getD w (orderAt + (i - 1)) 0))
+          || orFalse (setBefore (programView s m c) (getD w (orderAt + (i - 1)) 0) (doneFrom w a i (n - i))))
       flag a l =
           let e : i - 1 + 1 ≡ i = omega arith in
           holds-or a o ins
           ∙ ap₂ {C = 𝔹} (λ u v. u || v) (y .bits o (ap setsIn q) a l)
-          (bf .is s a (omega arith) ∙ ap (λ u. orFalse (setBefore (programView s m c) (getD w (1024 + (i - 1)) 0) (doneFrom w a u (n - u)))) e)
+          (bf .is s a (omega arith) ∙ ap (λ u. orFalse (setBefore (programView s m c) (getD w (orderAt + (i - 1)) 0) (doneFrom w a u (n - u)))) e)
 
       flows-on : (a : ℕ) → a < ivarsOf m k
           → flow (programView s m c) (ivarIn s m k a) (outOf w₀ (i - 1)) (doneFrom w' a (i - 1) (n - (i - 1))) ≡ flow (programView s m c) (ivarIn s m k a) (outOf w₀ n) []
       flows-on a l =
-          ap (flow (programView s m c) (ivarIn s m k a) (outOf w₀ (i - 1))) (done-on a ∙ ap (λ u. (getD w (1024 + (i - 1)) 0, u) ∷ doneFrom w a i (n - i)) (flag a l))
-          ∙ (sym (flow-cons (programView s m c) (ivarIn s m k a) (getD w (1024 + (i - 1)) 0) (outOf w₀ (i - 1)) (doneFrom w a i (n - i)))
+          ap (flow (programView s m c) (ivarIn s m k a) (outOf w₀ (i - 1))) (done-on a ∙ ap (λ u. (getD w (orderAt + (i - 1)) 0, u) ∷ doneFrom w a i (n - i)) (flag a l))
+          ∙ (sym (flow-cons (programView s m c) (ivarIn s m k a) (getD w (orderAt + (i - 1)) 0) (outOf w₀ (i - 1)) (doneFrom w a i (n - i)))
           ∙ (sym (ap (λ u. flow (programView s m c) (ivarIn s m k a) u (doneFrom w a i (n - i))) taken) ∙ z .flows a l))
 
       asked-on : declared (programView s m c) k (outOf w₀ (i - 1)) ≡ declared (programView s m c) k (outOf w₀ n)
@@ -296,7 +297,7 @@ module _ {s m : List ℕ} {c : Counts} {k n : ℕ} {w₀ w : List ℕ} {res i : 
       next : (v : ℕ) → ((a : ℕ) → a < ivarsOf m k → all (atEnd (programView s m c)) (doneFrom w' a (i - 1) (n - (i - 1))) ≡ holds a v) → Passing s m c k n w₀ w' v (i - 1)
       next v e =
           record {
-            len-same = length-set w (2048 + (i - 1)) (bitOr o ins) ∙ z .len-same;
+            len-same = length-set w (outsAt + (i - 1)) (bitOr o ins) ∙ z .len-same;
             high = omega (arith, z .high);
             order = λ j l. kept-order j l ∙ z .order j l;
             flows = flows-on;
@@ -304,10 +305,10 @@ module _ {s m : List ℕ} {c : Counts} {k n : ℕ} {w₀ w : List ℕ} {res i : 
             asked = asked-on;
           }
 
-      pub pass-on : back ≡ false → Passing s m c k n w₀ (set w (2048 + (i - 1)) (bitOr o ins)) res (i - 1)
+      pub pass-on : back ≡ false → Passing s m c k n w₀ (set w (outsAt + (i - 1)) (bitOr o ins)) res (i - 1)
       pass-on f = next res (λ a l. ends-on a ∙ (ap (λ u. (not u || holds a (bitOr o ins)) && all (atEnd (programView s m c)) (doneFrom w a i (n - i))) f ∙ z .ends a l))
 
-      pub pass-back : back ≡ true → Passing s m c k n w₀ (set w (2048 + (i - 1)) (bitOr o ins)) (bitAnd (bitOr o ins) res) (i - 1)
+      pub pass-back : back ≡ true → Passing s m c k n w₀ (set w (outsAt + (i - 1)) (bitOr o ins)) (bitAnd (bitOr o ins) res) (i - 1)
       pass-back f =
           next (bitAnd (bitOr o ins) res)
           (λ a l.
@@ -315,10 +316,10 @@ module _ {s m : List ℕ} {c : Counts} {k n : ℕ} {w₀ w : List ℕ} {res i : 
           ∙ (ap (λ u. (not u || holds a (bitOr o ins)) && all (atEnd (programView s m c)) (doneFrom w a i (n - i))) f
           ∙ (ap (λ u. holds a (bitOr o ins) && u) (z .ends a l) ∙ sym (holds-and a (bitOr o ins) res))))
 
-pub placed-on : {k : ℕ} {w₀ w : List ℕ} {n : ℕ} → FlowPlaced k w₀ n → ((j : ℕ) → j < n → getD w (1024 + j) 0 ≡ getD w₀ (1024 + j) 0) → FlowPlaced k w n
+pub placed-on : {k : ℕ} {w₀ w : List ℕ} {n : ℕ} → FlowPlaced k w₀ n → ((j : ℕ) → j < n → getD w (orderAt + j) 0 ≡ getD w₀ (orderAt + j) 0) → FlowPlaced k w n
 placed-on p e = record { blocks = λ i h. rw (e i h) (p .blocks i h); few = p .few }
 
-pub walked-placed : {m : List ℕ} {c : Counts} {b : ℕ} {w : List ℕ} {n : ℕ} → c .blocks ≤ 1024 → Walked m c b w n → FlowPlaced (c .blocks) w n
+pub walked-placed : {m : List ℕ} {c : Counts} {b : ℕ} {w : List ℕ} {n : ℕ} → c .blocks ≤ orderAt → Walked m c b w n → FlowPlaced (c .blocks) w n
 walked-placed few d = record { blocks = d .inside; few = omega (arith, d .few) }
 
 pub analyzed : (s : List ℕ) {m : List ℕ} {c : Counts} (k : ℕ) {b : ℕ} {w : List ℕ} {n : ℕ} (r : Sure) → Walked m c b w n → SureIs s m c k (outOf w n) r

@@ -1,5 +1,5 @@
 -- What each way through the walk shows, on plain values. Assumes nothing.
-use mathlib.Core.Bool.{Bool as 𝔹, true, false, not, cond, _||_}
+use mathlib.Core.Bool.{Bool as 𝔹, true, false, not, cond, or-true}
 use mathlib.Core.Path.{_≡_, refl, sym, ap, ap₂, _∙_, subst}
 use mathlib.Core.List.{List, [], _∷_}
 use Prim.Native.Nat.{ℕ, zero, suc, _+_, _-_, _*_, _≤_, _<_}
@@ -21,13 +21,11 @@ use Rattle.program.specs.declared.Counts.{Counts}
 use Rattle.program.proofs.Tables.{tab-length}
 use Rattle.chains.specs.Chains.{ChainsFilled}
 use Rattle.ids.specs.declared.BlockId.{BlockId}
+use Rattle.memory.specs.Layout.{blocksRoom}
+use Rattle.constructors.specs.Layout.{orderAt, walkSize}
 use Rattle.constructors.specs.declared.Ends.{Ends}
 use Rattle.constructors.specs.declared.Ends.the-variants.{Return, Jump, IfTrue, Open}
-use Rattle.constructors.specs.Walks.{work, targets, Ended, WalkInside, marked, unseen, outOf, Marks, WalkGood, Same, walkOf, visitOf, WalkDid, Walked}
-
-or-true : (t : 𝔹) → (t || (true || false)) ≡ true
-or-true true = refl
-or-true false = refl
+use Rattle.constructors.specs.Walks.{targets, Ended, WalkInside, marked, unseen, outOf, Marks, WalkGood, Same, walkOf, visitOf, WalkDid, Walked}
 
 -- ---- marks
 
@@ -53,46 +51,46 @@ module _ (w : List ℕ) (b : ℕ) (e : getD w b 0 ≡ 0) (l : b < length w) wher
         | no q ↦ rw (ne-eqb x b q, getD-set-other w b x 1 0 q) (f x h)
       ]
 
-out-mark : (w : List ℕ) (b : ℕ) → b < 1024 → (n : ℕ) → outOf (set w b 1) n ≡ outOf w n
+out-mark : (w : List ℕ) (b : ℕ) → b < blocksRoom → (n : ℕ) → outOf (set w b 1) n ≡ outOf w n
 unfolding outOf
 out-mark w b h zero = refl
-out-mark w b h (suc n) = rw (getD-set-other w b (1024 + n) 1 0 (λ z. omega arith), out-mark w b h n)
+out-mark w b h (suc n) = rw (getD-set-other w b (orderAt + n) 1 0 (λ z. omega arith), out-mark w b h n)
 
 -- ---- blocks left behind
 
 module _ (w : List ℕ) (n b : ℕ) where
-  unseen-push : (k : ℕ) → k ≤ 1024 → unseen (set w (1024 + n) b) k ≡ unseen w k
+  unseen-push : (k : ℕ) → k ≤ blocksRoom → unseen (set w (orderAt + n) b) k ≡ unseen w k
   unfolding unseen
   unseen-push zero h = refl
-  unseen-push (suc k) h = rw (getD-set-other w (1024 + n) k b 0 (λ z. omega arith), unseen-push k (omega arith))
+  unseen-push (suc k) h = rw (getD-set-other w (orderAt + n) k b 0 (λ z. omega arith), unseen-push k (omega arith))
 
-  marks-push : (k : ℕ) (v : List ℕ) → k ≤ 1024 → Marks w k v → Marks (set w (1024 + n) b) k v
-  marks-push k v h f x l = rw (getD-set-other w (1024 + n) x b 0 (λ z. omega arith)) (f x l)
+  marks-push : (k : ℕ) (v : List ℕ) → k ≤ blocksRoom → Marks w k v → Marks (set w (orderAt + n) b) k v
+  marks-push k v h f x l = rw (getD-set-other w (orderAt + n) x b 0 (λ z. omega arith)) (f x l)
 
-  out-push : (k : ℕ) → k ≤ n → outOf (set w (1024 + n) b) k ≡ outOf w k
+  out-push : (k : ℕ) → k ≤ n → outOf (set w (orderAt + n) b) k ≡ outOf w k
   unfolding outOf
   out-push zero h = refl
-  out-push (suc k) h = rw (getD-set-other w (1024 + n) (1024 + k) b 0 (λ z. omega arith), out-push k (omega arith))
+  out-push (suc k) h = rw (getD-set-other w (orderAt + n) (orderAt + k) b 0 (λ z. omega arith), out-push k (omega arith))
 
-  out-more : 1024 + n < length w → outOf (set w (1024 + n) b) (n + 1) ≡ b ∷ outOf w n
+  out-more : orderAt + n < length w → outOf (set w (orderAt + n) b) (n + 1) ≡ b ∷ outOf w n
   unfolding outOf
-  out-more h = rw (add-one, getD-set-same w (1024 + n) b 0 h, out-push n (omega arith))
+  out-more h = rw (add-one, getD-set-same w (orderAt + n) b 0 h, out-push n (omega arith))
 
 module _ (k : ℕ) (w : List ℕ) (n b : ℕ) (ok : WalkGood k w n) (l : b < k) where
-  pub push-good : n < k → n + 1 + unseen w k ≤ k → WalkGood k (set w (1024 + n) b) (n + 1)
+  pub push-good : n < k → n + 1 + unseen w k ≤ k → WalkGood k (set w (orderAt + n) b) (n + 1)
   push-good h r =
       record {
-        len = omega (arith, ok .len, length-set w (1024 + n) b);
+        len = omega (arith, ok .len, length-set w (orderAt + n) b);
         few = ok .few;
         room = rw (unseen-push w n b k (ok .few)) r;
         order = λ i g.
             elim (ℕ-discrete i n) [
-              | yes q ↦ rw (q, getD-set-same w (1024 + n) b 0 (omega (arith, ok .len, ok .few))) l
-              | no q ↦ rw (getD-set-other w (1024 + n) (1024 + i) b 0 (λ z. q (omega arith))) (ok .order i (omega arith))
+              | yes q ↦ rw (q, getD-set-same w (orderAt + n) b 0 (omega (arith, ok .len, ok .few))) l
+              | no q ↦ rw (getD-set-other w (orderAt + n) (orderAt + i) b 0 (λ z. q (omega arith))) (ok .order i (omega arith))
             ];
       }
 
-  push-same : n < k → (v : Walk) → Same k w n v → Same k (set w (1024 + n) b) (n + 1) (record { visited = v .visited; order = b ∷ v .order })
+  push-same : n < k → (v : Walk) → Same k w n v → Same k (set w (orderAt + n) b) (n + 1) (record { visited = v .visited; order = b ∷ v .order })
   push-same h v s =
       record {
         visited = marks-push w n b k (v .visited) (ok .few) (s .visited);
@@ -105,8 +103,10 @@ module _ (p : Program) where
   -- what a walk does after the mark, by the blocks that b leads to
   pub walk-to : (f b : ℕ) (v : Walk) (ts : List ℕ) → successors (endOf p b) ≡ ts
       → walk p (suc f) b v
-      ≡ record
-      { visited = walkEach p (walk p f) ts (record { visited = b ∷ v .visited; order = v .order }) .visited; order = b ∷ walkEach p (walk p f) ts (record { visited = b ∷ v .visited; order = v .order }) .order }
+      ≡ record {
+        visited = walkEach p (walk p f) ts (record { visited = b ∷ v .visited; order = v .order }) .visited;
+        order = b ∷ walkEach p (walk p f) ts (record { visited = b ∷ v .visited; order = v .order }) .order;
+      }
   unfolding walk
   walk-to f b v ts e = rw e
 
@@ -129,13 +129,13 @@ module _ (m : List ℕ) (c : Counts) {w : List ℕ} {n : ℕ} {b : ℕ} (ok : Wa
         len = omega (arith, ok .len, length-set w b 1);
         few = ok .few;
         room = omega (arith, ok .room, one-less);
-        order = λ i h. rw (getD-set-other w b (1024 + i) 1 0 (λ z. omega (arith, ok .few))) (ok .order i h);
+        order = λ i h. rw (getD-set-other w b (orderAt + i) 1 0 (λ z. omega (arith, ok .few))) (ok .order i h);
       }
 
   pub mark-falls : (t : ℕ) → 2 * unseen w K ≡ t → 2 * unseen (set w b 1) K + 1 < t
   mark-falls t f = omega (arith, one-less)
 
-  pub mark-room : n < 1024
+  pub mark-room : n < blocksRoom
   mark-room = omega (arith, ok .room, one-less, ok .few)
 
   module _ {w2 : List ℕ} {n2 : ℕ} (ts : List ℕ) (onward : (s : List ℕ) → successors (endOf (programView s m c) b) ≡ ts)
@@ -143,7 +143,7 @@ module _ (m : List ℕ) (c : Counts) {w : List ℕ} {n : ℕ} {b : ℕ} (ok : Wa
     fits : n2 + 1 + unseen w2 K ≤ K
     fits = omega (arith, d .room, one-less, ok .room)
 
-    pub leave : (w' : List ℕ) (r : ℕ) → r ≡ n2 + 1 → w' ≡ set w2 (1024 + n2) b → WalkDid (walkOf m c b) (c .blocks) w n w' r
+    pub leave : (w' : List ℕ) (r : ℕ) → r ≡ n2 + 1 → w' ≡ set w2 (orderAt + n2) b → WalkDid (walkOf m c b) (c .blocks) w n w' r
     leave w' r er ew =
         let h : n2 < K = omega (arith, d .room, one-less, ok .room) in
         rw (er, ew)
@@ -152,13 +152,16 @@ module _ (m : List ℕ) (c : Counts) {w : List ℕ} {n : ℕ} {b : ℕ} (ok : Wa
               let one : f ≡ suc (f - 1) = omega (arith, one-less) in
               let inner = d .is s (f - 1) (omega (arith, one-less)) (b ∷ v) (marks-more w b e long K v k) in
               let start : outOf w1 n ≡ outOf w n = out-mark w b (omega (arith, ok .few)) n in
-              subst (λ (z : Walk). Same K (set w2 (1024 + n2) b) (n2 + 1) z)
-              (sym (ap (λ x. walk (programView s m c) x b (record { visited = v; order = outOf w n })) one ∙ walk-to (programView s m c) (f - 1) b (record { visited = v; order = outOf w n }) ts (onward s)))
-              (push-same K w2 n2 b (d .good) l h _ (subst (λ (o : List ℕ). Same K w2 n2 (walkEach (programView s m c) (walk (programView s m c) (f - 1)) ts (record { visited = b ∷ v; order = o }))) start inner));
+              subst (λ (z : Walk). Same K (set w2 (orderAt + n2) b) (n2 + 1) z)
+              (sym (ap (λ x. walk (programView s m c) x b (record { visited = v; order = outOf w n })) one
+              ∙ walk-to (programView s m c) (f - 1) b (record { visited = v; order = outOf w n }) ts (onward s)))
+              (push-same K w2 n2 b (d .good) l h _ (subst (λ (o : List ℕ).
+              Same K w2 n2 (walkEach (programView s m c) (walk (programView s m c) (f - 1)) ts (record { visited = b ∷ v; order = o })))
+              start inner));
           fewer = rw (unseen-push w2 n2 b K (ok .few)) (omega (arith, d .fewer, one-less));
           room = rw (unseen-push w2 n2 b K (ok .few)) (omega (arith, d .room, one-less));
           good = push-good K w2 n2 b (d .good) l h fits;
-          len-same = length-set w2 (1024 + n2) b ∙ (d .len-same ∙ length-set w b 1);
+          len-same = length-set w2 (orderAt + n2) b ∙ (d .len-same ∙ length-set w b 1);
         })
 
 -- ---- the blocks that it leads to
@@ -198,21 +201,21 @@ module _ {m : List ℕ} {c : Counts} {w : List ℕ} {n b : ℕ} {r : Ends} (ok :
   leads : (ts : List ℕ) → targets r ≡ ts → (s : List ℕ) → successors (endOf (programView s m c) b) ≡ ts
   leads ts q s = en .onward s ∙ q
 
-  pub walk-end : targets r ≡ [] → {w' : List ℕ} {k : ℕ} → k ≡ n + 1 → w' ≡ set (set w b 1) (1024 + n) b → WalkDid (walkOf m c b) (c .blocks) w n w' k
+  pub walk-end : targets r ≡ [] → {w' : List ℕ} {k : ℕ} → k ≡ n + 1 → w' ≡ set (set w b 1) (orderAt + n) b → WalkDid (walkOf m c b) (c .blocks) w n w' k
   walk-end q er ew = leave m c ok l e [] (leads [] q) (each-none m c (mark-good m c ok l e)) _ _ er ew
 
   module _ {t : BlockId} {w2 : List ℕ} {n2 : ℕ} (d : WalkDid (visitOf m c (t .0)) (c .blocks) (set w b 1) n w2 n2) where
-    pub walk-jump : r ≡ Jump t → {w' : List ℕ} {k : ℕ} → k ≡ n2 + 1 → w' ≡ set w2 (1024 + n2) b → WalkDid (walkOf m c b) (c .blocks) w n w' k
+    pub walk-jump : r ≡ Jump t → {w' : List ℕ} {k : ℕ} → k ≡ n2 + 1 → w' ≡ set w2 (orderAt + n2) b → WalkDid (walkOf m c b) (c .blocks) w n w' k
     walk-jump q er ew = leave m c ok l e (t .0 ∷ []) (leads (t .0 ∷ []) (ap targets q)) (each-one m c (t .0) d) _ _ er ew
 
     module _ {u : BlockId} {w3 : List ℕ} {n3 : ℕ} (d' : WalkDid (visitOf m c (u .0)) (c .blocks) w2 n2 w3 n3) where
-      pub walk-choice : r ≡ IfTrue t u → {w' : List ℕ} {k : ℕ} → k ≡ n3 + 1 → w' ≡ set w3 (1024 + n3) b → WalkDid (walkOf m c b) (c .blocks) w n w' k
+      pub walk-choice : r ≡ IfTrue t u → {w' : List ℕ} {k : ℕ} → k ≡ n3 + 1 → w' ≡ set w3 (orderAt + n3) b → WalkDid (walkOf m c b) (c .blocks) w n w' k
       walk-choice q er ew = leave m c ok l e (t .0 ∷ u .0 ∷ []) (leads (t .0 ∷ u .0 ∷ []) (ap targets q)) (each-two m c (t .0) (u .0) d d') _ _ er ew
 
-  pub walk-return : r ≡ Return → {w' : List ℕ} {k : ℕ} → k ≡ n + 1 → w' ≡ set (set w b 1) (1024 + n) b → WalkDid (walkOf m c b) (c .blocks) w n w' k
+  pub walk-return : r ≡ Return → {w' : List ℕ} {k : ℕ} → k ≡ n + 1 → w' ≡ set (set w b 1) (orderAt + n) b → WalkDid (walkOf m c b) (c .blocks) w n w' k
   walk-return q er ew = walk-end (ap targets q) er ew
 
-  pub walk-open : r ≡ Open → {w' : List ℕ} {k : ℕ} → k ≡ n + 1 → w' ≡ set (set w b 1) (1024 + n) b → WalkDid (walkOf m c b) (c .blocks) w n w' k
+  pub walk-open : r ≡ Open → {w' : List ℕ} {k : ℕ} → k ≡ n + 1 → w' ≡ set (set w b 1) (orderAt + n) b → WalkDid (walkOf m c b) (c .blocks) w n w' k
   walk-open q er ew = walk-end (ap targets q) er ew
 
   module _ (inn : WalkInside m c) {t : BlockId} where
@@ -226,17 +229,18 @@ module _ {m : List ℕ} {c : Counts} {w : List ℕ} {n b : ℕ} {r : Ends} (ok :
     else-inside {u} q = inn .inside [] b (t .0) l (rw (leads (u .0 ∷ t .0 ∷ []) (ap targets q) [], eq-eqb (t .0) (t .0) refl) (or-true (eqb (t .0) (u .0))))
 
 -- after visits: what the next call asks
-module _ (c : Counts) {w : List ℕ} {n b : ℕ} (ok : WalkGood (c .blocks) w n) (l : b < c .blocks) (e : getD w b 0 ≡ 0) {F : List ℕ → ℕ → Walk → Walk} {w2 : List ℕ} {n2 : ℕ} (d : WalkDid F (c .blocks) (set w b 1) n w2 n2) where
+module _ (c : Counts) {w : List ℕ} {n b : ℕ} (ok : WalkGood (c .blocks) w n) (l : b < c .blocks) (e : getD w b 0 ≡ 0) {F : List ℕ → ℕ → Walk → Walk}
+    {w2 : List ℕ} {n2 : ℕ} (d : WalkDid F (c .blocks) (set w b 1) n w2 n2) where
   less : unseen (set w b 1) (c .blocks) + 1 ≡ unseen w (c .blocks)
   less = unseen-mark w b e (omega (arith, ok .len, ok .few)) (c .blocks) l
 
   pub next-falls : (t : ℕ) → 2 * unseen w (c .blocks) ≡ t → 2 * unseen w2 (c .blocks) + 1 < t
   next-falls t f = omega (arith, d .fewer, less)
 
-  pub next-room : n2 < 1024
+  pub next-room : n2 < orderAt
   next-room = omega (arith, d .room, less, ok .room, ok .few)
 
-  pub last-room : {G : List ℕ → ℕ → Walk → Walk} {w3 : List ℕ} {n3 : ℕ} → WalkDid G (c .blocks) w2 n2 w3 n3 → n3 < 1024
+  pub last-room : {G : List ℕ → ℕ → Walk → Walk} {w3 : List ℕ} {n3 : ℕ} → WalkDid G (c .blocks) w2 n2 w3 n3 → n3 < orderAt
   last-room d' = omega (arith, d .room, d' .room, less, ok .room, ok .few)
 
 -- ---- a visit
@@ -273,7 +277,7 @@ unseen-le w (suc k) = go (eqb (getD w k 0) 0) (unseen-le w k)
     go true h = omega arith
     go false h = omega arith
 
-module _ (c : Counts) {v w : List ℕ} (f : ChainsFilled 0 1024 0 v w) (long : work ≤ length v) (few : c .blocks ≤ 1024) where
+module _ (c : Counts) {v w : List ℕ} (f : ChainsFilled 0 blocksRoom 0 v w) (long : walkSize ≤ length v) (few : c .blocks ≤ orderAt) where
   pub clear-word : (b : ℕ) → b < c .blocks → getD w b 0 ≡ 0
   clear-word b h = let e : 0 + b ≡ b = omega arith in sym (ap (λ k. getD w k 0) e) ∙ f .here b (omega arith)
 

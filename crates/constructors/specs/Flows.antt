@@ -14,6 +14,7 @@ use Rattle.program.specs.View.{programView}
 use Rattle.program.specs.declared.Name.{Name}
 use Rattle.program.specs.declared.Op.{Op}
 use Rattle.program.specs.declared.Op.the-variants as O
+use Rattle.constructors.specs.Layout.{orderAt, outsAt}
 use Rattle.constructors.specs.declared.Places.{Places}
 use Rattle.constructors.specs.declared.SetName.{SetName}
 use Rattle.constructors.specs.declared.SetName.the-variants as N
@@ -31,7 +32,7 @@ holds a x = eqb (x / 2 ^ a % 2) 1
 -- f blocks done, from place q of the order on, each with whether attribute a is set at its end
 unfoldable pub doneFrom : List ℕ → ℕ → ℕ → ℕ → List (ℕ × 𝔹)
 doneFrom w a q zero = []
-doneFrom w a q (suc f) = (getD w (1024 + q) 0, holds a (getD w (2048 + q) 0)) ∷ doneFrom w a (suc q) f
+doneFrom w a q (suc f) = (getD w (orderAt + q) 0, holds a (getD w (outsAt + q) 0)) ∷ doneFrom w a (suc q) f
 
 abbrev pub orFalse : Option 𝔹 → 𝔹
 orFalse none = false
@@ -39,8 +40,8 @@ orFalse (some t) = t
 
 -- the first n places of the order have blocks
 pub record FlowPlaced (k : ℕ) (w : List ℕ) (n : ℕ) : Type 0 where
-  pub blocks : (i : ℕ) → i < n → getD w (1024 + i) 0 < k
-  pub few : n ≤ 1024
+  pub blocks : (i : ℕ) → i < n → getD w (orderAt + i) 0 < k
+  pub few : n ≤ orderAt
 
 -- r is what is set before block b, by the blocks done from place i on
 pub record Before (m : List ℕ) (c : Counts) (w : List ℕ) (n i b r : ℕ) : Type 0 where

@@ -1,3 +1,4 @@
+pub mod Layout
 pub mod firsts
 pub mod Walks
 pub mod Flows

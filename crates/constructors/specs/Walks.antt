@@ -13,11 +13,10 @@ use Rattle.program.specs.View.{programView}
 use Rattle.program.specs.declared.Counts.{Counts}
 use Rattle.program.specs.declared.Op.{Op}
 use Rattle.program.specs.declared.Op.the-variants as O
+use Rattle.memory.specs.Layout.{blocksRoom}
+use Rattle.constructors.specs.Layout.{orderAt, walkSize}
 use Rattle.constructors.specs.declared.Ends.{Ends}
 use Rattle.constructors.specs.declared.Ends.the-variants.{Return, Jump, IfTrue, Open}
-
-abbrev pub work : ℕ
-work = 3072
 
 abbrev pub endsFrom : Op → Ends
 endsFrom (O.Jump b) = Jump b
@@ -67,17 +66,17 @@ unseen w (suc k) = unseen w k + cond (eqb (getD w k 0) 0) 1 0
 -- the blocks left behind, the latest in front
 unfoldable pub outOf : List ℕ → ℕ → List ℕ
 outOf w zero = []
-outOf w (suc n) = getD w (1024 + n) 0 ∷ outOf w n
+outOf w (suc n) = getD w (orderAt + n) 0 ∷ outOf w n
 
 -- a list of visited blocks is what the marks say of the first k
 abbrev pub Marks : List ℕ → ℕ → List ℕ → Type 0
 Marks w k v = (b : ℕ) → b < k → any (eqb b) v ≡ marked w b
 
 pub record WalkGood (k : ℕ) (w : List ℕ) (n : ℕ) : Type 0 where
-  pub len : work ≤ length w
-  pub few : k ≤ 1024
+  pub len : walkSize ≤ length w
+  pub few : k ≤ blocksRoom
   pub room : n + unseen w k ≤ k
-  pub order : (i : ℕ) → i < n → getD w (1024 + i) 0 < k
+  pub order : (i : ℕ) → i < n → getD w (orderAt + i) 0 < k
 
 pub record Same (k : ℕ) (w : List ℕ) (n : ℕ) (v : Walk) : Type 0 where
   pub visited : Marks w k (v .visited)
@@ -100,6 +99,6 @@ pub record WalkDid (F : List ℕ → ℕ → Walk → Walk) (k : ℕ) (w : List 
 -- the blocks that b leads to
 pub record Walked (m : List ℕ) (c : Counts) (b : ℕ) (w : List ℕ) (n : ℕ) : Type 0 where
   pub order : (s : List ℕ) → outOf w n ≡ reversePostOrder (programView s m c) b
-  pub inside : (i : ℕ) → i < n → getD w (1024 + i) 0 < c .blocks
+  pub inside : (i : ℕ) → i < n → getD w (orderAt + i) 0 < c .blocks
   pub few : n ≤ c .blocks
-  pub len : work ≤ length w
+  pub len : walkSize ≤ length w

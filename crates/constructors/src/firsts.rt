@@ -8,12 +8,14 @@ ghost use Prim.Native.Nat.{ℕ, _+_, _*_, _≤_, _<_};
 ghost use lib.ListN.{length};
 ghost use Rattle.program.specs.View.{ProgramReady};
 ghost use Rattle.chains.specs.Chains.{Index};
-ghost use Rattle.constructors.specs.Walks.{work, WalkInside};
+ghost use Rattle.memory.specs.Layout.{classesMost, ivarsMost};
+ghost use Rattle.constructors.specs.Layout.{walkSize};
+ghost use Rattle.constructors.specs.Walks.{WalkInside};
 ghost use Rattle.constructors.specs.firsts.Firsts.{PutsKinds, Entries, FirstIs, FirstsAre};
 
 // The first kinds of n attributes: nothing for those in a set, else Nil. The bytes stand from one place on, the payloads from another.
 fn put_kinds(users: &mut [usize], tags: usize, payloads: usize, n: usize, bits: usize)
-    requires { ⌜ n ≤ 64 ⌝ }
+    requires { ⌜ n ≤ ivarsMost ⌝ }
     requires { ⌜ (tags + n ≤ payloads) × (payloads + n ≤ length (now users)) ⌝ }
     ensures { λ _. ⌜ PutsKinds tags payloads n bits (now (users .entry)) (now (users .exit)) ⌝ }
 {
@@ -42,14 +44,14 @@ pub fn first_kinds(
     requires { ⌜ Index (now program) counts (now chains) ⌝ }
     requires { ⌜ WalkInside (now program) counts ⌝ }
     requires { ⌜ Entries (now program) counts ⌝ }
-    requires { ⌜ (work ≤ length (now scratch)) × (k .0 < counts .classes) ⌝ }
-    requires { ⌜ (tags + 4096 ≤ payloads) × (payloads + 4096 ≤ length (now users)) ⌝ }
+    requires { ⌜ (walkSize ≤ length (now scratch)) × (k .0 < counts .classes) ⌝ }
+    requires { ⌜ (tags + (classesMost * ivarsMost) ≤ payloads) × (payloads + (classesMost * ivarsMost) ≤ length (now users)) ⌝ }
     ensures { λ r. ⌜ FirstIs (now (script .entry)) (now (program .entry)) counts (k .0) tags payloads (now (users .entry)) (now (users .exit)) r ⌝ }
 {
     let class = k.0 as usize;
-    let n = program[program::CLASSES + 4 * class + 2];
-    let first = tags + 64 * class;
-    let second = payloads + 64 * class;
+    let n = program[program::CLASSES + program::CLASS_WORDS * class + 2];
+    let first = tags + memory::IVARS_MOST * class;
+    let second = payloads + memory::IVARS_MOST * class;
     let found = lookups::constructor_of(script, program, counts, k);
     match found {
         Constructor::Nothing => {
@@ -86,8 +88,8 @@ pub fn all_first_kinds(
     requires { ⌜ Index (now program) counts (now chains) ⌝ }
     requires { ⌜ WalkInside (now program) counts ⌝ }
     requires { ⌜ Entries (now program) counts ⌝ }
-    requires { ⌜ work ≤ length (now scratch) ⌝ }
-    requires { ⌜ (tags + 4096 ≤ payloads) × (payloads + 4096 ≤ length (now users)) ⌝ }
+    requires { ⌜ walkSize ≤ length (now scratch) ⌝ }
+    requires { ⌜ (tags + (classesMost * ivarsMost) ≤ payloads) × (payloads + (classesMost * ivarsMost) ≤ length (now users)) ⌝ }
     ensures { λ r. ⌜ FirstsAre (now (script .entry)) (now (program .entry)) counts tags payloads (now (users .entry)) (now (users .exit)) r ⌝ }
 {
     let n = counts.classes;

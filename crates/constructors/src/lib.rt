@@ -14,15 +14,17 @@ ghost use Prim.Native.Nat.{ℕ, _+_, _*_, _≤_, _<_};
 ghost use lib.ListN.{length, getD, set};
 ghost use Rattle.program.specs.View.{ProgramReady};
 ghost use Rattle.chains.specs.Chains.{Index};
-ghost use Rattle.constructors.specs.Walks.{work, endsFrom, targets, returning, Ended, WalkInside, WalkGood, WalkDid, visitOf, walkOf, Walked};
+ghost use Rattle.memory.specs.Layout.{blocksRoom};
+ghost use Rattle.constructors.specs.Layout.{orderAt, walkSize};
+ghost use Rattle.constructors.specs.Walks.{endsFrom, targets, returning, Ended, WalkInside, WalkGood, WalkDid, visitOf, walkOf, Walked};
 ghost use Rattle.constructors.specs.Flows.{FlowPlaced, Before, NamedIs, setName, SetsIs, Surely, FlowAnalyzed};
 
 // The work memory: whether a block was visited, the blocks left behind, and what is set at the end of each.
-const ORDER: usize = 1024;
+const ORDER: usize = memory::BLOCKS_ROOM;
 
-const OUTS: usize = 2048;
+const OUTS: usize = ORDER + memory::BLOCKS_ROOM;
 
-pub const WORK: usize = 3072;
+pub const WORK: usize = OUTS + memory::BLOCKS_ROOM;
 
 // All attributes.
 const FULL: usize = 18446744073709551615;
@@ -78,8 +80,8 @@ fn end_of(program: &[usize], counts: Counts, chains: &[usize], b: BlockId) -> En
 
 // Block b is left behind.
 fn push(scratch: &mut [usize], n: usize, b: BlockId) -> usize
-    requires { ⌜ (work ≤ length (now scratch)) × (n < 1024) ⌝ }
-    ensures { λ r. ⌜ (r ≡ n + 1) × (now (scratch .exit) ≡ set (now (scratch .entry)) (1024 + n) (b .0)) ⌝ }
+    requires { ⌜ (walkSize ≤ length (now scratch)) × (n < blocksRoom) ⌝ }
+    ensures { λ r. ⌜ (r ≡ n + 1) × (now (scratch .exit) ≡ set (now (scratch .entry)) (orderAt + n) (b .0)) ⌝ }
 {
     scratch[ORDER + n] = b.0 as usize;
     n + 1
@@ -155,7 +157,7 @@ pub fn walk_from(
     requires { ⌜ ProgramReady (now program) counts ⌝ }
     requires { ⌜ Index (now program) counts (now chains) ⌝ }
     requires { ⌜ WalkInside (now program) counts ⌝ }
-    requires { ⌜ (work ≤ length (now scratch)) × (b .0 < counts .blocks) ⌝ }
+    requires { ⌜ (walkSize ≤ length (now scratch)) × (b .0 < counts .blocks) ⌝ }
     ensures { λ r. ⌜ Walked (now (program .entry)) counts (b .0) (now (scratch .exit)) r ⌝ }
 {
     chains::fill(scratch, 0, ORDER, 0);
@@ -200,7 +202,7 @@ fn before(
     requires { ⌜ ProgramReady (now program) counts ⌝ }
     requires { ⌜ Index (now program) counts (now chains) ⌝ }
     requires { ⌜ FlowPlaced (counts .blocks) (now scratch) n ⌝ }
-    requires { ⌜ (work ≤ length (now scratch)) × (i ≤ n) ⌝ }
+    requires { ⌜ (walkSize ≤ length (now scratch)) × (i ≤ n) ⌝ }
     ensures { λ r. ⌜ Before (now (program .entry)) counts (now (scratch .entry)) n i (b .0) r ⌝ }
 {
     let mut q = n;
@@ -236,14 +238,14 @@ fn named(script: &[u8], program: &[usize], counts: Counts, k: ClassId, name: Nam
     ensures { λ r. ⌜ NamedIs (now (script .entry)) (now (program .entry)) counts (k .0) name r ⌝ }
 {
     let class = k.0 as usize;
-    let n = program[program::CLASSES + 4 * class + 2];
+    let n = program[program::CLASSES + program::CLASS_WORDS * class + 2];
     let start = name.start;
     let len = name.len;
     let mut bits = 0;
     let mut found = 0;
     let mut a = 0;
     while a < n {
-        let at = program::IVARS + 128 * class + 2 * a;
+        let at = program::IVARS + program::IVAR_ROW_WORDS * class + 2 * a;
         let same = lexer::same_name(script, program[at], program[at + 1], start, len);
         let bit = 1usize << a;
         a += 1;
@@ -342,7 +344,7 @@ fn surely(
     requires { ⌜ ProgramReady (now program) counts ⌝ }
     requires { ⌜ Index (now program) counts (now chains) ⌝ }
     requires { ⌜ FlowPlaced (counts .blocks) (now scratch) n ⌝ }
-    requires { ⌜ (work ≤ length (now scratch)) × (k .0 < counts .classes) ⌝ }
+    requires { ⌜ (walkSize ≤ length (now scratch)) × (k .0 < counts .classes) ⌝ }
     ensures { λ r. ⌜ Surely (now (script .entry)) (now (program .entry)) counts (k .0) (now (scratch .entry)) n r ⌝ }
 {
     let mut res = FULL;
@@ -384,7 +386,7 @@ pub fn analyze_ctor(
     requires { ⌜ ProgramReady (now program) counts ⌝ }
     requires { ⌜ Index (now program) counts (now chains) ⌝ }
     requires { ⌜ WalkInside (now program) counts ⌝ }
-    requires { ⌜ (work ≤ length (now scratch)) × ((k .0 < counts .classes) × (b .0 < counts .blocks)) ⌝ }
+    requires { ⌜ (walkSize ≤ length (now scratch)) × ((k .0 < counts .classes) × (b .0 < counts .blocks)) ⌝ }
     ensures { λ r. ⌜ FlowAnalyzed (now (script .entry)) (now (program .entry)) counts (k .0) (b .0) r ⌝ }
 {
     let n = walk_from(program, counts, chains, scratch, b);

@@ -5,13 +5,17 @@ use Prim.Native.Nat.{ℕ, _+_, _≤_}
 use native.Mathlib.Omega.{arith}
 use lib.ListN.{length}
 use Rattle.rules.specs.Actions.{answered, refused}
-use Rattle.rules.specs.Reading.{Reads}
-use Rattle.variables.specs.Rooms.{room-on}
+use Rattle.rules.specs.Reading.{Reads, expectIdent}
+use Rattle.variables.proofs.Rooms.{room-on}
 use Rattle.program.specs.View as View
 use Rattle.cursor.specs.Cursor.{parserOf, moveCur, countCur, CursorReady, In, CursorStep}
-use Rattle.cursor.specs.Promises.{Out, done, stop, CursorAfter, CursorDid, Onward, Moves, CursorGrown, CursorAdds}
+use Rattle.cursor.specs.Promises.{Out, done, stop, CursorAfter, CursorDid, Onward, Moves, CursorGrown, CursorAdds, Idents}
 use Rattle.program.specs.declared.Counts.{Counts}
+use Rattle.program.specs.Rows.{nameIn}
+use Rattle.program.specs.declared.Name.{Name}
 use Rattle.cursor.specs.declared.Cursor.{Cursor}
+use Rattle.cursor.specs.declared.Ident.{Ident}
+use Rattle.cursor.specs.declared.Ident.the-variants.{Found}
 
 -- ---- steps
 
@@ -186,3 +190,12 @@ added-after m' (stop e) v h = tt
 
 pub added-did : {A : Type 0} {f : Reads A} {s m w m' : List ℕ} {c : Cursor} {o : Out A} → CursorAdds s w f m c m' o → In s m w c → CursorDid f 0 s m w c m' w o
 added-did {m' = m'} {o = o} v h = record { is = v .is; ok = added-after m' o (v .ok) h }
+
+-- ---- over a name
+
+module _ {s : List ℕ} {c c1 : Cursor} {u : Ident} {n : Name} (a : Idents s c u) (f : u ≡ Found c1 n) where
+  pub ident-on : (c1 ≡ moveCur (c1 .at) c) × ((c .at + 1 ≤ c1 .at) × (c .at ≤ length s → c1 .at ≤ length s))
+  ident-on = let h = rw f at (a .moves .ok) in h
+
+  pub ident-is : (m w : List ℕ) → answered (nameIn s n, parserOf s m w c1) ≡ expectIdent s (parserOf s m w c)
+  ident-is m w = rw f at (a .moves .is m w)

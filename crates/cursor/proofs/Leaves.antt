@@ -32,7 +32,8 @@ use Rattle.program.specs.declared.Callee.{Callee}
 use Rattle.program.specs.declared.Callee.the-variants.{Static, Dynamic}
 use Rattle.program.specs.declared.NewInsn.{NewInsn}
 use Rattle.program.specs.declared.NewInsn.the-variants.{Added, Refused}
-use Rattle.cursor.specs.Cursor.{stackAt, parserOf, receiverOf, waiting, countCur}
+use Rattle.cursor.specs.Layout.{stackAt}
+use Rattle.cursor.specs.Cursor.{parserOf, receiverOf, waiting, countCur}
 use Rattle.cursor.specs.Steps.{setsIvar, getsIvar, calls, readsAttr, weigh, suffixOf}
 use Rattle.cursor.specs.Promises.{Out, done, stop, CursorAdds, calledOf, parsedOf}
 use Rattle.cursor.specs.declared.Cursor.{Cursor}

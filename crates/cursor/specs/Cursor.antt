@@ -12,16 +12,12 @@ use Rattle.variables.specs.Rooms.{VariablesRoom}
 use Rattle.program.specs.Rows.{opndsIn, opndOf, ownerIn}
 use Rattle.program.specs.View as View
 use Rattle.program.specs.declared.Counts.{Counts}
+use Rattle.memory.specs.Layout.{scriptMost}
+use Rattle.variables.specs.Layout.{bindingsMost}
+use Rattle.cursor.specs.Layout.{stackAt, scratchSize}
 use Rattle.cursor.specs.declared.Cursor.{Cursor}
 use Rattle.cursor.specs.declared.SelfAt.{SelfAt}
 use Rattle.cursor.specs.declared.SelfAt.the-variants.{At, Nobody}
-
--- where the stack starts, and how many words scratch memory takes
-abbrev pub stackAt : ℕ
-stackAt = 32768
-
-abbrev pub size : ℕ
-size = 49152
 
 abbrev pub receiverOf : SelfAt → Option ℕ
 receiverOf (At i) = some (i .0)
@@ -60,10 +56,10 @@ stackCur n c = record { at = c .at; counts = c .counts; class = c .class; receiv
 
 -- a binding takes two bytes of the script, and so does a waiting argument
 pub record CursorReady (s m w : List ℕ) (c : Cursor) : Type 0 where
-  pub script : length s ≤ 16384
+  pub script : length s ≤ scriptMost
   pub inside : c .at ≤ length s
   pub tables : View.ProgramReady m (c .counts)
-  pub scratch : size ≤ length w
+  pub scratch : scratchSize ≤ length w
   pub room : VariablesRoom (c .at) (c .vars) (c .aside)
   pub args : 2 * c .args ≤ c .at
 
@@ -90,5 +86,5 @@ pub record CursorStep (k : ℕ) (c : Cursor) (w : List ℕ) (c' : Cursor) (w' : 
   pub classes : c .counts .classes ≤ c' .counts .classes
   pub blocks : c .counts .blocks ≤ c' .counts .blocks
   pub old : (i : ℕ) → i < c .vars → entry w' i ≡ entry w i
-  pub rows : (i : ℕ) → 8192 ≤ i → i < c .aside → entry w' i ≡ entry w i
+  pub rows : (i : ℕ) → bindingsMost ≤ i → i < c .aside → entry w' i ≡ entry w i
   pub stack : (i : ℕ) → stackAt ≤ i → i < stackAt + 2 * c .args → getD w' i 0 ≡ getD w i 0

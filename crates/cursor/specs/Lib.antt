@@ -1,3 +1,4 @@
+pub mod Layout
 pub mod Cursor
 pub mod Steps
 pub mod Promises

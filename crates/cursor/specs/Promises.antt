@@ -19,7 +19,9 @@ use Rattle.program.specs.View as View
 use Rattle.program.specs.View.{Puts}
 use Rattle.program.specs.declared.Opnd.{Opnd}
 use Rattle.program.specs.declared.Name.{Name}
-use Rattle.cursor.specs.Cursor.{stackAt, parserOf, moveCur, countCur, bindCur, stackCur, In, CursorStep}
+use Rattle.variables.specs.Layout.{bindingsMost, entriesMost}
+use Rattle.cursor.specs.Layout.{stackAt}
+use Rattle.cursor.specs.Cursor.{parserOf, moveCur, countCur, bindCur, stackCur, In, CursorStep}
 use Rattle.cursor.specs.Steps.{assigns}
 use Rattle.cursor.specs.declared.Cursor.{Cursor}
 use Rattle.cursor.specs.declared.Parsed.{Parsed}
@@ -143,7 +145,7 @@ pub record CursorBinds (c : Cursor) (w w' : List ℕ) (c' : Cursor) : Type 0 whe
   pub cur : c' ≡ bindCur c
   pub long : length w' ≡ length w
   pub old : (i : ℕ) → i < c .vars → entry w' i ≡ entry w i
-  pub rows : (i : ℕ) → 8192 ≤ i → i < 16384 → entry w' i ≡ entry w i
+  pub rows : (i : ℕ) → bindingsMost ≤ i → i < entriesMost → entry w' i ≡ entry w i
   pub stack : (i : ℕ) → stackAt ≤ i → getD w' i 0 ≡ getD w i 0
 
 abbrev pub BindsIf : Cursor → List ℕ → List ℕ → Parsed → Type 0

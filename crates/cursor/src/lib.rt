@@ -30,12 +30,14 @@ ghost use Rattle.rules.specs.Reading.{constantOf, push as push_of};
 ghost use Rattle.lexer.specs.declared.Lexed.the-variants.{Found};
 ghost use Rattle.program.specs.Rows.{opndOf, opIn, given, nameIn, ownerIn};
 ghost use Rattle.program.specs.View.{Small, limitsOf, calleeIn};
-ghost use Rattle.cursor.specs.Cursor.{size, waiting, moveCur, countCur, stackCur, Open};
+ghost use Rattle.memory.specs.Layout.{operandsMost};
+ghost use Rattle.cursor.specs.Layout.{scratchSize};
+ghost use Rattle.cursor.specs.Cursor.{waiting, moveCur, countCur, stackCur, Open};
 ghost use Rattle.cursor.specs.Steps.{setsIvar, getsIvar, calls, readsAttr, suffixOf, weigh as weigh_of};
 ghost use Rattle.cursor.specs.Promises.{Sees, Idents, Expects, CursorMatches, CursorAdds, Stacks, parsedOf, calledOf};
 
 // Where the stack of call arguments starts in scratch memory.
-const STACK: usize = 32768;
+pub const STACK: usize = variables::SIZE;
 
 // The SelfParam of the method being read.
 pub enum SelfAt {
@@ -293,8 +295,10 @@ pub fn push_call(
 ) -> Parsed
     requires { ⌜ Open (now program) cursor ⌝ }
     requires { ⌜ Small limits ⌝ }
-    requires { ⌜ (size ≤ length (now scratch)) × (cursor .args + n ≤ 8192) ⌝ }
-    ensures { λ r. ⌜ ((s : List ℕ) → CursorAdds s (now (scratch .entry)) (push_of (limitsOf limits) (P.Send (calleeIn s callee) (waiting (now (scratch .entry)) (cursor .args) n))) (now (program .entry)) cursor (now (program .exit)) (parsedOf r)) ⌝ }
+    requires { ⌜ (scratchSize ≤ length (now scratch)) × (cursor .args + n ≤ operandsMost) ⌝ }
+    ensures { λ r. ⌜ ((s : List ℕ) → CursorAdds s (now (scratch .entry))
+        (push_of (limitsOf limits) (P.Send (calleeIn s callee) (waiting (now (scratch .entry)) (cursor .args) n))) (now (program .entry)) cursor
+        (now (program .exit)) (parsedOf r)) ⌝ }
 {
     let counts = cursor.counts;
     let b = cursor.block;
@@ -362,7 +366,8 @@ pub fn read_attr(
 ) -> Parsed
     requires { ⌜ Open (now program) cursor ⌝ }
     requires { ⌜ Small limits ⌝ }
-    ensures { λ r. ⌜ ((w : List ℕ) → CursorAdds (now (script .entry)) w (readsAttr (limitsOf limits) (opndOf v) (nameIn (now (script .entry)) n)) (now (program .entry)) cursor (now (program .exit)) (parsedOf r)) ⌝ }
+    ensures { λ r. ⌜ ((w : List ℕ) → CursorAdds (now (script .entry)) w (readsAttr (limitsOf limits) (opndOf v) (nameIn (now (script .entry)) n))
+        (now (program .entry)) cursor (now (program .exit)) (parsedOf r)) ⌝ }
 {
     if lexer::spells(script, n.start, n.len, b"new") {
         return Parsed::Refused(8);
@@ -434,8 +439,10 @@ pub fn bare_call(
 ) -> Parsed
     requires { ⌜ Open (now program) cursor ⌝ }
     requires { ⌜ Small limits ⌝ }
-    requires { ⌜ (size ≤ length (now scratch)) × (cursor .args + n ≤ 8192) ⌝ }
-    ensures { λ r. ⌜ ((s : List ℕ) → CursorAdds s (now (scratch .entry)) (calls (limitsOf limits) (opndOf v) (waiting (now (scratch .entry)) (cursor .args) n)) (now (program .entry)) cursor (now (program .exit)) (parsedOf r)) ⌝ }
+    requires { ⌜ (scratchSize ≤ length (now scratch)) × (cursor .args + n ≤ operandsMost) ⌝ }
+    ensures { λ r. ⌜ ((s : List ℕ) → CursorAdds s (now (scratch .entry))
+        (calls (limitsOf limits) (opndOf v) (waiting (now (scratch .entry)) (cursor .args) n)) (now (program .entry)) cursor (now (program .exit))
+        (parsedOf r)) ⌝ }
 {
     match fun_named_by(v) {
         Called::Fun(f) => push_call(program, scratch, cursor, limits, Callee::Static(f), n),
@@ -465,7 +472,7 @@ pub fn with_args(cursor: Cursor, n: usize) -> Cursor
 }
 
 pub fn push_arg(scratch: &mut [usize], cursor: Cursor, v: Opnd) -> Cursor
-    requires { ⌜ (size ≤ length (now scratch)) × (cursor .args < 8192) ⌝ }
+    requires { ⌜ (scratchSize ≤ length (now scratch)) × (cursor .args < operandsMost) ⌝ }
     ensures { λ r. ⌜ Stacks v cursor (now (scratch .entry)) (now (scratch .exit)) r ⌝ }
 {
     program::put_opnd(scratch, STACK + 2 * cursor.args, v);

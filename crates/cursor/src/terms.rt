@@ -21,7 +21,10 @@ ghost use Rattle.rules.specs.Program as P;
 ghost use Rattle.rules.specs.Reading.{Reads, isFixed, fixed as fixed_of, createInstance, send as send_of};
 ghost use Rattle.program.specs.Rows.{opndOf, nameIn};
 ghost use Rattle.program.specs.View.{Small, limitsOf};
-ghost use Rattle.cursor.specs.Cursor.{size, waiting, bindCur, In};
+ghost use Rattle.memory.specs.Layout.{scriptMost, operandsMost};
+ghost use Rattle.variables.specs.Layout.{bindingsMost};
+ghost use Rattle.cursor.specs.Layout.{scratchSize};
+ghost use Rattle.cursor.specs.Cursor.{waiting, bindCur, In};
 ghost use Rattle.cursor.specs.Steps.{means};
 ghost use Rattle.cursor.specs.Promises.{CursorDid, Assigns, parsedOf};
 
@@ -48,7 +51,7 @@ fn fixed(script: &[u8], n: Name) -> Opnd
 // ---- variables
 
 fn bound(cursor: Cursor) -> Cursor
-    requires { ⌜ cursor .vars < 8192 ⌝ }
+    requires { ⌜ cursor .vars < bindingsMost ⌝ }
     ensures { λ r. ⌜ r ≡ bindCur cursor ⌝ }
 {
     let counts = cursor.counts;
@@ -69,8 +72,8 @@ fn bound(cursor: Cursor) -> Cursor
 
 // The name n is bound to v, unless it is a fixed value's.
 pub fn assign(script: &[u8], scratch: &mut [usize], cursor: Cursor, n: Name, v: Opnd) -> Parsed
-    requires { ⌜ (size ≤ length (now scratch)) × (cursor .vars < 8192) ⌝ }
-    requires { ⌜ n .start + n .len ≤ 16384 ⌝ }
+    requires { ⌜ (scratchSize ≤ length (now scratch)) × (cursor .vars < bindingsMost) ⌝ }
+    requires { ⌜ n .start + n .len ≤ scriptMost ⌝ }
     ensures { λ r. ⌜ Assigns (now (script .entry)) n v cursor (now (scratch .entry)) (now (scratch .exit)) r ⌝ }
 {
     if is_fixed(script, n) {
@@ -89,7 +92,8 @@ pub fn name_value(
     n: Name,
 ) -> Parsed
     requires { ⌜ In (now script) (now program) (now scratch) cursor ⌝ }
-    ensures { λ r. ⌜ CursorDid (means (nameIn (now (script .entry)) n)) 0 (now (script .entry)) (now (program .entry)) (now (scratch .entry)) cursor (now (program .entry)) (now (scratch .entry)) (parsedOf r) ⌝ }
+    ensures { λ r. ⌜ CursorDid (means (nameIn (now (script .entry)) n)) 0 (now (script .entry)) (now (program .entry)) (now (scratch .entry)) cursor
+        (now (program .entry)) (now (scratch .entry)) (parsedOf r) ⌝ }
 {
     if is_fixed(script, n) {
         return Parsed::Done(cursor, fixed(script, n));
@@ -130,8 +134,10 @@ fn create_instance(
 ) -> Parsed
     requires { ⌜ In (now script) (now program) (now scratch) cursor ⌝ }
     requires { ⌜ Small limits ⌝ }
-    requires { ⌜ cursor .args + n ≤ 8192 ⌝ }
-    ensures { λ r. ⌜ ((E : ℕ → Reads P.Opnd) → CursorDid (createInstance (limitsOf limits) (now (script .entry)) E (k .0) (waiting (now (scratch .entry)) (cursor .args) n)) 0 (now (script .entry)) (now (program .entry)) (now (scratch .entry)) cursor (now (program .exit)) (now (scratch .entry)) (parsedOf r)) ⌝ }
+    requires { ⌜ cursor .args + n ≤ operandsMost ⌝ }
+    ensures { λ r. ⌜ ((E : ℕ → Reads P.Opnd) → CursorDid
+        (createInstance (limitsOf limits) (now (script .entry)) E (k .0) (waiting (now (scratch .entry)) (cursor .args) n)) 0 (now (script .entry))
+        (now (program .entry)) (now (scratch .entry)) cursor (now (program .exit)) (now (scratch .entry)) (parsedOf r)) ⌝ }
 {
     match crate::push(program, cursor, limits, Op::New(k), Given::Zero) {
         Parsed::Refused(e) => Parsed::Refused(e),
@@ -170,8 +176,12 @@ pub fn send(
 ) -> Parsed
     requires { ⌜ In (now script) (now program) (now scratch) cursor ⌝ }
     requires { ⌜ Small limits ⌝ }
-    requires { ⌜ cursor .args + k ≤ 8192 ⌝ }
-    ensures { λ r. ⌜ ((E : ℕ → Reads P.Opnd) → CursorDid (send_of (limitsOf limits) (now (script .entry)) E (opndOf v) (nameIn (now (script .entry)) n) (waiting (now (scratch .entry)) (cursor .args) k)) 0 (now (script .entry)) (now (program .entry)) (now (scratch .entry)) cursor (now (program .exit)) (now (scratch .entry)) (parsedOf r)) ⌝ }
+    requires { ⌜ cursor .args + k ≤ operandsMost ⌝ }
+    ensures { λ r. ⌜ ((E : ℕ → Reads P.Opnd) → CursorDid
+        (send_of (limitsOf limits) (now (script .entry)) E (opndOf v) (nameIn (now (script .entry)) n)
+        (waiting (now (scratch .entry)) (cursor .args) k))
+        0
+        (now (script .entry)) (now (program .entry)) (now (scratch .entry)) cursor (now (program .exit)) (now (scratch .entry)) (parsedOf r)) ⌝ }
 {
     match crate::class_named_by(v) {
         Owner::Class(x) => {

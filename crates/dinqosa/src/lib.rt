@@ -11,7 +11,8 @@ pub extern "C" fn dinqosa_analyze(
     program: &mut [usize],
     state: &mut [usize],
 ) -> u8
-    ensures { λ r. ⌜ Gives (after (now (script .entry)) (lent (now (answer .entry)) (now (program .entry)) (now (state .entry)))) r (lent (now (answer .exit)) (now (program .exit)) (now (state .exit))) ⌝ }
+    ensures { λ r. ⌜ Gives (after (now (script .entry)) (lent (now (answer .entry)) (now (program .entry)) (now (state .entry)))) r
+        (lent (now (answer .exit)) (now (program .exit)) (now (state .exit))) ⌝ }
 {
     match call::analyze(script, answer, program, state) {
         Outcome::Answered => 0,

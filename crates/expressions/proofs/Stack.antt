@@ -9,9 +9,11 @@ use Rattle.variables.proofs.Entries.{made-move}
 use Rattle.program.specs.Rows.{opndsIn, opndOf}
 use Rattle.program.specs.declared.Opnd.{Opnd}
 use Rattle.program.proofs.Areas.{opnds-same, opnds-add}
-use Rattle.cursor.specs.Cursor.{stackAt, parserOf, waiting, stackCur, In, CursorStep}
+use Rattle.cursor.specs.Cursor.{parserOf, waiting, stackCur, In, CursorStep}
 use Rattle.cursor.specs.Promises.{Stacks}
 use Rattle.cursor.specs.declared.Cursor.{Cursor}
+use Rattle.variables.specs.Layout.{entriesMost}
+use Rattle.cursor.specs.Layout.{stackAt}
 
 -- the height of the stack is no part of the rules' state
 pub height-free : (s m w : List ℕ) (c : Cursor) (n : ℕ) → parserOf s m w (stackCur n c) ≡ parserOf s m w c
@@ -31,9 +33,9 @@ module _ {v : Opnd} {c : Cursor} {w w' : List ℕ} {c' : Cursor} (p : Stacks v c
   low : (i : ℕ) → i < stackAt + 2 * c .args → getD w' i 0 ≡ getD w i 0
   low i h = p .puts .only .below i h
 
-  entry-low : (i : ℕ) → i < 16384 → entry w' i ≡ entry w i
+  entry-low : (i : ℕ) → i < entriesMost → entry w' i ≡ entry w i
   unfolding entry
-  entry-low i h = rw (low i (omega arith), low (16384 + i) (omega arith))
+  entry-low i h = rw (low i (omega arith), low (entriesMost + i) (omega arith))
 
   pub stacks-args : c' .args ≡ c .args + 1
   stacks-args = ap (λ (d : Cursor). d .args) (p .cur)
@@ -54,7 +56,7 @@ module _ {v : Opnd} {c : Cursor} {w w' : List ℕ} {c' : Cursor} (p : Stacks v c
       (rw (old, f) (rw (p .puts .here) (map-snoc (opndsIn w (stackAt + 2 * k) (c .args - k)) v))))
 
   module _ {s m : List ℕ} (h : In s m w c) where
-    few : c .vars < 16384
+    few : c .vars < entriesMost
     few = omega (arith, h .ready .room .law, h .ready .room .script, h .ready .room .aside)
 
     pub stacks-state : parserOf s m w' c' ≡ parserOf s m w c

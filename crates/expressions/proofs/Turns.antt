@@ -13,7 +13,7 @@ use Rattle.kinds.specs.declared.Arith.the-variants.{Add, Sub, Mul, Less}
 use Rattle.rules.specs.Actions.{answered, Turn, again, ends, loop, if_then_else_, give}
 use Rattle.rules.specs.Program as P
 use Rattle.rules.specs.Words.{is}
-use Rattle.rules.specs.Reading.{Parser, Reads, pass, expect, expectIdent, matchToken, turns, push, Operator, operator, onWith, parseArg, parseArgs, parseCall, parseMember, parseRight, parseSuffix}
+use Rattle.rules.specs.Reading.{Parser, Reads, pass, expect, matchToken, turns, push, Operator, operator, onWith, parseArg, parseArgs, parseCall, parseMember, parseRight, parseSuffix}
 use Rattle.rules.specs.Reading.{send}
 use Rattle.lexer.specs.Lexed.{textOf, wordIn, Glances}
 use Rattle.lexer.specs.declared.Lexed.{Lexed}
@@ -28,7 +28,7 @@ use Rattle.program.specs.declared.Name.{Name}
 use Rattle.program.specs.declared.Opnd.{Opnd}
 use Rattle.program.specs.declared.Op.the-variants.{Compute}
 use Rattle.program.specs.declared.Given.the-variants.{Two}
-use Rattle.cursor.specs.Cursor.{size, parserOf, waiting, moveCur, stackCur, In, CursorStep}
+use Rattle.cursor.specs.Cursor.{parserOf, waiting, moveCur, stackCur, In, CursorStep}
 use Rattle.cursor.specs.Steps.{calls, readsAttr, weigh, suffixOf}
 use Rattle.cursor.specs.Promises.{Out, CursorDid, CursorAdds, Stacks, Sees, Idents, Expects, CursorMatches, Spelt, parsedOf}
 use Rattle.cursor.specs.declared.Cursor.{Cursor}
@@ -44,6 +44,8 @@ use Rattle.cursor.specs.declared.Suffix.{Suffix}
 use Rattle.cursor.specs.declared.Suffix.the-variants as Suffix
 use Rattle.cursor.proofs.Laws.{step-none, step-less, step-trans, Acted, got, gave, refuses, arrives, ends-as, added-did}
 use Rattle.cursor.proofs.Wording.{is-yes, is-no, spelt-open, spelt-close, spelt-comma, spelt-plus, spelt-minus, spelt-times, spelt-less, spelt-dot, word-read, peek-found, peek-none, glanced}
+use Rattle.memory.specs.Layout.{operandsMost}
+use Rattle.cursor.specs.Layout.{scratchSize}
 use Rattle.expressions.specs.Readers.{againOf, Agains, takenOf, ArgDid, argsOf, ArgsDid, suffixedOf, SuffixDid}
 use Rattle.expressions.specs.declared.ArgTurn.{ArgTurn}
 use Rattle.expressions.specs.declared.ArgTurn.the-variants as ArgTurn
@@ -89,7 +91,7 @@ module _ (L : P.Limits) (s : List ℕ) (E : ℕ → Reads P.Opnd) where
           room : 2 * (c1 .args + 1) ≤ c1 .at
           room = omega (arith, at-arg .step .args, at-arg .step .on)
 
-          pub arg-room : (size ≤ length w1) × (c1 .args < 8192)
+          pub arg-room : (scratchSize ≤ length w1) × (c1 .args < operandsMost)
           arg-room = (at-arg .here .ready .scratch, omega (arith, room, at-arg .here .ready .inside, at-arg .here .ready .script))
 
           module _ {c2 : Cursor} {w2 : List ℕ} (st : Stacks v c1 w1 w2 c2) where
@@ -292,7 +294,7 @@ module _ (L : P.Limits) (s : List ℕ) (E : ℕ → Reads P.Opnd) where
       pub call-here : In s m1 w1 c1
       call-here = at-args .here
 
-      pub call-room : (size ≤ length w1) × (c1 .args + n ≤ 8192)
+      pub call-room : (scratchSize ≤ length w1) × (c1 .args + n ≤ operandsMost)
       call-room = (call-here .ready .scratch, d .few c1 n e)
 
       pub call-yes : {m2 : List ℕ} {o : Out P.Opnd} → ((z : List ℕ) → CursorAdds z w1 (calls L v (waiting w1 (c1 .args) n)) m1 c1 m2 o) → CursorDid (parseCall L s E v) 1 s m w c m2 w1 o
@@ -303,41 +305,39 @@ module _ (L : P.Limits) (s : List ℕ) (E : ℕ → Reads P.Opnd) where
 
   -- ---- members
 
-  module _ {m w : List ℕ} {c : Cursor} {i : Ident} (v : P.Opnd) (h : In s m w c) (x : Idents s c i) {c1 : Cursor} {n : Name} (e : i ≡ Ident.Found c1 n) {q : Matched} (y : CursorMatches s 40 c1 q) where
-    at-name : Acted (expectIdent s) 1 s m w c m w (nameIn s n) c1
-    at-name = ident-went h x e
-
+  module _ {m w : List ℕ} {c : Cursor} {i : Ident} (v : P.Opnd) (h : In s m w c) (x : Idents s c i) {c1 : Cursor} {n : Name}
+      (e : i ≡ Ident.Found c1 n) {q : Matched} (y : CursorMatches s 40 c1 q) where
     pub member-no2 : {m' w' : List ℕ} {k : ℕ} → q ≡ Matched.Refused k → CursorDid (parseMember L s E v) 1 s m w c m' w' (parsedOf (Refused k))
     unfolding parseMember
-    member-no2 f = refuses (rw (← at-name .is, ← match-gave (at-name .here) "(" y spelt-open f))
+    member-no2 f = refuses (rw (← ident-went h x e .is, ← match-gave (ident-went h x e .here) "(" y spelt-open f))
 
     pub member-read : {m1 : List ℕ} {o : Out P.Opnd} → q ≡ Matched.Not → ((u : List ℕ) → CursorAdds s u (readsAttr L v (nameIn s n)) m c1 m1 o) → CursorDid (parseMember L s E v) 1 s m w c m1 w o
     unfolding parseMember readsAttr
     member-read f a =
-        ends-as (at-name .step) (omega arith) (added-did (a w) (at-name .here)) (rw (← at-name .is, ← match-not (at-name .here) "(" y spelt-open f))
+        ends-as (ident-went h x e .step) (omega arith) (added-did (a w) (ident-went h x e .here)) (rw (← ident-went h x e .is, ← match-not (ident-went h x e .here) "(" y spelt-open f))
 
     module _ {c2 : Cursor} (f : q ≡ Matched.Yes c2) where
       at-open : Acted (matchToken s "(") 1 s m w c1 m w true c2
-      at-open = match-went (at-name .here) "(" y spelt-open f
+      at-open = match-went (ident-went h x e .here) "(" y spelt-open f
 
       pub open-args : In s m w c2
       open-args = at-open .here
 
       pub open-room : 2 * c2 .args < c2 .at
-      open-room = omega (arith, at-open .step .args, at-open .step .on, at-name .here .ready .args)
+      open-room = omega (arith, at-open .step .args, at-open .step .on, ident-went h x e .here .ready .args)
 
       module _ {m1 w1 : List ℕ} {t : Args} (d : ArgsDid (parseArgs L s E) s m w c2 m1 w1 t) where
         pub member-no3 : {k : ℕ} → t ≡ Args.Refused k → CursorDid (parseMember L s E v) 1 s m w c m1 w1 (parsedOf (Refused k))
         unfolding parseMember
-        member-no3 g = refuses (rw (← at-name .is, ← at-open .is, ← gave (d .did) (ap (argsOf w1 (c2 .args)) g)))
+        member-no3 g = refuses (rw (← ident-went h x e .is, ← at-open .is, ← gave (d .did) (ap (argsOf w1 (c2 .args)) g)))
 
         pub member-send : {c3 : Cursor} {k : ℕ} → t ≡ Args.Done c3 k → {m2 : List ℕ} {o : Out P.Opnd}
             → CursorDid (send L s E v (nameIn s n) (waiting w1 (c3 .args) k)) 0 s m1 w1 c3 m2 w1 o → CursorDid (parseMember L s E v) 1 s m w c m2 w1 o
         unfolding parseMember
         member-send {c3 = c3} {k = k} g a =
             let b = got (d .did) (ap (argsOf w1 (c2 .args)) g) in
-            ends-as (step-trans (step-trans (at-name .step) (at-open .step)) (b .step)) (omega arith) a
-            (ap (λ z. send L s E v (nameIn s n) (waiting w1 z k) (parserOf s m1 w1 c3)) (b .step .args) ∙ rw (← at-name .is, ← at-open .is, ← b .is))
+            ends-as (step-trans (step-trans (ident-went h x e .step) (at-open .step)) (b .step)) (omega arith) a
+            (ap (λ z. send L s E v (nameIn s n) (waiting w1 z k) (parserOf s m1 w1 c3)) (b .step .args) ∙ rw (← ident-went h x e .is, ← at-open .is, ← b .is))
 
   -- ---- operators
 

@@ -25,7 +25,7 @@ use Rattle.lexer.proofs.Lexes.{signed}
 use Rattle.program.specs.Rows.{opndOf, nameIn}
 use Rattle.program.specs.declared.Name.{Name}
 use Rattle.program.specs.declared.Opnd.{Opnd}
-use Rattle.cursor.specs.Cursor.{size, parserOf, moveCur, In, Open, CursorStep}
+use Rattle.cursor.specs.Cursor.{parserOf, moveCur, In, CursorStep}
 use Rattle.cursor.specs.Steps.{setsIvar, getsIvar, assigns, means, suffixOf}
 use Rattle.cursor.specs.Promises.{Out, done, CursorAfter, CursorDid, CursorAdds, BindsIf, Assigns, Sees, Idents, Expects, CursorMatches, Spelt, parsedOf, movedOf, identOf, matchedOf}
 use Rattle.cursor.specs.declared.Cursor.{Cursor}
@@ -41,6 +41,9 @@ use Rattle.cursor.specs.declared.Suffix.{Suffix}
 use Rattle.cursor.specs.declared.Suffix.the-variants as Suffix
 use Rattle.cursor.proofs.Laws.{step-none, step-trans, Acted, got, gave, refuses, arrives, ends-as, in-moved, step-moved, moved-did, added-did}
 use Rattle.cursor.proofs.Wording.{is-yes, is-no, literal-yes, literal-no, spelt-open, spelt-close, spelt-equals, spelt-at, word-read, peek-found, peek-none, pass-found, glanced}
+use Rattle.memory.specs.Layout.{scriptMost}
+use Rattle.variables.specs.Layout.{bindingsMost}
+use Rattle.cursor.specs.Layout.{scratchSize}
 
 -- ---- steps over words
 
@@ -48,9 +51,6 @@ pub sees-word : {s : List ℕ} {c : Cursor} {r : Lexed} {x : Word} → Sees s c 
 sees-word see e = rw e at see
 
 module _ {s m w : List ℕ} {c : Cursor} (h : In s m w c) where
-  pub open-here : Open m c
-  open-here = record { tables = h .ready .tables; block = h .block }
-
   pub passed : {c' : Cursor} {r : Lexed} {x : Word} → Sees s c r → r ≡ Seen.Found x → c' ≡ moveCur (x .next) c → (x .kind ≡ 0 → ⊥) → Acted (pass s) 1 s m w c m w tt c'
   passed {x = x} see e f z =
       let q = word-read see e in
@@ -247,30 +247,27 @@ module _ (L : P.Limits) (s : List ℕ) (E : ℕ → Reads P.Opnd) where
               name-no3 = refuses (rw (← at-name .is, ← at-equals .is, ← gave d (ap parsedOf g)))
 
             module _ {c3 : Cursor} {v : Opnd} (g : p ≡ Done c3 v) where
-              at-right : Acted (E 0) 1 s m w c2 m1 w1 (opndOf v) c3
-              at-right = got d (ap parsedOf g)
-
               pub right-here : In s m1 w1 c3
-              right-here = at-right .here
+              right-here = got d (ap parsedOf g) .here
 
               to-right : CursorStep 3 c w c3 w1
-              to-right = step-trans (step-trans (at-name .step) (at-equals .step)) (at-right .step)
+              to-right = step-trans (step-trans (at-name .step) (at-equals .step)) (got d (ap parsedOf g) .step)
 
               pub ivar-set : {m2 : List ℕ} {o : Out P.Opnd} → ((z u : List ℕ) → CursorAdds z u (setsIvar L (nameIn z n) (opndOf v)) m1 c3 m2 o) → CursorDid (parseIvar L s E) 1 s m w c m2 w1 o
               unfolding parseIvar setsIvar getSelf
-              ivar-set a = ends-as to-right (omega arith) (added-did (a s w1) right-here) (rw (← at-name .is, ← at-equals .is, ← at-right .is))
+              ivar-set a = ends-as to-right (omega arith) (added-did (a s w1) right-here) (rw (← at-name .is, ← at-equals .is, ← got d (ap parsedOf g) .is))
 
               -- the two bytes of a name and its `=` pay for the binding
               pub pays : 2 * (c3 .vars + 1) + c .at ≤ 2 * c .vars + c3 .at
-              pays = omega (arith, ident-vars x e, match-vars "=" y spelt-equals f, at-name .step .on, at-equals .step .on, at-right .step .paid, at-right .step .on)
+              pays = omega (arith, ident-vars x e, match-vars "=" y spelt-equals f, at-name .step .on, at-equals .step .on, got d (ap parsedOf g) .step .paid, got d (ap parsedOf g) .step .on)
 
-              pub assign-room : (size ≤ length w1) × (c3 .vars < 8192)
+              pub assign-room : (scratchSize ≤ length w1) × (c3 .vars < bindingsMost)
               assign-room = (
                 right-here .ready .scratch,
                 omega (arith, pays, h .ready .room .law, h .ready .room .aside, right-here .ready .inside, right-here .ready .script),
               )
 
-              pub assign-name : n .start + n .len ≤ 16384
+              pub assign-name : n .start + n .len ≤ scriptMost
               assign-name = omega (arith, x .inside c1 n e (h .ready .inside), h .ready .script)
 
               name-ok : (w2 : List ℕ) (r : Parsed) → BindsIf c3 w1 w2 r → CursorAfter 1 s c w m1 w2 (parsedOf r)
@@ -312,7 +309,7 @@ module _ (L : P.Limits) (s : List ℕ) (E : ℕ → Reads P.Opnd) where
 
               pub name-set : {w2 : List ℕ} {r : Parsed} → Assigns s n v c3 w1 w2 r → CursorDid (parseName L s E) 1 s m w c m1 w2 (parsedOf r)
               unfolding parseName assigns
-              name-set {w2 = w2} {r = r} a = record { is = a .is m1 ∙ rw (← at-name .is, ← at-equals .is, ← at-right .is); ok = name-ok w2 r (a .ok) }
+              name-set {w2 = w2} {r = r} a = record { is = a .is m1 ∙ rw (← at-name .is, ← at-equals .is, ← got d (ap parsedOf g) .is); ok = name-ok w2 r (a .ok) }
 
   -- ---- what an expression begins with
 

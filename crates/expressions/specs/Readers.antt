@@ -12,6 +12,7 @@ use Rattle.cursor.specs.Promises.{Out, done, stop, outcome, CursorDid}
 use Rattle.cursor.specs.declared.Cursor.{Cursor}
 use Rattle.cursor.specs.declared.Parsed.{Parsed}
 use Rattle.cursor.specs.declared.Parsed.the-variants as Parsed
+use Rattle.memory.specs.Layout.{operandsMost}
 use Rattle.expressions.specs.declared.ArgTurn.{ArgTurn}
 use Rattle.expressions.specs.declared.ArgTurn.the-variants as ArgTurn
 use Rattle.expressions.specs.declared.Args.{Args}
@@ -58,7 +59,7 @@ argsOf w k (Args.Refused e) = stop e
 
 pub record ArgsDid (f : Reads (List P.Opnd)) (s m w : List ℕ) (c : Cursor) (m' w' : List ℕ) (r : Args) : Type 0 where
   pub did : CursorDid f 1 s m w c m' w' (argsOf w' (c .args) r)
-  pub few : (c' : Cursor) (n : ℕ) → r ≡ Args.Done c' n → c' .args + n ≤ 8192
+  pub few : (c' : Cursor) (n : ℕ) → r ≡ Args.Done c' n → c' .args + n ≤ operandsMost
 
 -- ---- one thing behind an operand; where there is none, nothing moves
 

@@ -75,7 +75,8 @@ fn parse_group(
 ) -> Parsed
     requires { ⌜ In (now script) (now program) (now scratch) cursor ⌝ }
     requires { ⌜ Small limits ⌝ }
-    ensures { λ r. ⌜ CursorDid (parseGroup (limitsOf limits) (now (script .entry)) (parseExpr (limitsOf limits) (now (script .entry)) depth)) 1 (now (script .entry)) (now (program .entry)) (now (scratch .entry)) cursor (now (program .exit)) (now (scratch .exit)) (parsedOf r) ⌝ }
+    ensures { λ r. ⌜ CursorDid (parseGroup (limitsOf limits) (now (script .entry)) (parseExpr (limitsOf limits) (now (script .entry)) depth)) 1
+        (now (script .entry)) (now (program .entry)) (now (scratch .entry)) cursor (now (program .exit)) (now (scratch .exit)) (parsedOf r) ⌝ }
 {
     match parse_expr(script, program, scratch, cursor, limits, 0, depth) {
         Parsed::Refused(e) => Parsed::Refused(e),
@@ -96,7 +97,8 @@ fn parse_ivar(
 ) -> Parsed
     requires { ⌜ In (now script) (now program) (now scratch) cursor ⌝ }
     requires { ⌜ Small limits ⌝ }
-    ensures { λ r. ⌜ CursorDid (parseIvar (limitsOf limits) (now (script .entry)) (parseExpr (limitsOf limits) (now (script .entry)) depth)) 1 (now (script .entry)) (now (program .entry)) (now (scratch .entry)) cursor (now (program .exit)) (now (scratch .exit)) (parsedOf r) ⌝ }
+    ensures { λ r. ⌜ CursorDid (parseIvar (limitsOf limits) (now (script .entry)) (parseExpr (limitsOf limits) (now (script .entry)) depth)) 1
+        (now (script .entry)) (now (program .entry)) (now (scratch .entry)) cursor (now (program .exit)) (now (scratch .exit)) (parsedOf r) ⌝ }
 {
     match cursor::expect_ident(script, cursor) {
         Ident::Refused(e) => Parsed::Refused(e),
@@ -124,7 +126,8 @@ fn parse_name(
     requires { ⌜ In (now script) (now program) (now scratch) cursor ⌝ }
     requires { ⌜ Small limits ⌝ }
     requires { ⌜ Sees (now script) cursor (Found x) ⌝ }
-    ensures { λ r. ⌜ CursorDid (parseName (limitsOf limits) (now (script .entry)) (parseExpr (limitsOf limits) (now (script .entry)) depth)) 1 (now (script .entry)) (now (program .entry)) (now (scratch .entry)) cursor (now (program .exit)) (now (scratch .exit)) (parsedOf r) ⌝ }
+    ensures { λ r. ⌜ CursorDid (parseName (limitsOf limits) (now (script .entry)) (parseExpr (limitsOf limits) (now (script .entry)) depth)) 1
+        (now (script .entry)) (now (program .entry)) (now (scratch .entry)) cursor (now (program .exit)) (now (scratch .exit)) (parsedOf r) ⌝ }
 {
     match cursor::ident_of(cursor, x) {
         Ident::Refused(e) => Parsed::Refused(e),
@@ -152,7 +155,8 @@ fn parse_primary(
     requires { ⌜ In (now script) (now program) (now scratch) cursor ⌝ }
     requires { ⌜ Small limits ⌝ }
     requires { ⌜ Sees (now script) cursor (Found x) ⌝ }
-    ensures { λ r. ⌜ CursorDid (parsePrimary (limitsOf limits) (now (script .entry)) (parseExpr (limitsOf limits) (now (script .entry)) depth)) 1 (now (script .entry)) (now (program .entry)) (now (scratch .entry)) cursor (now (program .exit)) (now (scratch .exit)) (parsedOf r) ⌝ }
+    ensures { λ r. ⌜ CursorDid (parsePrimary (limitsOf limits) (now (script .entry)) (parseExpr (limitsOf limits) (now (script .entry)) depth)) 1
+        (now (script .entry)) (now (program .entry)) (now (scratch .entry)) cursor (now (program .exit)) (now (scratch .exit)) (parsedOf r) ⌝ }
 {
     if x.kind == lexer::NUMBER {
         return Parsed::Done(cursor::move_to(cursor, x.next), cursor::number(x.value));
@@ -192,7 +196,8 @@ fn parse_arg(
     requires { ⌜ In (now script) (now program) (now scratch) cursor ⌝ }
     requires { ⌜ Small limits ⌝ }
     requires { ⌜ 2 * cursor .args < cursor .at ⌝ }
-    ensures { λ r. ⌜ ArgDid (limitsOf limits) (now (script .entry)) (parseExpr (limitsOf limits) (now (script .entry)) depth) (now (program .entry)) (now (scratch .entry)) cursor (now (program .exit)) (now (scratch .exit)) r ⌝ }
+    ensures { λ r. ⌜ ArgDid (limitsOf limits) (now (script .entry)) (parseExpr (limitsOf limits) (now (script .entry)) depth) (now (program .entry))
+        (now (scratch .entry)) cursor (now (program .exit)) (now (scratch .exit)) r ⌝ }
 {
     match cursor::peek(script, cursor) {
         Lexed::Refused(e) => ArgTurn::Refused(e),
@@ -226,7 +231,8 @@ fn parse_args(
     requires { ⌜ In (now script) (now program) (now scratch) cursor ⌝ }
     requires { ⌜ Small limits ⌝ }
     requires { ⌜ 2 * cursor .args < cursor .at ⌝ }
-    ensures { λ r. ⌜ ArgsDid (parseArgs (limitsOf limits) (now (script .entry)) (parseExpr (limitsOf limits) (now (script .entry)) depth)) (now (script .entry)) (now (program .entry)) (now (scratch .entry)) cursor (now (program .exit)) (now (scratch .exit)) r ⌝ }
+    ensures { λ r. ⌜ ArgsDid (parseArgs (limitsOf limits) (now (script .entry)) (parseExpr (limitsOf limits) (now (script .entry)) depth))
+        (now (script .entry)) (now (program .entry)) (now (scratch .entry)) cursor (now (program .exit)) (now (scratch .exit)) r ⌝ }
 {
     let base = cursor.args;
     let mut cur = cursor;
@@ -260,7 +266,9 @@ fn parse_call(
     requires { ⌜ In (now script) (now program) (now scratch) cursor ⌝ }
     requires { ⌜ Small limits ⌝ }
     requires { ⌜ 2 * cursor .args < cursor .at ⌝ }
-    ensures { λ r. ⌜ CursorDid (parseCall (limitsOf limits) (now (script .entry)) (parseExpr (limitsOf limits) (now (script .entry)) depth) (opndOf v)) 1 (now (script .entry)) (now (program .entry)) (now (scratch .entry)) cursor (now (program .exit)) (now (scratch .exit)) (parsedOf r) ⌝ }
+    ensures { λ r. ⌜ CursorDid
+        (parseCall (limitsOf limits) (now (script .entry)) (parseExpr (limitsOf limits) (now (script .entry)) depth) (opndOf v)) 1
+        (now (script .entry)) (now (program .entry)) (now (scratch .entry)) cursor (now (program .exit)) (now (scratch .exit)) (parsedOf r) ⌝ }
 {
     match parse_args(script, program, scratch, cursor, limits, depth) {
         Args::Refused(e) => Parsed::Refused(e),
@@ -279,7 +287,9 @@ fn parse_member(
 ) -> Parsed
     requires { ⌜ In (now script) (now program) (now scratch) cursor ⌝ }
     requires { ⌜ Small limits ⌝ }
-    ensures { λ r. ⌜ CursorDid (parseMember (limitsOf limits) (now (script .entry)) (parseExpr (limitsOf limits) (now (script .entry)) depth) (opndOf v)) 1 (now (script .entry)) (now (program .entry)) (now (scratch .entry)) cursor (now (program .exit)) (now (scratch .exit)) (parsedOf r) ⌝ }
+    ensures { λ r. ⌜ CursorDid
+        (parseMember (limitsOf limits) (now (script .entry)) (parseExpr (limitsOf limits) (now (script .entry)) depth) (opndOf v)) 1
+        (now (script .entry)) (now (program .entry)) (now (scratch .entry)) cursor (now (program .exit)) (now (scratch .exit)) (parsedOf r) ⌝ }
 {
     match cursor::expect_ident(script, cursor) {
         Ident::Refused(e) => Parsed::Refused(e),
@@ -316,7 +326,10 @@ fn parse_right(
 ) -> Parsed
     requires { ⌜ In (now script) (now program) (now scratch) cursor ⌝ }
     requires { ⌜ Small limits ⌝ }
-    ensures { λ r. ⌜ CursorDid (parseRight (limitsOf limits) (now (script .entry)) (parseExpr (limitsOf limits) (now (script .entry)) depth) (operator o 0 right) (opndOf v)) 1 (now (script .entry)) (now (program .entry)) (now (scratch .entry)) cursor (now (program .exit)) (now (scratch .exit)) (parsedOf r) ⌝ }
+    ensures { λ r. ⌜ CursorDid
+        (parseRight (limitsOf limits) (now (script .entry)) (parseExpr (limitsOf limits) (now (script .entry)) depth) (operator o 0 right) (opndOf v))
+        1
+        (now (script .entry)) (now (program .entry)) (now (scratch .entry)) cursor (now (program .exit)) (now (scratch .exit)) (parsedOf r) ⌝ }
 {
     match parse_expr(script, program, scratch, cursor, limits, right, depth) {
         Parsed::Refused(e) => Parsed::Refused(e),
@@ -337,7 +350,9 @@ fn parse_suffix(
 ) -> Suffixed
     requires { ⌜ In (now script) (now program) (now scratch) cursor ⌝ }
     requires { ⌜ Small limits ⌝ }
-    ensures { λ r. ⌜ SuffixDid (parseSuffix (limitsOf limits) (now (script .entry)) (parseExpr (limitsOf limits) (now (script .entry)) depth) prec (opndOf v)) v (now (script .entry)) (now (program .entry)) (now (scratch .entry)) cursor (now (program .exit)) (now (scratch .exit)) r ⌝ }
+    ensures { λ r. ⌜ SuffixDid
+        (parseSuffix (limitsOf limits) (now (script .entry)) (parseExpr (limitsOf limits) (now (script .entry)) depth) prec (opndOf v)) v
+        (now (script .entry)) (now (program .entry)) (now (scratch .entry)) cursor (now (program .exit)) (now (scratch .exit)) r ⌝ }
 {
     match lexer::glance(script, cursor.at) {
         Glimpse::Refused(e) => Suffixed::Refused(e),
@@ -389,7 +404,11 @@ fn parse_suffixes(
 ) -> Parsed
     requires { ⌜ In (now script) (now program) (now scratch) cursor ⌝ }
     requires { ⌜ Small limits ⌝ }
-    ensures { λ r. ⌜ CursorDid (loop_of (parseSuffix (limitsOf limits) (now (script .entry)) (parseExpr (limitsOf limits) (now (script .entry)) depth) prec) (turns (now (script .entry))) (opndOf v)) 0 (now (script .entry)) (now (program .entry)) (now (scratch .entry)) cursor (now (program .exit)) (now (scratch .exit)) (parsedOf r) ⌝ }
+    ensures { λ r. ⌜ CursorDid
+        (loop_of (parseSuffix (limitsOf limits) (now (script .entry)) (parseExpr (limitsOf limits) (now (script .entry)) depth) prec)
+        (turns (now (script .entry))) (opndOf v))
+        0
+        (now (script .entry)) (now (program .entry)) (now (scratch .entry)) cursor (now (program .exit)) (now (scratch .exit)) (parsedOf r) ⌝ }
 {
     let mut cur = cursor;
     let mut left = v;
@@ -423,7 +442,8 @@ pub fn parse_from(
     requires { ⌜ In (now script) (now program) (now scratch) cursor ⌝ }
     requires { ⌜ Small limits ⌝ }
     requires { ⌜ Sees (now script) cursor (Found x) ⌝ }
-    ensures { λ r. ⌜ CursorDid (parseExpr (limitsOf limits) (now (script .entry)) depth prec) 1 (now (script .entry)) (now (program .entry)) (now (scratch .entry)) cursor (now (program .exit)) (now (scratch .exit)) (parsedOf r) ⌝ }
+    ensures { λ r. ⌜ CursorDid (parseExpr (limitsOf limits) (now (script .entry)) depth prec) 1 (now (script .entry)) (now (program .entry))
+        (now (scratch .entry)) cursor (now (program .exit)) (now (scratch .exit)) (parsedOf r) ⌝ }
 {
     if 0 < depth {
         let d = depth - 1;
@@ -448,7 +468,8 @@ pub fn parse_expr(
 ) -> Parsed
     requires { ⌜ In (now script) (now program) (now scratch) cursor ⌝ }
     requires { ⌜ Small limits ⌝ }
-    ensures { λ r. ⌜ CursorDid (parseExpr (limitsOf limits) (now (script .entry)) depth prec) 1 (now (script .entry)) (now (program .entry)) (now (scratch .entry)) cursor (now (program .exit)) (now (scratch .exit)) (parsedOf r) ⌝ }
+    ensures { λ r. ⌜ CursorDid (parseExpr (limitsOf limits) (now (script .entry)) depth prec) 1 (now (script .entry)) (now (program .entry))
+        (now (scratch .entry)) cursor (now (program .exit)) (now (scratch .exit)) (parsedOf r) ⌝ }
 {
     if depth == 0 {
         return Parsed::Refused(11);

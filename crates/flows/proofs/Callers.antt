@@ -33,7 +33,7 @@ use Rattle.program.specs.declared.Op.the-variants.{Param as ParamOp}
 use Rattle.program.specs.declared.Opnd.{Opnd}
 use Rattle.program.specs.declared.Opnd.the-variants.{Const, Insn}
 use Rattle.program.specs.declared.Counts.{Counts}
-use Rattle.program.specs.Rows.{opndOf, opndsAt, opndsIn, opIn, opFrom}
+use Rattle.program.specs.Rows.{opndOf, opndsIn, opIn, opFrom}
 use Rattle.program.specs.View.{programView, ProgramReady}
 use Rattle.program.proofs.Areas.{given-length}
 use Rattle.program.proofs.Reading.{insn-read, operand-read}
@@ -45,6 +45,7 @@ use Rattle.state.specs.View.{stateView}
 use Rattle.state.specs.Changes.{marksFrom, Following}
 use Rattle.machine.specs.opnds.Reads.{OperandInside, kindIn, StateReads}
 use Rattle.machine.proofs.opnds.Given.{kind-of}
+use Rattle.program.specs.Layout.{insnsAt, opndsAt, insnWords}
 use Rattle.flows.specs.declared.Pass.{Pass}
 use Rattle.flows.specs.declared.Tally.the-variants.{Nothing as None}
 use Rattle.flows.specs.declared.AsSet.{AsSet}
@@ -116,37 +117,37 @@ skip-small true = omega arith
 skip-small false = omega arith
 
 -- the words of i's row
+pub row-range : (m : List ℕ) (c : Counts) (i : ℕ) → ProgramReady m c → i < c .insns → getD m (insnsAt + insnWords * i + 4) 0 + getD m (insnsAt + insnWords * i + 5) 0 ≤ opndsAt
+row-range m c i r below = let a = insn-read i r below refl .range in let b = r .opnds in let d = r .listed in let e = r .insns in omega arith
+
 module _ (m : List ℕ) (c : Counts) (i n : ℕ) (r : ProgramReady m c) (below : i < c .insns) where
   abbrev first : ℕ
-  first = getD m (0 + 6 * i + 4) 0
+  first = getD m (insnsAt + insnWords * i + 4) 0
 
   abbrev count : ℕ
-  count = getD m (0 + 6 * i + 5) 0
+  count = getD m (insnsAt + insnWords * i + 5) 0
 
   abbrev skip : ℕ
-  skip = boolByte (eqb (getD m (0 + 6 * i) 0) 4)
+  skip = boolByte (eqb (getD m (insnsAt + insnWords * i) 0) 4)
 
   abbrev given : List P.Opnd
   given = map opndOf (opndsIn m (opndsAt + 2 * first) count)
 
-  row-range : first + count ≤ 12288
-  row-range = let a = insn-read i r below refl .range in let b = r .opnds in let d = r .listed in let e = r .insns in omega arith
-
   pub skip-fits : n < count → FitsIn w64 (skip + n)
-  skip-fits lt = record { fits = let a = row-range in let b = skip-small (eqb (getD m (0 + 6 * i) 0) 4) in omega arith }
+  skip-fits lt = record { fits = let a = row-range m c i r below in let b = skip-small (eqb (getD m (insnsAt + insnWords * i) 0) 4) in omega arith }
 
   pub place-fits : skip + n < count → (x : ℕ) → x ≤ opndsAt + 2 * first + 2 * (skip + n) → FitsIn w64 x
-  place-fits lt x le = record { fits = let a = row-range in omega arith }
+  place-fits lt x le = record { fits = let a = row-range m c i r below in omega arith }
 
   argument-is : (L : Limits) (s : List ℕ) → has (about (opOf (programView s m c) i) .callee) ≡ true → argument L (programView s m c) n i ≡ getD given (skip + n) (P.Const Empty)
   argument-is L s h =
-      let o : Op = opFrom (getD m (0 + 6 * i) 0) (getD m (0 + 6 * i + 2) 0) (getD m (0 + 6 * i + 3) 0) in
+      let o : Op = opFrom (getD m (insnsAt + insnWords * i) 0) (getD m (insnsAt + insnWords * i + 2) 0) (getD m (insnsAt + insnWords * i + 3) 0) in
       let e : opOf (programView s m c) i ≡ opIn s o given = ap (λ (y : P.Instruction). y .op) (insn-read i r below refl .is s) in
       let g : has (about (opIn s o given) .callee) ≡ true = rw e at h in
       ap (λ (y : P.Op). getD (about y .listed) n (P.Const Empty)) e
       ∙ ap (λ (y : List P.Opnd). getD y n (P.Const Empty)) (listed-is s o given g)
       ∙ getD-drop (skipOf o) given n (P.Const Empty)
-      ∙ ap (λ (y : ℕ). getD given (y + n) (P.Const Empty)) (sym (skip-from (getD m (0 + 6 * i) 0) (getD m (0 + 6 * i + 2) 0) (getD m (0 + 6 * i + 3) 0)))
+      ∙ ap (λ (y : ℕ). getD given (y + n) (P.Const Empty)) (sym (skip-from (getD m (insnsAt + insnWords * i) 0) (getD m (insnsAt + insnWords * i + 2) 0) (getD m (insnsAt + insnWords * i + 3) 0)))
 
   pub argument-here : skip + n < count → ArguesAt m c i n (opndsAt + 2 * first + 2 * (skip + n))
   argument-here lt = record {
@@ -156,7 +157,7 @@ module _ (m : List ℕ) (c : Counts) (i n : ℕ) (r : ProgramReady m c) (below :
           ∙ at-any given (skip + n) (P.Const Nil) (P.Const Empty) (let k = given-length m (opndsAt + 2 * first) count in omega arith)
           ∙ sym (argument-is L s h);
     };
-    inside = let a = row-range in let b = r .len-mem in omega arith;
+    inside = let a = row-range m c i r below in let b = r .len-mem in omega arith;
   }
 
   pub argument-none : count ≤ skip + n → ArguesAt m c i n 0
@@ -229,7 +230,8 @@ module _ {m : List ℕ} {c : Counts} {z : Sizes} (w : List ℕ) {f k : ℕ} {s :
         let b : opndOf o ≡ argument L (programView u m c) n (i .0) = a .is L u (so .calls f (i .0) (mark-is (calledOf z w) f k (i .0) (next-is e .is))) in
         let t : marksFrom (calledOf z w) f k ≡ i .0 ∷ marksFrom (calledOf z w) f (i .0 + 1) = next-is e .is ∙ ap (λ (j : ℕ). i .0 ∷ marksFrom (calledOf z w) f j) (sym (add-one (i .0))) in
         rw t
-        (passed-append (kindsOf z w) (argument L (programView u m c) n (i .0) ∷ []) (map (argument L (programView u m c) n) (marksFrom (calledOf z w) f (i .0 + 1))) x x' y (rw b at p) (r .passed L u so));
+        (passed-append (kindsOf z w) (argument L (programView u m c) n (i .0) ∷ [])
+        (map (argument L (programView u m c) n) (marksFrom (calledOf z w) f (i .0 + 1))) x x' y (rw b at p) (r .passed L u so));
   })
 
 pub callers-start : (m : List ℕ) (c : Counts) (z : Sizes) (w : List ℕ) (f n : ℕ) (x : Pass) → Passing m c z w f n x x 0

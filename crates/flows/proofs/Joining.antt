@@ -1,14 +1,13 @@
 -- join_sets at the heads of its loops. Assumes nothing.
-use mathlib.Core.Bool.{Bool as 𝔹, true, false, cond, _||_}
+use mathlib.Core.Bool.{Bool as 𝔹, true, false, cond, _||_, or-false}
 use mathlib.Core.Path.{_≡_, refl, sym, ap, ap₂, _∙_}
 use mathlib.Core.List.{List, [], _∷_, _++_, map}
 use Prim.Native.Nat.{ℕ, zero, suc, _+_, _-_, _*_, _≤_, _<_}
-use native.Mathlib.Decide.{decLt}
 use native.Mathlib.Omega.{arith}
 use mir.Syntax.{w32, w64}
 use mir.Val.{Fits}
 use lib.Bits.{bitOr, or-self, or-zero-r}
-use lib.ListN.{length, getD, List·getD-eq-default}
+use lib.ListN.{length, getD}
 use Rattle.ids.specs.Sets.{membersFrom}
 use Rattle.ids.proofs.Bits.{or-assoc}
 use Rattle.ids.proofs.Walk.{no-members}
@@ -19,6 +18,7 @@ use Rattle.rules.specs.Lists.{consIf}
 use Rattle.rules.specs.Program as P
 use Rattle.rules.specs.Program.{Limits}
 use Rattle.rules.specs.Machine.{marked, argument}
+use Rattle.rules.proofs.Exactness.Flows.{row-in}
 use Rattle.program.specs.declared.Opnd.{Opnd}
 use Rattle.program.specs.declared.Counts.{Counts}
 use Rattle.program.specs.Rows.{opndOf}
@@ -44,10 +44,6 @@ or-again true c = refl
 or-again false true = refl
 or-again false false = refl
 
-or-none : (b : 𝔹) → (b || false) ≡ b
-or-none true = refl
-or-none false = refl
-
 -- joined again, it changes nothing
 pub record Absorbed (ks : List Kind) (b : 𝔹) (s : ℕ) (o : Words) : Type 0 where
   pub classes : ℕ
@@ -60,7 +56,7 @@ module _ (ks : List Kind) (b : 𝔹) (s : ℕ) where
   unfolding kindFrom
   absorbed-none =
       let e : kindIn ks (opndOf (operandOf (record { tag = 0; bits = 0 }))) ≡ Empty = ap (λ (o : Opnd). kindIn ks (opndOf o)) (sym (opnd-const 0 (λ h. omega arith) refl)) in
-      record { classes = 0; is = ap asSet e; within = or-zero-r s; known = ap (λ (k : Kind). b || isSet k) e ∙ or-none b }
+      record { classes = 0; is = ap asSet e; within = or-zero-r s; known = ap (λ (k : Kind). b || isSet k) e ∙ or-false b }
 
   absorbed-next : (o : Words) (t : ℕ) → asSet (kindIn ks (opndOf (operandOf o))) ≡ Set t → Absorbed ks (b || isSet (kindIn ks (opndOf (operandOf o)))) (bitOr s t) o
   absorbed-next o t e = record { classes = t; is = e; within = or-assoc s t t ∙ ap (bitOr s) (or-self t); known = or-again b (isSet (kindIn ks (opndOf (operandOf o)))) }
@@ -89,12 +85,6 @@ module _ (row : List 𝔹) where
 row-length : (z : Sizes) (w : List ℕ) (f : ℕ) → f < z .functions → length (getD (calledOf z w) f []) ≡ z .insns
 unfolding calledOf
 row-length z w f h = ap length (rows-row (z .functions) (λ _. z .insns) _ f h) ∙ listed-length (z .insns) _
-
-in-below : (row : List 𝔹) (i : ℕ) → getD row i false ≡ true → i < length row
-in-below row i e = elim (decLt i (length row)) [
-  | yes h ↦ h
-  | no h ↦ let y : false ≡ true = sym (List·getD-eq-default row false {n = i} (omega arith)) ∙ e in let z : _≡_ {A = ℕ} 0 1 = cc in absurd (omega arith)
-]
 
 -- ---- sums over a list of callers
 
@@ -175,7 +165,7 @@ module _ (m : List ℕ) (c : Counts) (z : Sizes) (w : List ℕ) (f n : ℕ) wher
       caller-marked = here .callers .0
 
       pub caller-inner : f < z .functions → k * 64 + i < z .insns
-      caller-inner lt = let e = row-length z w f lt in omega (arith, in-below (getD (calledOf z w) f []) (k * 64 + i) caller-marked)
+      caller-inner lt = let e = row-length z w f lt in omega (arith, row-in (getD (calledOf z w) f []) (k * 64 + i) caller-marked)
 
       pub caller-argues : FlowsKnown m c z (calledOf z w) → {a : Opnd} → Argues m c (k * 64 + i) n a → OperandInside z a
       caller-argues q {a} d = fits-inside z a (rw (d .is P.limits (q .script) (q .sound .calls f (k * 64 + i) caller-marked)) (q .sound .listed (k * 64 + i) n))

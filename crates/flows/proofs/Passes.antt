@@ -95,9 +95,6 @@ module _ (u a : Kind) (p : Solid u) (r : Solid a) where
   solid-never : isName a ≡ true → unionOf u a ≡ Refused 19
   solid-never h = union-comm u a ∙ union-no a u (rw (r .some, p .some, r .full, p .full, h))
 
-  solid-yes : isName u ≡ false → isName a ≡ false → unionOf u a ≡ Of (lub u a)
-  solid-yes h g = union-plain u a h g
-
   solid-lub : isName u ≡ false → isName a ≡ false → Solid (lub u a)
   unfolding mixOf
   solid-lub h g = record { full = lub-full u a (p .full); some = ap isAny (lub-mix u a (p .full) (r .full)) ∙ go (sameOf u a) }
@@ -116,7 +113,7 @@ union-solid u a p r = go (either (isName u)) (either (isName a))
     go : Either (isName u) → Either (isName a) → SolidIn (unionOf u a)
     go (yes h) g = rw (solid-no u a p r h) tt
     go (no h) (yes g) = rw (solid-never u a p r g) tt
-    go (no h) (no g) = rw (solid-yes u a p r h g) (solid-lub u a p r h g)
+    go (no h) (no g) = rw (union-plain u a h g) (solid-lub u a p r h g)
 
 union-swap : (u a b : Kind) → Solid u → Solid a → Solid b → joinOf (unionOf u a) b ≡ joinOf (unionOf u b) a
 union-swap u a b p q r = go (either (isName u)) (either (isName a)) (either (isName b))
@@ -124,13 +121,13 @@ union-swap u a b p q r = go (either (isName u)) (either (isName a)) (either (isN
     go : Either (isName u) → Either (isName a) → Either (isName b) → joinOf (unionOf u a) b ≡ joinOf (unionOf u b) a
     go (yes h) x y = rw (solid-no u a p q h, solid-no u b p r h)
     go (no h) (yes x) (yes y) = rw (solid-never u a p q x, solid-never u b p r y)
-    go (no h) (yes x) (no y) = rw (solid-never u a p q x, solid-yes u b p r h y) (sym (solid-never (lub u b) a (solid-lub u b p r h y) q x))
-    go (no h) (no x) (yes y) = rw (solid-yes u a p q h x, solid-never u b p r y) (solid-never (lub u a) b (solid-lub u a p q h x) r y)
+    go (no h) (yes x) (no y) = rw (solid-never u a p q x, union-plain u b h y) (sym (solid-never (lub u b) a (solid-lub u b p r h y) q x))
+    go (no h) (no x) (yes y) = rw (union-plain u a h x, solid-never u b p r y) (solid-never (lub u a) b (solid-lub u a p q h x) r y)
     go (no h) (no x) (no y) =
-        rw (solid-yes u a p q h x, solid-yes u b p r h y)
-        (solid-yes (lub u a) b (solid-lub u a p q h x) r (lub-plain u a h x) y
+        rw (union-plain u a h x, union-plain u b h y)
+        (union-plain (lub u a) b (lub-plain u a h x) y
         ∙ ap Of (lub-assoc u a b ∙ ap (lub u) (lub-comm a b) ∙ sym (lub-assoc u b a))
-        ∙ sym (solid-yes (lub u b) a (solid-lub u b p r h y) q (lub-plain u b h y) x))
+        ∙ sym (union-plain (lub u b) a (lub-plain u b h y) x))
 
 union-twice : (u a : Kind) → Solid u → Solid a → joinOf (unionOf u a) a ≡ unionOf u a
 union-twice u a p r = go (either (isName u)) (either (isName a))
@@ -139,8 +136,8 @@ union-twice u a p r = go (either (isName u)) (either (isName a))
     go (yes h) g = rw (solid-no u a p r h)
     go (no h) (yes g) = rw (solid-never u a p r g)
     go (no h) (no g) =
-        rw (solid-yes u a p r h g)
-        (solid-yes (lub u a) a (solid-lub u a p r h g) r (lub-plain u a h g) g ∙ ap Of (lub-assoc u a a ∙ ap (lub u) (lub-idem a)))
+        rw (union-plain u a h g)
+        (union-plain (lub u a) a (lub-plain u a h g) g ∙ ap Of (lub-assoc u a a ∙ ap (lub u) (lub-idem a)))
 
 -- ---- the second pass
 

@@ -1,5 +1,5 @@
 -- Where no kind is a name or Any, and one is a set, their union is the union of their classes, in any order. Assumes nothing.
-use mathlib.Core.Bool.{Bool as 𝔹, true, false, cond, _&&_, _||_, or-self as or-self𝔹}
+use mathlib.Core.Bool.{Bool as 𝔹, true, false, cond, _||_, or-self as or-self𝔹, or-false}
 use mathlib.Core.Path.{_≡_, refl, sym, ap, _∙_}
 use mathlib.Core.List.{List, [], _∷_, map}
 use Prim.Native.Nat.{ℕ, _<_, _≤_}
@@ -19,24 +19,17 @@ use Rattle.kinds.proofs.Laws.{union-plain, union-sets, lub-plain}
 use Rattle.kinds.proofs.Steps.{empty-is}
 use Rattle.rules.specs.Program.{Opnd, Const, Insn, sameOpnd}
 use Rattle.rules.specs.Machine.{opndSet}
+use Rattle.rules.proofs.Wellformed.Tests.{or-false as or-parts}
 use Rattle.machine.specs.opnds.Reads.{kindIn}
 use Rattle.flows.specs.declared.AsSet.{AsSet}
 use Rattle.flows.specs.declared.AsSet.the-variants.{Set, Other}
-use Rattle.flows.specs.Tally.{Tally, Nothing, One, Many, lower, least, before, solid, add, take, takeAll, close, finish, unionOver, FitsAt, TallyFits}
+use Rattle.flows.specs.Tally.{Tally, Nothing, One, Many, lower, least, before, add, take, takeAll, close, finish, unionOver, FitsAt, TallyFits}
 use Rattle.flows.specs.Flows.{asSet, joinSets}
 use Rattle.flows.proofs.Order.{same-is}
-use Rattle.flows.proofs.Whole.{union-over}
+use Rattle.flows.proofs.Whole.{union-over, take-empty}
 
 never : {A : Type 0} {u : ℕ} → Other ≡ Set u → A
 never e = let z : _≡_ {A = ℕ} 0 1 = cc in absurd (omega arith)
-
-or-parts : (a b : 𝔹) → (a || b) ≡ false → (a ≡ false) × (b ≡ false)
-or-parts true b h = let z : _≡_ {A = ℕ} 0 1 = cc in absurd (omega arith)
-or-parts false b h = (refl, h)
-
-or-none : (b : 𝔹) → (b || false) ≡ b
-or-none true = refl
-or-none false = refl
 
 -- ---- one kind
 
@@ -128,14 +121,6 @@ module _ (ks : List Kind) where
   fits-before n (Const k) f = refl
   fits-before n (Insn j) f = lt-ltb j n f
 
-  take-none : (n : ℕ) (t : Tally) (o : Opnd) → kind o ≡ Empty → take ks n t o ≡ t
-  unfolding take
-  take-none n t o e = go (before ks n o)
-    where
-      go : (b : 𝔹) → cond (b && solid ks (kind o)) (add ks t o) t ≡ t
-      go true = rw e
-      go false = refl
-
   take-one : (n : ℕ) (t : Tally) (o : Opnd) → FitsAt n o → isEmpty (kind o) ≡ false → isAny (kind o) ≡ false → take ks n t o ≡ add ks t o
   unfolding take
   take-one n t o f e a = rw (fits-before n o f, e, a)
@@ -163,7 +148,7 @@ module _ (ks : List Kind) where
       c = classes-are (kind o) u e
 
       go : Either (isEmpty (kind o)) → Holds (take ks n t o) (b || isSet (kind o)) (bitOr s u)
-      go (yes p) = let k = empty-is (kind o) p in rw (take-none n t o k, c .1, k, or-zero-r s, or-none b) h
+      go (yes p) = let k = empty-is (kind o) p in rw (take-empty ks n t o k, c .1, k, or-zero-r s, or-false b) h
       go (no p) = rw (take-one n t o f p (not-any (kind o) u e), c .1) (add-holds b s t o (c .0) p h)
 
   holds-close : (t : Tally) (b : 𝔹) (s r : ℕ) → cond b s 0 ≡ r → 0 < r → Holds t b s → Of (Objects r) ≡ close ks t

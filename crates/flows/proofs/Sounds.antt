@@ -17,21 +17,14 @@ use Rattle.rules.specs.Program.{Limits, Opnd, Const, Insn, Callee, Static, Dyna
 use Rattle.rules.specs.Program.{opOf, blockOf, functionOf}
 use Rattle.rules.specs.Machine.{marked}
 use Rattle.rules.specs.Finished.{Finished, isFunction, isClass, goodConstant, goodOpnd, goodOp, goodInstruction}
+use Rattle.rules.proofs.Exactness.Promise.{and-left, and-right}
 use Rattle.flows.specs.Tally.{FitsAt}
 use Rattle.flows.specs.Flows.{FlowsSound}
-
-and-l : (a b : 𝔹) → (a && b) ≡ true → a ≡ true
-and-l true b h = refl
-and-l false b h = h
-
-and-r : (a b : 𝔹) → (a && b) ≡ true → b ≡ true
-and-r true b h = h
-and-r false b h = cc
 
 few-tags : (k : Kind) → tagOf k ≤ 5 → isAny k ≡ false
 few-tags k h = ne-eqb (tagOf k) 9 (λ e. omega arith)
 
-second : (a b c d e : 𝔹) → (a && b && c && d && e) ≡ true → b ≡ true
+pub second : (a b c d e : 𝔹) → (a && b && c && d && e) ≡ true → b ≡ true
 second true true c d e h = refl
 second true false c d e h = cc
 second false b c d e h = cc
@@ -47,13 +40,13 @@ good-opnd p n i (Insn j) lt h = let g = ltb-true j i h in omega arith
 
 pub good-at : (p : Program) (n i : ℕ) (l : List Opnd) (k : ℕ) → i < n → all (goodOpnd p i) l ≡ true → FitsAt n (getD l k (Const Empty))
 good-at p n i [] k lt h = refl
-good-at p n i (o ∷ l) zero lt h = good-opnd p n i o lt (and-l (goodOpnd p i o) (all (goodOpnd p i) l) h)
-good-at p n i (o ∷ l) (suc k) lt h = good-at p n i l k lt (and-r (goodOpnd p i o) (all (goodOpnd p i) l) h)
+good-at p n i (o ∷ l) zero lt h = good-opnd p n i o lt (and-left (goodOpnd p i o) (all (goodOpnd p i) l) h)
+good-at p n i (o ∷ l) (suc k) lt h = good-at p n i l k lt (and-right (goodOpnd p i o) (all (goodOpnd p i) l) h)
 
 good-listed : (p : Program) (n i : ℕ) (o : Op) (k : ℕ) → i < n → all (goodOpnd p i) (about o .operands) ≡ true → FitsAt n (getD (about o .listed) k (Const Empty))
 good-listed p n i (Ends t) k lt h = refl
 good-listed p n i (Send (Static f) l) k lt h = good-at p n i l k lt h
-good-listed p n i (Send (Dynamic r m) l) k lt h = good-at p n i l k lt (and-r (goodOpnd p i r) (all (goodOpnd p i) l) h)
+good-listed p n i (Send (Dynamic r m) l) k lt h = good-at p n i l k lt (and-right (goodOpnd p i r) (all (goodOpnd p i) l) h)
 good-listed p n i (Compute o v w) k lt h = refl
 good-listed p n i (Phi b v c w) k lt h = good-at p n i (v ∷ w ∷ []) k lt h
 good-listed p n i (Param m) k lt h = refl

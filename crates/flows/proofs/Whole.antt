@@ -127,17 +127,17 @@ module _ (ks : List Kind) where
   past-add (One w j) o l f g = rw (before-other w o (f .0)) tt
   past-add (Many j) o l f g = tt
 
+  pub take-empty : (a : ℕ) (t : Tally) (o : Opnd) → kind o ≡ Empty → take ks a t o ≡ t
+  unfolding take
+  take-empty a t o e = go (before ks a o)
+    where
+      go : (b : 𝔹) → cond (b && solid ks (kind o)) (add ks t o) t ≡ t
+      go true = rw e
+      go false = refl
+
   module _ (n : ℕ) where
     abbrev both : Tally → List Opnd → Joined
     both t l = finish ks n (least ks n l) (takeAll ks (least ks n l) t l)
-
-    take-empty : (a : ℕ) (t : Tally) (o : Opnd) → kind o ≡ Empty → take ks a t o ≡ t
-    unfolding take
-    take-empty a t o e = go (before ks a o)
-      where
-        go : (b : 𝔹) → cond (b && solid ks (kind o)) (add ks t o) t ≡ t
-        go true = rw e
-        go false = refl
 
     take-here : (a : ℕ) (t : Tally) (o : Opnd) → before ks a o ≡ true → isEmpty (kind o) ≡ false → isAny (kind o) ≡ false → take ks a t o ≡ add ks t o
     unfolding take

@@ -133,7 +133,7 @@ pub fn argument_at(program: &[usize], counts: Counts, i: InsnId, n: usize) -> us
     requires { ⌜ i .0 < counts .insns ⌝ }
     ensures { λ r. ⌜ ArguesAt (now (program .entry)) counts (i .0) n r ⌝ }
 {
-    let at = program::INSNS + 6 * (i.0 as usize);
+    let at = program::INSNS + program::INSN_WORDS * (i.0 as usize);
     let skip = (program[at] == 4) as usize;
     let first = program[at + 4];
     let count = program[at + 5];
@@ -358,7 +358,8 @@ fn param_by_passes(
     requires { ⌜ StateHeld sizes (now state) ⌝ }
     requires { ⌜ FlowsKnown (now program) counts sizes (calledOf sizes (now state)) ⌝ }
     requires { ⌜ f .0 < sizes .functions ⌝ }
-    ensures { λ r. ⌜ ((i : ℕ) → StateReads sizes (ParamIs (now (program .entry)) counts sizes (calledOf sizes (now (state .entry))) i (f .0) n) (λ L program. rule L program i (Param n)) (now (state .entry)) r) ⌝ }
+    ensures { λ r. ⌜ ((i : ℕ) → StateReads sizes (ParamIs (now (program .entry)) counts sizes (calledOf sizes (now (state .entry))) i (f .0) n)
+        (λ L program. rule L program i (Param n)) (now (state .entry)) r) ⌝ }
 {
     let first = pass_callers(
         program,
@@ -407,7 +408,8 @@ pub fn param(
     requires { ⌜ StateHeld sizes (now state) ⌝ }
     requires { ⌜ FlowsKnown (now program) counts sizes (calledOf sizes (now state)) ⌝ }
     requires { ⌜ f .0 < sizes .functions ⌝ }
-    ensures { λ r. ⌜ ((i : ℕ) → StateReads sizes (ParamIs (now (program .entry)) counts sizes (calledOf sizes (now (state .entry))) i (f .0) n) (λ L program. rule L program i (Param n)) (now (state .entry)) r) ⌝ }
+    ensures { λ r. ⌜ ((i : ℕ) → StateReads sizes (ParamIs (now (program .entry)) counts sizes (calledOf sizes (now (state .entry))) i (f .0) n)
+        (λ L program. rule L program i (Param n)) (now (state .entry)) r) ⌝ }
 {
     match join_sets(program, counts, state, sizes, f, n) {
         AsSet::Set(s) => {

@@ -41,7 +41,7 @@ fn returned_at(program: &[usize], counts: Counts, j: InsnId) -> usize
     requires { ⌜ j .0 < counts .insns ⌝ }
     ensures { λ r. ⌜ ReturnsAt (now (program .entry)) counts (j .0) r ⌝ }
 {
-    let at = program::INSNS + 6 * (j.0 as usize);
+    let at = program::INSNS + program::INSN_WORDS * (j.0 as usize);
     let first = program[at + 4];
     let count = program[at + 5];
     if 0 < count {
@@ -222,7 +222,8 @@ fn kind_by_passes(
     requires { ⌜ StateHeld sizes (now state) ⌝ }
     requires { ⌜ Backs (now program) counts sizes (now chains) ⌝ }
     requires { ⌜ (i .0 < sizes .insns) × (first .0 + n ≤ sizes .functions) ⌝ }
-    ensures { λ r. ⌜ StateReads sizes (BackIn (now (program .entry)) counts sizes (calledOf sizes (now (state .entry))) (i .0) (first .0) n) (λ L program. callKind L program (i .0)) (now (state .entry)) r ⌝ }
+    ensures { λ r. ⌜ StateReads sizes (BackIn (now (program .entry)) counts sizes (calledOf sizes (now (state .entry))) (i .0) (first .0) n)
+        (λ L program. callKind L program (i .0)) (now (state .entry)) r ⌝ }
 {
     let once = pass_called(
         program,
@@ -277,7 +278,8 @@ pub fn call_kind(
     requires { ⌜ StateHeld sizes (now state) ⌝ }
     requires { ⌜ Backs (now program) counts sizes (now chains) ⌝ }
     requires { ⌜ (i .0 < sizes .insns) × (first .0 + n ≤ sizes .functions) ⌝ }
-    ensures { λ r. ⌜ StateReads sizes (BackIn (now (program .entry)) counts sizes (calledOf sizes (now (state .entry))) (i .0) (first .0) n) (λ L program. callKind L program (i .0)) (now (state .entry)) r ⌝ }
+    ensures { λ r. ⌜ StateReads sizes (BackIn (now (program .entry)) counts sizes (calledOf sizes (now (state .entry))) (i .0) (first .0) n)
+        (λ L program. callKind L program (i .0)) (now (state .entry)) r ⌝ }
 {
     let s = join_called(program, counts, chains, state, sizes, i, first, n);
     if 0 < s {

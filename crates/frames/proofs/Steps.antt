@@ -17,8 +17,8 @@ use Rattle.ids.specs.declared.FunId.{FunId}
 use Rattle.ids.specs.declared.InsnId.{InsnId}
 use Rattle.kinds.proofs.Same.{bit-of}
 use Rattle.rules.specs.Lists.{concat}
-use Rattle.answer.specs.Layout.{functionsMost, blocksMost, instructionsMost, usesMost}
 use Rattle.answer.specs.Image.{listed, functionsIn, blocksIn, instructionsIn, countIn, liveIn, tagIn, payloadIn, startIn, userIn, wordIn, bitsIn}
+use Rattle.memory.specs.Layout.{functionsMost, blocksMost, instructionsMost, usesMost}
 use Rattle.frames.specs.declared.NextFrame.{NextFrame}
 use Rattle.frames.specs.declared.NextFrame.the-variants.{Totals, Block, Instruction, Use, Caller, Done}
 use Rattle.frames.specs.Text.{lineOf, totalsLine, blockLine, kindLine, useLine, callerLine, useLines, callerLines, fromCaller, fromUse, fromKind, fromBlock, restOf, moreOf, leftOf, lineMost}

@@ -9,9 +9,9 @@ use Rattle.kinds.specs.declared.Kind.{Kind}
 use Rattle.kinds.specs.Kinds.{bitOf, tagOf, payloadOf}
 use Rattle.rules.specs.Lists.{concat, places}
 use Rattle.rules.specs.Frames.{field, line, eachAt, pairs}
-use Rattle.answer.specs.Layout.{functionsMost, blocksMost, instructionsMost, usesMost}
 use Rattle.answer.specs.Record.{Record}
 use Rattle.answer.specs.Image.{listed, functionsIn, blocksIn, instructionsIn, countIn, liveIn, tagIn, payloadIn, startIn, userIn, callsIn}
+use Rattle.memory.specs.Layout.{functionsMost, blocksMost, instructionsMost, usesMost}
 use Rattle.frames.specs.declared.NextFrame.{NextFrame}
 use Rattle.frames.specs.declared.NextFrame.the-variants.{Totals, Block, Instruction, Use, Caller, Done}
 

@@ -8,11 +8,8 @@ use Rattle.rules.specs.Actions.{Answer, answered, refused, ifAnswered, loop}
 use Rattle.rules.specs.Program as P
 use Rattle.rules.specs.Reading.{Parser, withEnv, withSelf, expect, expectIdent, pushSelf, pushParams, parseParam, turns, parseStatements, parseStatement, endBlock, newFun, parseFun}
 use Rattle.statements.specs.Acts.{stopsAt}
+use Rattle.statements.proofs.Ifs.{then-same}
 use Rattle.functions.specs.Bodies.{headOf, bodyOf, funOf}
-
-then-same : {A B : Type 0} (a : Answer A) (f g : A → Answer B) → ((x : A) → f x ≡ g x) → ifAnswered a f ≡ ifAnswered a g
-then-same (answered x) f g h = h x
-then-same (refused n) f g h = refl
 
 module _ (L : P.Limits) (s : List ℕ) where
   -- what follows the head, without and with the function's number
@@ -32,7 +29,8 @@ module _ (L : P.Limits) (s : List ℕ) where
   rest-same : (f : ℕ) (p : Parser) → restWith f p ≡ numbered f (rest p)
   rest-same f p = one (parseStatements L s (stopsAt false) (parseStatement L s (L .depth)) p)
     where
-      three : (a : Answer (Unit {0} × Parser)) → ifAnswered {B = ℕ × Parser} a (λ e. answered (f, withSelf none (e .1))) ≡ numbered f (ifAnswered {B = Unit {0} × Parser} a (λ e. answered (tt, withSelf none (e .1))))
+      three : (a : Answer (Unit {0} × Parser)) → ifAnswered {B = ℕ × Parser} a (λ e. answered (f, withSelf none (e .1)))
+          ≡ numbered f (ifAnswered {B = Unit {0} × Parser} a (λ e. answered (tt, withSelf none (e .1))))
       three (answered e) = refl
       three (refused n) = refl
 
@@ -42,8 +40,10 @@ module _ (L : P.Limits) (s : List ℕ) where
       two (refused n) = refl
 
       one : (a : Answer (P.Opnd × Parser))
-          → ifAnswered {B = ℕ × Parser} a (λ v. ifAnswered {B = ℕ × Parser} (endBlock L s (P.Return (v .0)) (v .1)) (λ d. ifAnswered {B = ℕ × Parser} (expect s "end" (d .1)) (λ e. answered (f, withSelf none (e .1)))))
-          ≡ numbered f (ifAnswered {B = Unit {0} × Parser} a (λ v. ifAnswered {B = Unit {0} × Parser} (endBlock L s (P.Return (v .0)) (v .1)) (λ d. ifAnswered {B = Unit {0} × Parser} (expect s "end" (d .1)) (λ e. answered (tt, withSelf none (e .1))))))
+          → ifAnswered {B = ℕ × Parser} a (λ v. ifAnswered {B = ℕ × Parser} (endBlock L s (P.Return (v .0)) (v .1))
+          (λ d. ifAnswered {B = ℕ × Parser} (expect s "end" (d .1)) (λ e. answered (f, withSelf none (e .1)))))
+          ≡ numbered f (ifAnswered {B = Unit {0} × Parser} a (λ v. ifAnswered {B = Unit {0} × Parser} (endBlock L s (P.Return (v .0)) (v .1))
+          (λ d. ifAnswered {B = Unit {0} × Parser} (expect s "end" (d .1)) (λ e. answered (tt, withSelf none (e .1))))))
       one (answered v) = two (endBlock L s (P.Return (v .0)) (v .1))
       one (refused n) = refl
 

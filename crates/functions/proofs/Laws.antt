@@ -12,7 +12,7 @@ use Rattle.rules.specs.Actions.{Answer, answered, refused, ifAnswered, loop}
 use Rattle.rules.specs.Program as P
 use Rattle.rules.specs.Reading as R
 use Rattle.rules.specs.Reading.{Parser, pushParams, parseParam, turns, parseStatements, parseStatement, endBlock, newFun, parseFun}
-use Rattle.variables.specs.scopes.Made.{over}
+use Rattle.variables.specs.Scopes.{over}
 use Rattle.variables.specs.Memory.{made, vars}
 use Rattle.variables.specs.Rooms.{VariablesRoom}
 use Rattle.program.specs.Rows.{opndOf, nameIn}
@@ -22,7 +22,7 @@ use Rattle.program.specs.declared.Limits.{Limits}
 use Rattle.program.specs.declared.Name.{Name}
 use Rattle.program.specs.declared.Op.the-variants.{Return}
 use Rattle.program.specs.declared.Opnd.{Opnd}
-use Rattle.cursor.specs.Cursor.{parserOf, stackAt, moveCur, stackCur, CursorReady, In, CursorStep}
+use Rattle.cursor.specs.Cursor.{parserOf, moveCur, stackCur, CursorReady, In, CursorStep}
 use Rattle.cursor.specs.Promises.{Out, done, stop, outcome, CursorDid, Idents, Expects, identOf, parsedOf, movedOf}
 use Rattle.cursor.specs.declared.Cursor.{Cursor}
 use Rattle.cursor.specs.declared.Ident.{Ident}
@@ -32,7 +32,7 @@ use Rattle.cursor.specs.declared.Moved.the-variants.{On, Refused}
 use Rattle.cursor.specs.declared.Parsed.{Parsed}
 use Rattle.cursor.specs.declared.Parsed.the-variants as Parsed
 use Rattle.cursor.specs.declared.SelfAt.the-variants.{Nobody}
-use Rattle.cursor.proofs.Laws.{Acted, got, gave, moved-did, added-did, step-trans, step-less}
+use Rattle.cursor.proofs.Laws.{Acted, got, gave, moved-did, added-did, step-trans, step-less, ident-on, ident-is}
 use Rattle.cursor.proofs.Wording.{spelt-end, spelt-open, spelt-close}
 use Rattle.functions.specs.declared.params.OpenedFun.{OpenedFun}
 use Rattle.functions.specs.declared.params.OpenedFun.the-variants as OpenedFun
@@ -224,22 +224,16 @@ module _ (l : Limits) {s m w : List ℕ} {c : Cursor} (g : Rests s m w c) {u : I
   fun-no f = record { is = let h = rw f at (a .moves .is m w) in rw (← h) at (is-fun l s m w c); ok = tt }
 
   module _ {c1 : Cursor} {n : Name} (f : u ≡ Ident.Found c1 n) where
-    ident-on : (c1 ≡ moveCur (c1 .at) c) × ((c .at + 1 ≤ c1 .at) × (c .at ≤ length s → c1 .at ≤ length s))
-    ident-on = let h = rw f at (a .moves .ok) in h
-
-    ident-is : answered (nameIn s n, parserOf s m w c1) ≡ R.expectIdent s (parserOf s m w c)
-    ident-is = rw f at (a .moves .is m w)
-
     ident-ready : CursorReady s m w c1
-    ident-ready = rw (ident-on .0) (ready-moved (g .ready) (c1 .at) (omega (arith, ident-on .1 .0)) (ident-on .1 .1 (g .ready .inside)))
+    ident-ready = rw (ident-on a f .0) (ready-moved (g .ready) (c1 .at) (omega (arith, ident-on a f .1 .0)) (ident-on a f .1 .1 (g .ready .inside)))
 
-    pub fun-tables : View.ProgramReady m (c1 .counts)
-    fun-tables = ident-ready .tables
+    pub ident-tables : View.ProgramReady m (c1 .counts)
+    ident-tables = ident-ready .tables
 
     module _ {m1 : List ℕ} {x : OpenedFun} (b : Funs l n m c1 m1 x) where
       pub fun-no2 : {e : ℕ} → x ≡ OpenedFun.Refused e → Fun l s m w c m1 w (OpenedFun.Refused e)
       unfolding funOf
-      fun-no2 i = record { is = let h = rw i at (b .is s w) in rw (← ident-is, ← h) at (is-fun l s m w c); ok = tt }
+      fun-no2 i = record { is = let h = rw i at (b .is s w) in rw (← ident-is a f m w, ← h) at (is-fun l s m w c); ok = tt }
 
       module _ {c2 : Cursor} {k : FunId} (i : x ≡ OpenedFun.Done c2 k) {y : Moved} (d : Expects s 40 c2 y) where
         entered : Entered m1 (k .0) c1 c2
@@ -276,7 +270,7 @@ module _ (l : Limits) {s m w : List ℕ} {c : Cursor} (g : Rests s m w c) {u : I
 
         pub fun-no3 : {e : ℕ} → y ≡ Refused e → Fun l s m w c m1 w (OpenedFun.Refused e)
         unfolding funOf
-        fun-no3 j = record { is = rw (← ident-is, ← entered-is, ← gave opened (ap movedOf j)) at (is-fun l s m w c); ok = tt }
+        fun-no3 j = record { is = rw (← ident-is a f m w, ← entered-is, ← gave opened (ap movedOf j)) at (is-fun l s m w c); ok = tt }
 
         module _ {c3 : Cursor} (j : y ≡ On c3) where
           open-went : Acted (R.expect s "(") 1 s m1 w c2 m1 w tt c3
@@ -289,14 +283,14 @@ module _ (l : Limits) {s m w : List ℕ} {c : Cursor} (g : Rests s m w c) {u : I
                 script = h .script;
                 inside = h .inside;
                 scratch = h .scratch;
-                args = open-went .step .args ∙ (ap (λ (z : Cursor). z .args) (entered .cur) ∙ (ap (λ (z : Cursor). z .args) (ident-on .0) ∙ g .args));
+                args = open-went .step .args ∙ (ap (λ (z : Cursor). z .args) (entered .cur) ∙ (ap (λ (z : Cursor). z .args) (ident-on a f .0) ∙ g .args));
                 vars = omega (arith, h .room .law, h .room .script, h .room .aside);
               }
 
           module _ {w1 : List ℕ} {t : Moved} (p : Params s w c3 w1 t) where
             pub fun-no4 : {e : ℕ} → t ≡ Refused e → Fun l s m w c m1 w1 (OpenedFun.Refused e)
             unfolding funOf
-            fun-no4 q = record { is = let h = rw q at (p .is (View.limitsOf l) m1) in rw (← ident-is, ← entered-is, ← open-went .is, ← h) at (is-fun l s m w c); ok = tt }
+            fun-no4 q = record { is = let h = rw q at (p .is (View.limitsOf l) m1) in rw (← ident-is a f m w, ← entered-is, ← open-went .is, ← h) at (is-fun l s m w c); ok = tt }
 
             module _ {c4 : Cursor} (q : t ≡ On c4) {v : Moved} (r : Expects s 41 c4 v) where
               named : Named s w c3 w1 c4
@@ -310,7 +304,7 @@ module _ (l : Limits) {s m w : List ℕ} {c : Cursor} (g : Rests s m w c) {u : I
 
               pub fun-no5 : {e : ℕ} → v ≡ Refused e → Fun l s m w c m1 w1 (OpenedFun.Refused e)
               unfolding funOf
-              fun-no5 z = record { is = let h = rw z at close-is in rw (← ident-is, ← entered-is, ← open-went .is, ← named-is, ← h) at (is-fun l s m w c); ok = tt }
+              fun-no5 z = record { is = let h = rw z at close-is in rw (← ident-is a f m w, ← entered-is, ← open-went .is, ← named-is, ← h) at (is-fun l s m w c); ok = tt }
 
               module _ {c5 : Cursor} (z : v ≡ On c5) where
                 close-on : (c5 ≡ moveCur (c5 .at) c4) × ((c4 .at + 1 ≤ c5 .at) × (c4 .at ≤ length s → c5 .at ≤ length s))
@@ -351,7 +345,7 @@ module _ (l : Limits) {s m w : List ℕ} {c : Cursor} (g : Rests s m w c) {u : I
                 module _ {m2 w2 : List ℕ} {o : Moved} (B : Takes (bodyOf (View.limitsOf l) s (namesIn s w1 (c5 .args))) 1 s m1 w1 c5 m2 w2 (movedOf o)) where
                   pub fun-no6 : {e : ℕ} → o ≡ Refused e → Fun l s m w c m2 w2 (OpenedFun.Refused e)
                   unfolding funOf
-                  fun-no6 y = record { is = let h = rw y at (B .is) ∙ body-args in rw (← ident-is, ← entered-is, ← open-went .is, ← named-is, ← closed-is, ← h) at (is-fun l s m w c); ok = tt }
+                  fun-no6 y = record { is = let h = rw y at (B .is) ∙ body-args in rw (← ident-is a f m w, ← entered-is, ← open-went .is, ← named-is, ← closed-is, ← h) at (is-fun l s m w c); ok = tt }
 
                   pub fun-yes : {c6 : Cursor} → o ≡ On c6 → Fun l s m w c m2 w2 (OpenedFun.Done c6 k)
                   unfolding funOf
@@ -359,19 +353,32 @@ module _ (l : Limits) {s m w : List ℕ} {c : Cursor} (g : Rests s m w c) {u : I
                       let ok = rw y at (B .ok) in
                       let q = entered .cur in
                       record {
-                        is = let h = rw y at (B .is) ∙ body-args in rw (← ident-is, ← entered-is, ← open-went .is, ← named-is, ← closed-is, ← h) at (is-fun l s m w c);
+                        is = let h = rw y at (B .is) ∙ body-args in rw (← ident-is a f m w, ← entered-is, ← open-went .is, ← named-is, ← closed-is, ← h) at (is-fun l s m w c);
                         ok = (
                           ok .0,
                           record {
-                            on = omega (arith, ok .1 .on, close-on .1 .0, named .further, open-went .step .on, entered-at, ident-on .1 .0);
+                            on = omega (arith, ok .1 .on, close-on .1 .0, named .further, open-went .step .on, entered-at, ident-on a f .1 .0);
                             class =
-                                ok .1 .class ∙ (ap (λ (y : Cursor). y .class) whole-cur ∙ (open-went .step .class ∙ (ap (λ (y : Cursor). y .class) q ∙ ap (λ (y : Cursor). y .class) (ident-on .0))));
+                                ok .1 .class ∙ (ap (λ (y : Cursor). y .class) whole-cur
+                                ∙ (open-went .step .class ∙ (ap (λ (y : Cursor). y .class) q ∙ ap (λ (y : Cursor). y .class) (ident-on a f .0))));
                             functions =
-                                omega
-                                (arith, ok .1 .functions, ap (λ (y : Cursor). y .counts .functions) whole-cur, open-went .step .functions, entered .functions, ap (λ (y : Cursor). y .counts .functions) (ident-on .0));
+                                omega (
+                                  arith,
+                                  ok .1 .functions,
+                                  ap (λ (y : Cursor). y .counts .functions) whole-cur,
+                                  open-went .step .functions,
+                                  entered .functions,
+                                  ap (λ (y : Cursor). y .counts .functions) (ident-on a f .0),
+                                );
                             classes =
-                                omega
-                                (arith, ok .1 .classes, ap (λ (y : Cursor). y .counts .classes) whole-cur, open-went .step .classes, entered .classes, ap (λ (y : Cursor). y .counts .classes) (ident-on .0));
+                                omega (
+                                  arith,
+                                  ok .1 .classes,
+                                  ap (λ (y : Cursor). y .counts .classes) whole-cur,
+                                  open-went .step .classes,
+                                  entered .classes,
+                                  ap (λ (y : Cursor). y .counts .classes) (ident-on a f .0),
+                                );
                           },
                         );
                       }

@@ -10,11 +10,12 @@ use Rattle.rules.specs.Program as P
 use Rattle.rules.specs.Reading.{Reads, withEnv, withSelf, theClass, expect, expectIdent, pushSelf, pushParams, parseParam, turns, parseStatements, parseStatement, endBlock, newFun, parseFun}
 use Rattle.program.specs.View as View
 use Rattle.program.specs.declared.Limits.{Limits}
-use Rattle.cursor.specs.Cursor.{parserOf, size, CursorReady}
+use Rattle.cursor.specs.Cursor.{parserOf, CursorReady}
 use Rattle.cursor.specs.Promises.{Out, done, stop, outcome, movedOf}
 use Rattle.cursor.specs.declared.Cursor.{Cursor}
 use Rattle.cursor.specs.declared.Moved.{Moved}
 use Rattle.cursor.specs.declared.Moved.the-variants.{On, Refused}
+use Rattle.variables.specs.Layout.{bindingsMost}
 use Rattle.functions.specs.declared.params.OpenedFun.{OpenedFun}
 use Rattle.functions.specs.declared.params.OpenedFun.the-variants as OpenedFun
 use Rattle.functions.specs.params.Names.{namesIn, Lie}
@@ -22,7 +23,7 @@ use Rattle.functions.specs.params.Promises.{funnedOf}
 use Rattle.statements.specs.Acts.{stopsAt}
 
 abbrev pub clearCur : Cursor → Cursor
-clearCur c = record { at = c .at; counts = c .counts; class = c .class; receiver = c .receiver; block = c .block; vars = 0; aside = 8192; args = c .args }
+clearCur c = record { at = c .at; counts = c .counts; class = c .class; receiver = c .receiver; block = c .block; vars = 0; aside = bindingsMost; args = c .args }
 
 -- ---- the parts of the rules' function
 
@@ -63,7 +64,7 @@ pub record Headed (c : Cursor) (m' w' : List ℕ) (w : List ℕ) (c' : Cursor) :
   pub class : c' .class ≡ c .class
   pub block : c' .block ≡ c .block
   pub vars : c' .vars ≡ c .args
-  pub aside : c' .aside ≡ 8192
+  pub aside : c' .aside ≡ bindingsMost
   pub args : c' .args ≡ 0
   pub functions : c' .counts .functions ≡ c .counts .functions
   pub classes : c' .counts .classes ≡ c .counts .classes

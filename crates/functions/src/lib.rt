@@ -31,7 +31,7 @@ fn cleared(cursor: Cursor) -> Cursor
         receiver,
         block,
         vars: 0,
-        aside: 8192,
+        aside: variables::BINDINGS_MOST,
         args: cursor.args,
     }
 }
@@ -62,7 +62,8 @@ fn parse_body(
 ) -> Moved
     requires { ⌜ BodyBegun (now script) (now program) (now scratch) cursor ⌝ }
     requires { ⌜ Small limits ⌝ }
-    ensures { λ r. ⌜ Takes (bodyOf (limitsOf limits) (now (script .entry)) (namesIn (now (script .entry)) (now (scratch .entry)) (cursor .args))) 1 (now (script .entry)) (now (program .entry)) (now (scratch .entry)) cursor (now (program .exit)) (now (scratch .exit)) (movedOf r) ⌝ }
+    ensures { λ r. ⌜ Takes (bodyOf (limitsOf limits) (now (script .entry)) (namesIn (now (script .entry)) (now (scratch .entry)) (cursor .args))) 1
+        (now (script .entry)) (now (program .entry)) (now (scratch .entry)) cursor (now (program .exit)) (now (scratch .exit)) (movedOf r) ⌝ }
 {
     match open_body(program, scratch, cursor, limits) {
         Moved::Refused(e) => Moved::Refused(e),

@@ -20,11 +20,14 @@ ghost use mathlib.Core.Path.{_≡_};
 ghost use Prim.Native.Nat.{_<_, _≤_};
 ghost use lib.ListN.{length};
 ghost use Rattle.program.specs.View.{ProgramReady, Small};
-ghost use Rattle.cursor.specs.Cursor.{size, bindCur};
+ghost use Rattle.cursor.specs.Cursor.{bindCur};
+ghost use Rattle.memory.specs.Layout.{operandsMost};
+ghost use Rattle.variables.specs.Layout.{bindingsMost};
+ghost use Rattle.cursor.specs.Layout.{scratchSize};
 ghost use Rattle.functions.specs.params.Promises.{receiveCur, enterCur, PutsName, Head, Params, ParamsRoom, PushesParam, ParamsFilled, PushesParams, PushesSelf, Funs};
 
 // Where the names of parameters wait in scratch memory, two words each.
-const STACK: usize = 32768;
+const STACK: usize = cursor::STACK;
 
 // A function and the cursor behind its name, or the number of a refusal.
 pub enum OpenedFun {
@@ -70,7 +73,7 @@ fn entered(cursor: Cursor, counts: Counts, b: BlockId) -> Cursor
 }
 
 fn bound(cursor: Cursor) -> Cursor
-    requires { ⌜ cursor .vars < 8192 ⌝ }
+    requires { ⌜ cursor .vars < bindingsMost ⌝ }
     ensures { λ x. ⌜ x ≡ bindCur cursor ⌝ }
 {
     let counts = cursor.counts;
@@ -93,8 +96,8 @@ fn bound(cursor: Cursor) -> Cursor
 
 // A name waits behind those that do.
 fn push_name(scratch: &mut [usize], cursor: Cursor, n: Name) -> Cursor
-    requires { ⌜ size ≤ length (now scratch) ⌝ }
-    requires { ⌜ cursor .args < 8192 ⌝ }
+    requires { ⌜ scratchSize ≤ length (now scratch) ⌝ }
+    requires { ⌜ cursor .args < operandsMost ⌝ }
     ensures { λ r. ⌜ PutsName (now (scratch .entry)) cursor n (now (scratch .exit)) r ⌝ }
 {
     let at = STACK + 2 * cursor.args;

@@ -67,7 +67,17 @@ mark-same t a b e = ap (set t a) (ap (set (getD t a []) b) (sym e) ∙ set-getD 
 read-same : (c i : ℕ) (t : State) → marked (t .ivarReads) c i ≡ true → addRead c i t ≡ t
 read-same c i t e =
     ap
-    (λ (rd : List (List 𝔹)). record { kinds = t .kinds; live = t .live; calledBy = t .calledBy; ivarKinds = t .ivarKinds; ivarReads = rd; insnWorklist = t .insnWorklist; blockWorklist = t .blockWorklist; draining = t .draining; count = t .count })
+    (λ (rd : List (List 𝔹)). record {
+      kinds = t .kinds;
+      live = t .live;
+      calledBy = t .calledBy;
+      ivarKinds = t .ivarKinds;
+      ivarReads = rd;
+      insnWorklist = t .insnWorklist;
+      blockWorklist = t .blockWorklist;
+      draining = t .draining;
+      count = t .count;
+    })
     (mark-same (t .ivarReads) c i e)
 
 module _ (L : Limits) (p : Program) where
@@ -254,7 +264,8 @@ module _ (L : Limits) (p : Program) where
                 → Covered (getD (t .kinds) j Empty) (d .kind)
             met l x y a z =
                 absurd
-                (none-in (wokenReads L p t m c) l (woken t m n q c (d .place) j o (subst (λ (x : ℕ). marked (t .ivarReads) x j ≡ true) a (y .met)) (d .named) (subst (λ (x : ℕ). ivarNamed p x n ≡ some (d .place)) a (y .named ∙ ap some z))))
+                (none-in (wokenReads L p t m c) l (woken t m n q c (d .place) j o (subst (λ (x : ℕ). marked (t .ivarReads) x j ≡ true) a (y .met))
+                (d .named) (subst (λ (x : ℕ). ivarNamed p x n ≡ some (d .place)) a (y .named ∙ ap some z))))
 
     -- a block that goes live
     pub live-settled : (x : ℕ) (s e : State) → goLive L p x s ≡ answered (tt, e) → Settled p n j b (s .kinds) (s .ivarKinds) (s .ivarReads) → Settled p n j b (e .kinds) (e .ivarKinds) (e .ivarReads)

@@ -131,10 +131,12 @@ module _ (L : Limits) (p : Program) where
     walk-leave i (Jump b) = C .block b
     walk-leave i (IfTrue v t e) =
         walk-kind v (λ k. unless (not (admits true k)) (pushBlock L p t) >> unless (not (admits false k)) (pushBlock L p e))
-        (λ k. walk-seq (unless (not (admits true k)) (pushBlock L p t)) (unless (not (admits false k)) (pushBlock L p e)) (walk-unless (not (admits true k)) (pushBlock L p t) (C .block t)) (walk-unless (not (admits false k)) (pushBlock L p e) (C .block e)))
+        (λ k. walk-seq (unless (not (admits true k)) (pushBlock L p t)) (unless (not (admits false k)) (pushBlock L p e))
+        (walk-unless (not (admits true k)) (pushBlock L p t) (C .block t)) (walk-unless (not (admits false k)) (pushBlock L p e) (C .block e)))
     walk-leave i (Return v) =
         walk-kind v (λ k. the (λ s. callersOf L p s (functionOf p i)) >>= (λ cs. unless (isEmpty k) (each cs (wakeIfWider L p k))))
-        (λ k. C .two (the (λ s. callersOf L p s (functionOf p i))) (λ cs. unless (isEmpty k) (each cs (wakeIfWider L p k))) (C .looked (λ s. callersOf L p s (functionOf p i)) (callers-seen (functionOf p i)))
+        (λ k. C .two (the (λ s. callersOf L p s (functionOf p i))) (λ cs. unless (isEmpty k) (each cs (wakeIfWider L p k)))
+        (C .looked (λ s. callersOf L p s (functionOf p i)) (callers-seen (functionOf p i)))
         (λ cs. walk-unless (isEmpty k) (each cs (wakeIfWider L p k)) (walk-each cs (wakeIfWider L p k) (walk-wake k))))
 
     walk-back : (i : ℕ) → K Kind (the (λ s. flowsBack L p s i) >>= joinAll)

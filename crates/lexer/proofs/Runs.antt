@@ -2,7 +2,7 @@
 use mathlib.Core.Bool.{Bool, true, false}
 use mathlib.Core.Path.{_≡_, sym, _∙_}
 use mathlib.Core.List.{List, [], _∷_}
-use Prim.Native.Nat.{ℕ, suc, _+_, _-_, _*_, _≤_, _<_, _^_}
+use Prim.Native.Nat.{ℕ, suc, _+_, _-_, _*_, _≤_, _<_, _^_, _/_}
 use native.Mathlib.Numerals.{add-one}
 use native.Mathlib.Omega.{arith}
 use lib.ListN.{length, getD, drop, drop-of-length-le}
@@ -66,7 +66,7 @@ module _ {s : List ℕ} {a n k v i : ℕ} (g : Counting s a n k v i) where
   least : i < k → v * 10 + (getD s (a + i) 0 - 48) ≤ decimal 0 (name s a n)
   least h = omega (arith, decimal-le (v * 10 + (getD s (a + i) 0 - 48)) (name s (a + (i + 1)) (k - (i + 1))), turned h)
 
-  pub lit-tens : i < k → 922337203685477580 < v → Over ≡ fitting (decimal 0 (name s a n))
+  pub lit-tens : i < k → 9223372036854775807 / 10 < v → Over ≡ fitting (decimal 0 (name s a n))
   lit-tens h o = over (least h) (omega arith)
 
   pub lit-over : {d : ℕ} → i < k → d ≡ getD s (a + i) 0 - 48 → 9223372036854775807 < v * 10 + d → Over ≡ fitting (decimal 0 (name s a n))

@@ -11,16 +11,10 @@ use borrow.Author.Tests.{eq-eqb, eqb-true, leb-true, lt-leb, not-true}
 use Rattle.rules.specs.Lists.{same, any, all}
 use Rattle.rules.specs.Words.{letter, digit, sign, startsBy, isLiteral, isIdent}
 use Rattle.rules.specs.Words as W
+use Rattle.rules.proofs.Exactness.Promise.{and-left, and-right}
+use Rattle.rules.proofs.Wellformed.Tests.{all-map}
 use Rattle.lexer.specs.Lexed.{Fixed, fixed, keptWords, signs, kindIn, otherKind, kindOf, valueOf}
 use Rattle.lexer.proofs.Names.{by-test}
-
-pub and-left : (a b : Bool) → (a && b) ≡ true → a ≡ true
-and-left true b e = refl
-and-left false b e = e
-
-pub and-right : (a b : Bool) → (a && b) ≡ true → b ≡ true
-and-right true b e = e
-and-right false b e = cc
 
 pub same-eq : (x y : List ℕ) → same x y ≡ true → x ≡ y
 same-eq [] [] e = refl
@@ -67,10 +61,6 @@ all-at f [] i d a h = absurd (not-suc-le-zero h)
 all-at f (x ∷ l) zero d a h = and-left (f x) (all f l) a
 all-at f (x ∷ l) (suc i) d a h = all-at f l i d (and-right (f x) (all f l) a) (le-of-suc-le-suc h)
 
-all-sub : {A : Type 0} (f g : A → Bool) (l : List A) → ((x : A) → f x ≡ true → g x ≡ true) → all f l ≡ true → all g l ≡ true
-all-sub f g [] h a = refl
-all-sub f g (x ∷ l) h a = rw (h x (and-left (f x) (all f l) a)) (all-sub f g l h (and-right (f x) (all f l) a))
-
 -- a text is that of a table's entry just where its kind is that entry's
 entry-kind : (l : List Fixed) (t : List ℕ) (d i : ℕ) (e : Fixed) → plain l ≡ true → all (λ (x : Fixed). not (eqb d (x .kind))) l ≡ true → i < length l
     → same t (getD l i e .text) ≡ eqb (kindIn l t d) (getD l i e .kind)
@@ -80,7 +70,7 @@ entry-kind (x ∷ l) t d zero e p a h =
     (λ f.
     sym
     (kind-not l t d (x .kind)
-    (all-sub (apart x) (λ (y : Fixed). not (eqb (y .kind) (x .kind))) l
+    (all-map (apart x) (λ (y : Fixed). not (eqb (y .kind) (x .kind))) l
     (λ y g. and-right (not (eqb (x .kind) (y .kind))) _ (and-right (not (same (x .text) (y .text))) _ g))
     (and-left (all (apart x) l) (plain l) p))
     (not-true (eqb d (x .kind)) (and-left (not (eqb d (x .kind))) _ a))))

@@ -15,7 +15,8 @@ use Rattle.program.proofs.Tables.{tab-length}
 module _ {A : Type 0} (t : A → Bool) where
   places-snoc : (k : ℕ) (l : List A) (x : A) → placesFrom k t (l ++ x ∷ []) ≡ placesFrom k t l ++ consIf (t x) (k + length l) []
   places-snoc k [] x = let e : k + 0 ≡ k = omega arith in rw e
-  places-snoc k (y ∷ l) x = let e : k + suc (length l) ≡ suc k + length l = omega arith in rw (places-snoc (suc k) l x, e) (cons-append (t y) k (placesFrom (suc k) t l) (consIf (t x) (suc k + length l) []))
+  places-snoc k (y ∷ l) x = let e : k + suc (length l) ≡ suc k + length l = omega arith in
+      rw (places-snoc (suc k) l x, e) (cons-append (t y) k (placesFrom (suc k) t l) (consIf (t x) (suc k + length l) []))
     where
       cons-append : (b : Bool) (j : ℕ) (p q : List ℕ) → consIf b j (p ++ q) ≡ consIf b j p ++ q
       cons-append true j p q = refl

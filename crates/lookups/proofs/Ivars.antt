@@ -16,7 +16,7 @@ use Rattle.rules.specs.Program as P
 use Rattle.rules.specs.Program.{ivarNamed}
 use Rattle.rules.specs.Reading.{withProgram, pushIvar}
 use Rattle.program.specs.Tab.{tab}
-use Rattle.program.specs.Rows.{size, blocksAt, classesAt, ivarsAt, nameIn, classAt, ivarAt, ivarsOf}
+use Rattle.program.specs.Rows.{nameIn, classAt, ivarAt, ivarsOf}
 use Rattle.program.specs.View.{programView, classesOf, ProgramReady, Small}
 use Rattle.program.specs.declared.Counts.{Counts}
 use Rattle.program.specs.declared.Limits.{Limits}
@@ -24,6 +24,8 @@ use Rattle.program.specs.declared.Name.{Name}
 use Rattle.program.proofs.Tables.{tab-ext, tab-more, tab-set, tab-length}
 use Rattle.program.proofs.Viewing.{Keeps, owns-same, opnds-end, insn-keep, fun-keep, instructions-keep, functions-keep, blocks-keep}
 use Rattle.program.proofs.Adding.{terminated-same, listed-same}
+use Rattle.memory.specs.Layout.{classesMost, ivarsMost}
+use Rattle.program.specs.Layout.{blocksAt, classesAt, ivarsAt, programSize, classWords, ivarRowWords}
 use Rattle.lookups.specs.Look.{ivarRow, PutsIvar, Declares, ivarFound}
 use Rattle.lookups.specs.declared.Declared.the-variants.{Done, Refused}
 use Rattle.lookups.specs.declared.FoundIvar.{FoundIvar}
@@ -31,11 +33,11 @@ use Rattle.lookups.specs.declared.FoundIvar.the-variants.{At, Nothing}
 use Rattle.lookups.proofs.Rows.{ivars-are, class-is}
 
 -- the three stores
-pub ivar-put : (m : List ℕ) (k j : ℕ) (n : Name) → size ≤ length m → k < 64 → j < 64
-    → PutsIvar k j n m (set (set (set m (39680 + 128 * k + 2 * j) (n .start)) (39680 + 128 * k + 2 * j + 1) (n .len)) (39424 + 4 * k + 2) (j + 1))
+pub ivar-put : (m : List ℕ) (k j : ℕ) (n : Name) → programSize ≤ length m → k < classesMost → j < ivarsMost
+    → PutsIvar k j n m (set (set (set m (ivarsAt + ivarRowWords * k + 2 * j) (n .start)) (ivarsAt + ivarRowWords * k + 2 * j + 1) (n .len)) (classesAt + classWords * k + 2) (j + 1))
 ivar-put m k j n long hk hj =
-    let at = 39680 + 128 * k + 2 * j in
-    let row = 39424 + 4 * k + 2 in
+    let at = ivarsAt + ivarRowWords * k + 2 * j in
+    let row = classesAt + classWords * k + 2 in
     let m1 = set m at (n .start) in
     let m2 = set m1 (at + 1) (n .len) in
     let l1 = length-set m at (n .start) in
@@ -55,7 +57,7 @@ ivar-put m k j n long hk hj =
 abbrev none-of : Counts → Counts
 none-of c = record { functions = c .functions; classes = 0; blocks = c .blocks; insns = c .insns; opnds = c .opnds; listed = c .listed }
 
-module _ {m m' : List ℕ} {c : Counts} {k : ℕ} (n : Name) (r : ProgramReady m c) (hk : k < c .classes) (few : ivarsOf m k < 64) (p : PutsIvar k (ivarsOf m k) n m m') where
+module _ {m m' : List ℕ} {c : Counts} {k : ℕ} (n : Name) (r : ProgramReady m c) (hk : k < c .classes) (few : ivarsOf m k < ivarsMost) (p : PutsIvar k (ivarsOf m k) n m m') where
   -- a word outside of the two tables, and one of another class
   apart : (i : ℕ) → i < classesAt → getD m' i 0 ≡ getD m i 0
   apart i h = p .other i (λ z. omega arith) (λ z. omega arith) (λ z. omega (arith, r .classes))
@@ -66,14 +68,14 @@ module _ {m m' : List ℕ} {c : Counts} {k : ℕ} (n : Name) (r : ProgramReady m
       let most = r .classes in
       let here = r .ivars d h in
       rw (
-        p .other (classesAt + 4 * d) (λ z. omega arith) (λ z. omega arith) (λ z. omega arith),
-        p .other (classesAt + 4 * d + 1) (λ z. omega arith) (λ z. omega arith) (λ z. omega arith),
-        p .other (classesAt + 4 * d + 2) (λ z. omega arith) (λ z. omega arith) (λ z. e (omega arith)),
+        p .other (classesAt + classWords * d) (λ z. omega arith) (λ z. omega arith) (λ z. omega arith),
+        p .other (classesAt + classWords * d + 1) (λ z. omega arith) (λ z. omega arith) (λ z. omega arith),
+        p .other (classesAt + classWords * d + 2) (λ z. omega arith) (λ z. omega arith) (λ z. e (omega arith)),
         tab-ext (λ j. nameIn s (ivarAt m' d j)) (λ j. nameIn s (ivarAt m d j)) (ivarsOf m d)
             (λ j q.
             rw (
-              p .other (ivarsAt + 128 * d + 2 * j) (λ z. e (omega arith)) (λ z. omega arith) (λ z. omega arith),
-              p .other (ivarsAt + 128 * d + 2 * j + 1) (λ z. omega arith) (λ z. e (omega arith)) (λ z. omega arith),
+              p .other (ivarsAt + ivarRowWords * d + 2 * j) (λ z. e (omega arith)) (λ z. omega arith) (λ z. omega arith),
+              p .other (ivarsAt + ivarRowWords * d + 2 * j + 1) (λ z. omega arith) (λ z. e (omega arith)) (λ z. omega arith),
             )),
       )
 
@@ -85,8 +87,8 @@ module _ {m m' : List ℕ} {c : Counts} {k : ℕ} (n : Name) (r : ProgramReady m
       rw (class-is s m c k hk)
       (ap₂ {C = P.Class} (λ a b. record { name = a; ivars = b })
       (rw (
-        p .other (classesAt + 4 * k) (λ z. omega arith) (λ z. omega arith) (λ z. omega arith),
-        p .other (classesAt + 4 * k + 1) (λ z. omega arith) (λ z. omega arith) (λ z. omega arith),
+        p .other (classesAt + classWords * k) (λ z. omega arith) (λ z. omega arith) (λ z. omega arith),
+        p .other (classesAt + classWords * k + 1) (λ z. omega arith) (λ z. omega arith) (λ z. omega arith),
       ))
       (ap (tab (λ i. nameIn s (ivarAt m' k i))) (p .count)
       ∙ tab-more (λ i. nameIn s (ivarAt m' k i)) j
@@ -94,8 +96,8 @@ module _ {m m' : List ℕ} {c : Counts} {k : ℕ} (n : Name) (r : ProgramReady m
       (tab-ext (λ i. nameIn s (ivarAt m' k i)) (λ i. nameIn s (ivarAt m k i)) j
       (λ i q.
       rw (
-        p .other (ivarsAt + 128 * k + 2 * i) (λ z. omega arith) (λ z. omega arith) (λ z. omega arith),
-        p .other (ivarsAt + 128 * k + 2 * i + 1) (λ z. omega arith) (λ z. omega arith) (λ z. omega arith),
+        p .other (ivarsAt + ivarRowWords * k + 2 * i) (λ z. omega arith) (λ z. omega arith) (λ z. omega arith),
+        p .other (ivarsAt + ivarRowWords * k + 2 * i + 1) (λ z. omega arith) (λ z. omega arith) (λ z. omega arith),
       )))
       (ap (nameIn s) (p .here))))
 
@@ -171,7 +173,7 @@ module _ {m m' : List ℕ} {c : Counts} {k : ℕ} (n : Name) (r : ProgramReady m
         ivars = λ d h.
             elim (ℕ-discrete d k) [
               | yes e ↦ rw e (omega (arith, p .count))
-              | no e ↦ rw (p .other (classesAt + 4 * d + 2) (λ z. omega (arith, r .classes)) (λ z. omega (arith, r .classes)) (λ z. e (omega arith))) (r .ivars d h)
+              | no e ↦ rw (p .other (classesAt + classWords * d + 2) (λ z. omega (arith, r .classes)) (λ z. omega (arith, r .classes)) (λ z. e (omega arith))) (r .ivars d h)
             ];
         ranges = λ i h. rw (insn-keep rest-ready rest-keeps i h) (r .ranges i h);
         inside = λ i h. rw (insn-keep rest-ready rest-keeps i h) (r .inside i h);
@@ -180,7 +182,7 @@ module _ {m m' : List ℕ} {c : Counts} {k : ℕ} (n : Name) (r : ProgramReady m
             ∙ ap bitOf (sym (terminated-same (programView s m' c) (programView s m c) b (same-instructions s)));
         listing = λ s. r .listing s ∙ sym (listed-same (programView s m' c) (programView s m c) (same-instructions s));
         firsts = λ d h.
-            rw (p .other (classesAt + 4 * d + 3) (λ z. omega (arith, r .classes)) (λ z. omega (arith, r .classes)) (λ z. omega arith))
+            rw (p .other (classesAt + classWords * d + 3) (λ z. omega (arith, r .classes)) (λ z. omega (arith, r .classes)) (λ z. omega arith))
             (owns-same (fun-keep rest-ready rest-keeps) (r .firsts d h));
       }
 
@@ -208,7 +210,7 @@ module _ (l : Limits) (s m : List ℕ) (c : Counts) (k : ℕ) (n : Name) {q : Fo
     pub ivar-done : {m' : List ℕ} → ProgramReady m c → Small l → ivarsOf m k < l .ivars → PutsIvar k (ivarsOf m k) n m m' → Declares l k n s m c m' Done
     unfolding pushIvar
     ivar-done ready small h p =
-        let few : ivarsOf m k < 64 = omega (arith, small .ivars) in
+        let few : ivarsOf m k < ivarsMost = omega (arith, small .ivars) in
         record {
           is = λ r. rw (free, count-is s m c k hk, lt-ltb (ivarsOf m k) (l .ivars) h) (ap (λ (v : P.Program). answered (tt, withProgram v r)) (ivar-view n ready hk few p s));
           ok = ivar-ready n ready hk few p;

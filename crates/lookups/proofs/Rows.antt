@@ -15,6 +15,7 @@ use Rattle.rules.specs.Lists.{same, isJust, orElse, places, first, final, bytes
 use Rattle.rules.specs.Program as P
 use Rattle.rules.specs.Program.{terminated, functionNamed, methodNamed, ivarNamed, mainFunction}
 use Rattle.rules.specs.Reading.{classNamed}
+use Rattle.rules.proofs.Exactness.Promise.{and-right}
 use Rattle.program.specs.Tab.{tab}
 use Rattle.program.specs.Rows.{nameIn, ownerIn, ownerFrom, funAt, functionIn, classAt, ivarsOf, flagAt}
 use Rattle.program.specs.View.{programView, functionsOf, classesOf, OwnsFrom, ProgramReady, ReadsFun}
@@ -25,8 +26,9 @@ use Rattle.program.specs.declared.Owner.{Owner}
 use Rattle.program.specs.declared.Owner.the-variants.{Class, Nobody}
 use Rattle.program.proofs.Tables.{tab-at, tab-take}
 use Rattle.program.proofs.Viewing.{classes-length}
+use Rattle.program.specs.Layout.{blocksAt, functionsAt, classesAt, ivarsAt, functionWords, classWords, ivarRowWords}
 use Rattle.lookups.specs.Look.{funRow, ivarRow, isFun, isMethod, isMain, isClass, isIvar, LookKnown, Constructs, LookTells, classFound}
-use Rattle.lexer.proofs.Texts.{same-eq, and-right}
+use Rattle.lexer.proofs.Texts.{same-eq}
 use Rattle.lookups.specs.declared.Constructor.the-variants as K
 use Rattle.lookups.specs.declared.FoundClass.{FoundClass}
 use Rattle.lookups.specs.declared.FoundClass.the-variants as C
@@ -35,21 +37,21 @@ use Rattle.lookups.proofs.Finds.{Latest, latest-none, latest-hit, First
 -- ---- tests
 
 module _ (s m : List ℕ) (n : Name) where
-  pub is-fun : (i : ℕ) {r : Bool} → r ≡ same (name s (getD m (38912 + 4 * i) 0) (getD m (38912 + 4 * i + 1) 0)) (nameIn s n) → r ≡ isFun (nameIn s n) (funRow s m i)
+  pub is-fun : (i : ℕ) {r : Bool} → r ≡ same (name s (getD m (functionsAt + functionWords * i) 0) (getD m (functionsAt + functionWords * i + 1) 0)) (nameIn s n) → r ≡ isFun (nameIn s n) (funRow s m i)
   unfolding isFun funRow funAt
   is-fun i e = e
 
-  pub is-class : (i : ℕ) {r : Bool} → r ≡ same (name s (getD m (39424 + 4 * i) 0) (getD m (39424 + 4 * i + 1) 0)) (nameIn s n) → r ≡ isClass (nameIn s n) (classAt s m i)
+  pub is-class : (i : ℕ) {r : Bool} → r ≡ same (name s (getD m (classesAt + classWords * i) 0) (getD m (classesAt + classWords * i + 1) 0)) (nameIn s n) → r ≡ isClass (nameIn s n) (classAt s m i)
   unfolding isClass classAt
   is-class i e = e
 
-  pub is-ivar : (k j : ℕ) {r : Bool} → r ≡ same (name s (getD m (39680 + 128 * k + 2 * j) 0) (getD m (39680 + 128 * k + 2 * j + 1) 0)) (nameIn s n)
+  pub is-ivar : (k j : ℕ) {r : Bool} → r ≡ same (name s (getD m (ivarsAt + ivarRowWords * k + 2 * j) 0) (getD m (ivarsAt + ivarRowWords * k + 2 * j + 1) 0)) (nameIn s n)
       → r ≡ isIvar (nameIn s n) (ivarRow s m k j)
   unfolding isIvar ivarRow
   is-ivar k j e = e
 
-module _ (s m : List ℕ) (i : ℕ) (n : List ℕ) (k : ℕ) {o : Bool} (e : o ≡ isJust (ownerIn (ownerFrom (getD m (38912 + 4 * i + 2) 0))) k) where
-  pub method-here : {r : Bool} → o ≡ true → r ≡ same (name s (getD m (38912 + 4 * i) 0) (getD m (38912 + 4 * i + 1) 0)) n → r ≡ isMethod k n (funRow s m i)
+module _ (s m : List ℕ) (i : ℕ) (n : List ℕ) (k : ℕ) {o : Bool} (e : o ≡ isJust (ownerIn (ownerFrom (getD m (functionsAt + functionWords * i + 2) 0))) k) where
+  pub method-here : {r : Bool} → o ≡ true → r ≡ same (name s (getD m (functionsAt + functionWords * i) 0) (getD m (functionsAt + functionWords * i + 1) 0)) n → r ≡ isMethod k n (funRow s m i)
   unfolding isMethod funRow funAt
   method-here t w = rw (sym e ∙ t) w
 
@@ -190,7 +192,7 @@ module _ (s m : List ℕ) (c : Counts) (k : ℕ) (n : Name) {i : ℕ} (h : k < c
 
 -- ---- blocks
 
-pub tells-is : {m : List ℕ} {c : Counts} (b : ℕ) → ProgramReady m c → b < c .blocks → LookTells m c b (not (eqb (getD m (36864 + 2 * b + 1) 0) 0))
+pub tells-is : {m : List ℕ} {c : Counts} (b : ℕ) → ProgramReady m c → b < c .blocks → LookTells m c b (not (eqb (getD m (blocksAt + 2 * b + 1) 0) 0))
 tells-is {m = m} {c = c} b r h = record { is = λ s. go (terminated (programView s m c) b) (r .flags s b h) }
   where
     go : (t : Bool) → flagAt m b ≡ bitOf t → not (eqb (flagAt m b) 0) ≡ t

@@ -14,8 +14,9 @@ use Rattle.program.specs.declared.Name.{Name}
 use Rattle.program.specs.declared.Owner.{Owner}
 use Rattle.program.specs.declared.Limits.{Limits}
 use Rattle.program.specs.declared.Counts.{Counts}
-use Rattle.program.specs.Rows.{classesAt, ivarsAt, nameIn, ownerIn, funAt, functionIn, ivarAt, ivarsOf}
+use Rattle.program.specs.Rows.{nameIn, ownerIn, funAt, functionIn, ivarAt, ivarsOf}
 use Rattle.program.specs.View.{programView, ProgramReady, limitsOf}
+use Rattle.program.specs.Layout.{classesAt, ivarsAt, classWords, ivarRowWords}
 use Rattle.lookups.specs.declared.FoundFun.{FoundFun}
 use Rattle.lookups.specs.declared.FoundFun.the-variants as F
 use Rattle.lookups.specs.declared.Constructor.{Constructor}
@@ -85,7 +86,7 @@ pub record LookTells (m : List ℕ) (c : Counts) (b : ℕ) (r : 𝔹) : Type 0 w
 -- an attribute's name stands at place j of class k, and the class has one attribute more
 pub record PutsIvar (k j : ℕ) (n : Name) (m m' : List ℕ) : Type 0 where
   pub len-same : length m' ≡ length m
-  pub other : (i : ℕ) → (i ≡ ivarsAt + 128 * k + 2 * j → ⊥) → (i ≡ ivarsAt + 128 * k + 2 * j + 1 → ⊥) → (i ≡ classesAt + 4 * k + 2 → ⊥)
+  pub other : (i : ℕ) → (i ≡ ivarsAt + ivarRowWords * k + 2 * j → ⊥) → (i ≡ ivarsAt + ivarRowWords * k + 2 * j + 1 → ⊥) → (i ≡ classesAt + classWords * k + 2 → ⊥)
       → getD m' i 0 ≡ getD m i 0
   pub here : ivarAt m' k j ≡ n
   pub count : ivarsOf m' k ≡ j + 1

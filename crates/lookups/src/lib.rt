@@ -11,8 +11,10 @@ ghost use Prim.Native.Nat.{_+_, _*_, _≤_, _<_, min};
 ghost use lib.ListN.{length};
 ghost use Rattle.rules.specs.Lists.{bytes, orElse};
 ghost use Rattle.rules.specs.Program.{functionNamed, methodNamed, ivarNamed, mainFunction};
-ghost use Rattle.program.specs.Rows.{size, nameIn, ownerIn, classAt};
+ghost use Rattle.program.specs.Rows.{nameIn, ownerIn, classAt};
 ghost use Rattle.program.specs.View.{programView, ProgramReady, Small};
+ghost use Rattle.memory.specs.Layout.{functionsMost, classesMost, ivarsMost};
+ghost use Rattle.program.specs.Layout.{programSize};
 ghost use Rattle.lookups.specs.Look.{funFound, ivarFound, funRow, ivarRow, isFun, isMethod, isMain, isClass, isIvar, LookKnown, Constructs, LookTells, PutsIvar, Declares};
 
 pub enum FoundFun {
@@ -44,11 +46,11 @@ pub enum Declared {
 // ---- tests of a row
 
 fn fun_is(script: &[u8], program: &[usize], f: FunId, n: Name) -> bool
-    requires { ⌜ size ≤ length (now program) ⌝ }
-    requires { ⌜ f .0 < 128 ⌝ }
+    requires { ⌜ programSize ≤ length (now program) ⌝ }
+    requires { ⌜ f .0 < functionsMost ⌝ }
     ensures { λ r. ⌜ r ≡ isFun (nameIn (now (script .entry)) n) (funRow (now (script .entry)) (now (program .entry)) (f .0)) ⌝ }
 {
-    let at = program::FUNCTIONS + 4 * (f.0 as usize);
+    let at = program::FUNCTIONS + program::FUNCTION_WORDS * (f.0 as usize);
     lexer::same_name(script, program[at], program[at + 1], n.start, n.len)
 }
 
@@ -64,7 +66,7 @@ fn method_is(
     requires { ⌜ f .0 < counts .functions ⌝ }
     ensures { λ r. ⌜ r ≡ isMethod (k .0) (nameIn (now (script .entry)) n) (funRow (now (script .entry)) (now (program .entry)) (f .0)) ⌝ }
 {
-    let at = program::FUNCTIONS + 4 * (f.0 as usize);
+    let at = program::FUNCTIONS + program::FUNCTION_WORDS * (f.0 as usize);
     if program::is_owned(program[at + 2], k) {
         return lexer::same_name(script, program[at], program[at + 1], n.start, n.len);
     }
@@ -76,7 +78,7 @@ fn constructor_is(script: &[u8], program: &[usize], counts: Counts, f: FunId, k:
     requires { ⌜ f .0 < counts .functions ⌝ }
     ensures { λ r. ⌜ r ≡ isMethod (k .0) (bytes "initialize") (funRow (now (script .entry)) (now (program .entry)) (f .0)) ⌝ }
 {
-    let at = program::FUNCTIONS + 4 * (f.0 as usize);
+    let at = program::FUNCTIONS + program::FUNCTION_WORDS * (f.0 as usize);
     if program::is_owned(program[at + 2], k) {
         return lexer::spells(script, program[at], program[at + 1], b"initialize");
     }
@@ -102,20 +104,20 @@ fn main_is(script: &[u8], program: &[usize], counts: Counts, f: FunId) -> bool
 }
 
 fn class_is(script: &[u8], program: &[usize], k: ClassId, n: Name) -> bool
-    requires { ⌜ size ≤ length (now program) ⌝ }
-    requires { ⌜ k .0 < 64 ⌝ }
+    requires { ⌜ programSize ≤ length (now program) ⌝ }
+    requires { ⌜ k .0 < classesMost ⌝ }
     ensures { λ r. ⌜ r ≡ isClass (nameIn (now (script .entry)) n) (classAt (now (script .entry)) (now (program .entry)) (k .0)) ⌝ }
 {
-    let at = program::CLASSES + 4 * (k.0 as usize);
+    let at = program::CLASSES + program::CLASS_WORDS * (k.0 as usize);
     lexer::same_name(script, program[at], program[at + 1], n.start, n.len)
 }
 
 fn ivar_is(script: &[u8], program: &[usize], k: ClassId, j: usize, n: Name) -> bool
-    requires { ⌜ size ≤ length (now program) ⌝ }
-    requires { ⌜ (k .0 < 64) × (j < 64) ⌝ }
+    requires { ⌜ programSize ≤ length (now program) ⌝ }
+    requires { ⌜ (k .0 < classesMost) × (j < ivarsMost) ⌝ }
     ensures { λ r. ⌜ r ≡ isIvar (nameIn (now (script .entry)) n) (ivarRow (now (script .entry)) (now (program .entry)) (k .0) j) ⌝ }
 {
-    let at = program::IVARS + 128 * (k.0 as usize) + 2 * j;
+    let at = program::IVARS + program::IVAR_ROW_WORDS * (k.0 as usize) + 2 * j;
     lexer::same_name(script, program[at], program[at + 1], n.start, n.len)
 }
 
@@ -247,7 +249,7 @@ pub fn ivar_named(
     requires { ⌜ k .0 < counts .classes ⌝ }
     ensures { λ r. ⌜ ivarFound r ≡ ivarNamed (programView (now (script .entry)) (now (program .entry)) counts) (k .0) (nameIn (now (script .entry)) n) ⌝ }
 {
-    let at = program::CLASSES + 4 * (k.0 as usize);
+    let at = program::CLASSES + program::CLASS_WORDS * (k.0 as usize);
     let most = program[at + 2];
     let mut j = 0;
     while j < most {
@@ -271,13 +273,13 @@ pub fn is_terminated(program: &[usize], counts: Counts, b: BlockId) -> bool
 // ---- attributes
 
 fn put_ivar(program: &mut [usize], k: ClassId, j: usize, n: Name)
-    requires { ⌜ size ≤ length (now program) ⌝ }
-    requires { ⌜ (k .0 < 64) × (j < 64) ⌝ }
+    requires { ⌜ programSize ≤ length (now program) ⌝ }
+    requires { ⌜ (k .0 < classesMost) × (j < ivarsMost) ⌝ }
     ensures { λ _. ⌜ PutsIvar (k .0) j n (now (program .entry)) (now (program .exit)) ⌝ }
 {
     let x = k.0 as usize;
-    let at = program::IVARS + 128 * x + 2 * j;
-    let row = program::CLASSES + 4 * x;
+    let at = program::IVARS + program::IVAR_ROW_WORDS * x + 2 * j;
+    let row = program::CLASSES + program::CLASS_WORDS * x;
     program[at] = n.start;
     program[at + 1] = n.len;
     program[row + 2] = j + 1;
@@ -303,7 +305,7 @@ pub fn push_ivar(
         }
         FoundIvar::Nothing => {}
     }
-    let row = program::CLASSES + 4 * (k.0 as usize);
+    let row = program::CLASSES + program::CLASS_WORDS * (k.0 as usize);
     let j = program[row + 2];
     if limits.ivars <= j {
         return Declared::Refused(11);

@@ -31,7 +31,8 @@ use Rattle.state.specs.View as Held
 use Rattle.state.specs.View.{Attrs, kindsOf}
 use Rattle.state.specs.Changes.{StatePut, StateDid, Every, Listing, Homes, HomesOf, UsersOf, pushWhere, pushLive}
 use Rattle.state.proofs.Wakes.{store-refused, store-same, store-new}
-use Rattle.answer.specs.Layout.{startsAt, usersAt, usesMost}
+use Rattle.answer.specs.Layout.{startsAt, usersAt}
+use Rattle.memory.specs.Layout.{usesMost}
 use Rattle.machine.specs.Analysed.{MachineSized, homesOf, Users, TablesOf}
 use Rattle.machine.proofs.Fitting.{did-fits}
 
@@ -138,7 +139,8 @@ module _ (p : List ℕ) (c : Counts) (u : List ℕ) (g : Users p c u) where
         let e : from + (k - from) ≡ k = omega arith in
         let l : k - from < n = omega (arith, ends) in
         let len : length (uses (programView [] p c) i) ≡ n = ap length (sym (g .part [] i h)) ∙ tab-length (λ q. getD u (from + q) 0) n in
-        let x : getD (uses (programView [] p c) i) (k - from) 0 ≡ getD u k 0 = ap (λ (y : List ℕ). getD y (k - from) 0) (sym (g .part [] i h)) ∙ tab-at (λ q. getD u (from + q) 0) n (k - from) 0 l ∙ ap (λ (y : ℕ). getD u y 0) e in
+        let x : getD (uses (programView [] p c) i) (k - from) 0 ≡ getD u k 0 = ap (λ (y : List ℕ). getD y (k - from) 0) (sym (g .part [] i h))
+        ∙ tab-at (λ q. getD u (from + q) 0) n (k - from) 0 l ∙ ap (λ (y : ℕ). getD u y 0) e in
         let y = user-below (programView [] p c) i (k - from) 0 (omega (arith, len)) in
         omega (arith, tab-length (instructionAt [] p) (c .insns))
 

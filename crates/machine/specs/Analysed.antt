@@ -20,7 +20,8 @@ use Rattle.chains.specs.Chains.{Index}
 use Rattle.uses.specs.Users.{words}
 use Rattle.state.specs.declared.Sizes.{Sizes}
 use Rattle.state.specs.View.{Attrs, kindsOf, calledOf}
-use Rattle.answer.specs.Layout.{startsAt, usersAt, usesMost}
+use Rattle.answer.specs.Layout.{startsAt, usersAt}
+use Rattle.memory.specs.Layout.{functionsMost, classesMost, ivarsMost, instructionsMost, usesMost, worklistMost, blocksRoom}
 
 -- ---- the parts that are read
 
@@ -49,12 +50,12 @@ pub record Users (p : List ℕ) (c : Counts) (u : List ℕ) : Type 0 where
 
 -- limits under which the program, the state and the worklists have room
 pub record MachineRoom (L : Limits) : Type 0 where
-  pub functions : L .functions ≤ 128
-  pub classes : L .classes ≤ 64
-  pub blocks : L .blocks ≤ 1024
-  pub instructions : L .instructions ≤ 2048
-  pub ivars : L .ivars ≤ 64
-  pub worklist : L .worklist ≡ 16384
+  pub functions : L .functions ≤ functionsMost
+  pub classes : L .classes ≤ classesMost
+  pub blocks : L .blocks ≤ blocksRoom
+  pub instructions : L .instructions ≤ instructionsMost
+  pub ivars : L .ivars ≤ ivarsMost
+  pub worklist : L .worklist ≡ worklistMost
 
 -- limits under which the program of the tables was read
 pub record Suited (s p : List ℕ) (c : Counts) (L : Limits) : Type 0 where

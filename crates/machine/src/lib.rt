@@ -45,7 +45,8 @@ fn push_users(
     requires { ⌜ ProgramReady (now program) counts ⌝ }
     requires { ⌜ MachineSized counts sizes ⌝ }
     requires { ⌜ Listing sizes (now users) from to ⌝ }
-    ensures { λ r. ⌜ StateDid sizes (HomesOf sizes (homesOf (now (program .entry)) counts)) (λ L P. pushLive L P (slice from to (now (users .entry)))) (now (state .entry)) regs (now (state .exit)) r ⌝ }
+    ensures { λ r. ⌜ StateDid sizes (HomesOf sizes (homesOf (now (program .entry)) counts)) (λ L P. pushLive L P (slice from to (now (users .entry))))
+        (now (state .entry)) regs (now (state .exit)) r ⌝ }
 {
     let mut at = regs;
     let mut k = from;

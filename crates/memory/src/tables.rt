@@ -2,6 +2,7 @@
 ghost use mathlib.Core.Path.{_≡_};
 ghost use Prim.Native.Nat.{_+_, _/_, _≤_, _<_};
 ghost use lib.ListN.{length};
+ghost use Rattle.memory.specs.Layout.{instructionsMost, rowWords};
 ghost use Rattle.memory.specs.tables.Tables.{listed};
 ghost use Rattle.memory.specs.tables.Bits.{bitAt, withBit, Next, RowWord, LowestBit};
 
@@ -36,7 +37,7 @@ pub fn set_bit(words: &mut [usize], base: usize, i: usize)
 
 // The first set bit from `from` on, among the first n bits of the row.
 pub fn next_bit(words: &[usize], base: usize, from: usize, n: usize) -> FoundBit
-    requires { ⌜ (n ≤ 2048) × (base + 32 ≤ length (now words)) ⌝ }
+    requires { ⌜ (n ≤ instructionsMost) × (base + rowWords ≤ length (now words)) ⌝ }
     ensures { λ r. ⌜ Next (bitAt (now (words .entry)) base) n from r ⌝ }
 {
     let mut i = from;
@@ -58,7 +59,7 @@ pub fn next_bit(words: &[usize], base: usize, from: usize, n: usize) -> FoundBit
 
 // Word k of a row of n bits; what stands behind them in memory is left out.
 pub fn row_word(words: &[usize], base: usize, n: usize, k: usize) -> usize
-    requires { ⌜ (k < 32) × (base + 32 ≤ length (now words)) ⌝ }
+    requires { ⌜ (k < rowWords) × (base + rowWords ≤ length (now words)) ⌝ }
     ensures { λ r. ⌜ RowWord (listed n (bitAt (now (words .entry)) base)) k r ⌝ }
 {
     let from = k * 64;

@@ -11,12 +11,13 @@ use Rattle.rules.proofs.Demand.{limits-usable, usable-sane}
 use Rattle.program.specs.View as View
 use Rattle.program.specs.declared.Counts.{Counts}
 use Rattle.program.specs.declared.Limits.{Limits}
+use Rattle.memory.specs.Layout.{scriptMost}
 use Rattle.parser.specs.declared.ReadOutcome.{ReadOutcome}
 use Rattle.parser.specs.declared.ReadOutcome.the-variants.{Finished}
 use Rattle.parser.specs.Outcomes.{ReadsWithin, ReadsScript}
 
 -- the built-in limits
-pub script-small : {l : Limits} → (View.limitsOf l ≡ P.limits) × View.Small l → l .script ≤ 16384
+pub script-small : {l : Limits} → (View.limitsOf l ≡ P.limits) × View.Small l → l .script ≤ scriptMost
 script-small e = let h = ap (λ (x : P.Limits). x .script) (e .0) in omega arith
 
 pub reads-limited : {s t : List ℕ} {l : Limits} {r : ReadOutcome} → (View.limitsOf l ≡ P.limits) × View.Small l → ReadsWithin l s t r → ReadsScript s t r

@@ -12,32 +12,33 @@ use Rattle.rules.specs.Actions.{answered, ifAnswered, Turn, again, loop}
 use Rattle.rules.specs.Program as P
 use Rattle.rules.specs.Reading as R
 use Rattle.rules.specs.Reading.{Parser, turns, parseFun, parseClass, parseTop, parseProgram}
-use Rattle.variables.specs.scopes.Made.{over}
+use Rattle.variables.specs.Scopes.{over}
 use Rattle.variables.specs.Memory.{made}
-use Rattle.variables.specs.Rooms.{room-none}
+use Rattle.variables.proofs.Rooms.{room-none}
 use Rattle.program.specs.View as View
 use Rattle.program.specs.declared.Counts.{Counts}
 use Rattle.program.specs.declared.Limits.{Limits}
 use Rattle.program.specs.declared.Owner.the-variants.{Nobody}
-use Rattle.lexer.specs.Lexed.{wordIn}
 use Rattle.lexer.specs.declared.Lexed.{Lexed}
 use Rattle.lexer.specs.declared.Lexed.the-variants as W
 use Rattle.lexer.specs.declared.Word.{Word}
 use Rattle.lexer.proofs.Texts.{fixed-kind}
-use Rattle.cursor.specs.Cursor.{parserOf, size, moveCur}
+use Rattle.cursor.specs.Cursor.{parserOf, moveCur}
 use Rattle.cursor.specs.Promises.{Sees, Spelt, movedOf}
 use Rattle.cursor.specs.declared.Cursor.{Cursor}
 use Rattle.cursor.specs.declared.Moved.{Moved}
 use Rattle.cursor.specs.declared.Moved.the-variants.{On, Refused}
-use Rattle.cursor.proofs.Wording.{is-yes, is-no, word-read, next-found, next-none}
+use Rattle.cursor.proofs.Wording.{is-yes, is-no, word-read, next-none}
 use Rattle.functions.specs.params.Promises.{funnedOf}
 use Rattle.functions.specs.declared.params.OpenedFun.{OpenedFun}
 use Rattle.functions.specs.declared.params.OpenedFun.the-variants as OpenedFun
 use Rattle.functions.specs.Bodies.{Rests, Takes, Taken}
+use Rattle.memory.specs.Layout.{scriptMost}
+use Rattle.cursor.specs.Layout.{scratchSize}
 use Rattle.parser.specs.declared.classes.Turned.{Turned}
 use Rattle.parser.specs.declared.classes.Turned.the-variants as T
 use Rattle.parser.specs.classes.Turning.{Turns}
-use Rattle.parser.proofs.classes.Loops.{word-on, word-rests, thing-no, thing-on}
+use Rattle.parser.proofs.classes.Loops.{word-on, word-rests, thing-no, thing-on, next-is}
 use Rattle.parser.proofs.classes.Members.{spelt-nothing, spelt-def}
 use Rattle.parser.specs.declared.ReadOutcome.the-variants as O
 use Rattle.parser.specs.Outcomes.{startCur, ReadsWithin}
@@ -56,21 +57,18 @@ module _ (l : Limits) {s m w : List ℕ} {c : Cursor} (g : Rests s m w c) {r : L
   top-none f = record { takes = record { is = rw (← next-none v m w f); ok = tt }; further = tt }
 
   module _ {x : Word} (f : r ≡ W.Found x) {c1 : Cursor} (e : c1 ≡ moveCur (x .next) c) where
-    next-is : answered (wordIn s x, parserOf s m w c1) ≡ R.next s (parserOf s m w c)
-    next-is = rw e (next-found v m w f)
-
     pub top-nobody : c .class ≡ Nobody → c1 .class ≡ Nobody
     top-nobody h = ap (λ (z : Cursor). z .class) e ∙ h
 
     pub top-ends : x .kind ≡ 0 → Top m w (T.Ends c1)
     unfolding parseTop
-    top-ends z = record { takes = record { is = rw (← next-is, is-yes x (word-read v f) "" spelt-nothing z); ok = (word-rests g v f e, word-on g v f e) }; further = tt }
+    top-ends z = record { takes = record { is = rw (← next-is v f e m w, is-yes x (word-read v f) "" spelt-nothing z); ok = (word-rests g v f e, word-on g v f e) }; further = tt }
 
     module _ (n0 : x .kind ≡ 0 → ⊥) where
       def-is : x .kind ≡ 3 → ifAnswered {B = Turn (Unit {0}) (Unit {0}) × Parser} (parseFun (View.limitsOf l) s (parserOf s m w c1)) (λ r. answered (again tt, r .1))
           ≡ parseTop (View.limitsOf l) s tt (parserOf s m w c)
       unfolding parseTop
-      def-is z = rw (← next-is, is-no x (word-read v f) "" spelt-nothing n0, is-yes x (word-read v f) "def" spelt-def z)
+      def-is z = rw (← next-is v f e m w, is-no x (word-read v f) "" spelt-nothing n0, is-yes x (word-read v f) "def" spelt-def z)
 
       module _ (z : x .kind ≡ 3) {m1 w1 : List ℕ} {y : OpenedFun} (b : Taken l s m w c1 m1 w1 y) where
         pub top-def-no : {n : ℕ} → y ≡ OpenedFun.Refused n → Top m1 w1 (T.Refused n)
@@ -83,7 +81,7 @@ module _ (l : Limits) {s m w : List ℕ} {c : Cursor} (g : Rests s m w c) {r : L
         class-is : x .kind ≡ 4 → ifAnswered {B = Turn (Unit {0}) (Unit {0}) × Parser} (parseClass (View.limitsOf l) s (parserOf s m w c1)) (λ r. answered (again tt, r .1))
             ≡ parseTop (View.limitsOf l) s tt (parserOf s m w c)
         unfolding parseTop
-        class-is z = rw (← next-is, is-no x (word-read v f) "" spelt-nothing n0, is-no x (word-read v f) "def" spelt-def n3, is-yes x (word-read v f) "class" spelt-class z)
+        class-is z = rw (← next-is v f e m w, is-no x (word-read v f) "" spelt-nothing n0, is-no x (word-read v f) "def" spelt-def n3, is-yes x (word-read v f) "class" spelt-class z)
 
         module _ (z : x .kind ≡ 4) {m1 w1 : List ℕ} {y : Moved} (b : Takes (parseClass (View.limitsOf l) s) 1 s m w c1 m1 w1 (movedOf y)) where
           pub top-class-no : {n : ℕ} → y ≡ Refused n → Top m1 w1 (T.Refused n)
@@ -96,7 +94,15 @@ module _ (l : Limits) {s m w : List ℕ} {c : Cursor} (g : Rests s m w c) {r : L
         unfolding parseTop
         top-other n4 =
             record {
-              takes = record { is = rw (← next-is, is-no x (word-read v f) "" spelt-nothing n0, is-no x (word-read v f) "def" spelt-def n3, is-no x (word-read v f) "class" spelt-class n4); ok = tt };
+              takes = record {
+                is = rw (
+                  ← next-is v f e m w,
+                  is-no x (word-read v f) "" spelt-nothing n0,
+                  is-no x (word-read v f) "def" spelt-def n3,
+                  is-no x (word-read v f) "class" spelt-class n4,
+                );
+                ok = tt;
+              };
               further = tt;
             }
 
@@ -110,8 +116,8 @@ module _ (l : Limits) (s : List ℕ) where
   unfolding parseProgram
   read-long m h = record { is = let z : leb (length s) (l .script) ≡ false = lt-leb (length s) (l .script) h in rw z; ok = tt }
 
-  module _ (h : length s ≤ l .script) (k : l .script ≤ 16384) {m : List ℕ} (w : List ℕ) {d : Counts} (a : View.Starts m d) {c : Cursor} (e : c ≡ startCur d) where
-    pub read-rests : size ≤ length w → Rests s m w c
+  module _ (h : length s ≤ l .script) (k : l .script ≤ scriptMost) {m : List ℕ} (w : List ℕ) {d : Counts} (a : View.Starts m d) {c : Cursor} (e : c ≡ startCur d) where
+    pub read-rests : scratchSize ≤ length w → Rests s m w c
     read-rests z =
         rw e (record {
           ready = record { script = omega arith; inside = omega arith; tables = a .ok; scratch = z; room = room-none 0 (omega arith); args = omega arith };

@@ -11,12 +11,13 @@ use Rattle.program.specs.declared.Limits.{Limits}
 use Rattle.program.specs.declared.Owner.the-variants as Owner
 use Rattle.cursor.specs.declared.Cursor.{Cursor}
 use Rattle.cursor.specs.declared.SelfAt.the-variants as SelfAt
+use Rattle.variables.specs.Layout.{bindingsMost}
 use Rattle.parser.specs.declared.ReadOutcome.{ReadOutcome}
 use Rattle.parser.specs.declared.ReadOutcome.the-variants.{Finished, Refused}
 
 -- before the first word
 abbrev pub startCur : Counts → Cursor
-startCur n = record { at = 0; counts = n; class = Owner.Nobody; receiver = SelfAt.Nobody; block = record { 0 = 0 }; vars = 0; aside = 8192; args = 0 }
+startCur n = record { at = 0; counts = n; class = Owner.Nobody; receiver = SelfAt.Nobody; block = record { 0 = 0 }; vars = 0; aside = bindingsMost; args = 0 }
 
 abbrev pub answerOf : List ℕ → List ℕ → ReadOutcome → Answer P.Program
 answerOf s m (Finished c) = answered (View.programView s m c)

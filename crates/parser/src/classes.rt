@@ -57,7 +57,8 @@ fn parse_method(
 ) -> Moved
     requires { ⌜ Rests (now script) (now program) (now scratch) cursor ⌝ }
     requires { ⌜ Small limits ⌝ }
-    ensures { λ r. ⌜ Takes (parseMethod (limitsOf limits) (now (script .entry)) (k .0)) 1 (now (script .entry)) (now (program .entry)) (now (scratch .entry)) cursor (now (program .exit)) (now (scratch .exit)) (movedOf r) ⌝ }
+    ensures { λ r. ⌜ Takes (parseMethod (limitsOf limits) (now (script .entry)) (k .0)) 1 (now (script .entry)) (now (program .entry))
+        (now (scratch .entry)) cursor (now (program .exit)) (now (scratch .exit)) (movedOf r) ⌝ }
 {
     match functions::parse_fun(script, program, scratch, cursor, limits) {
         OpenedFun::Refused(e) => Moved::Refused(e),
@@ -90,7 +91,8 @@ fn parse_attr(
     requires { ⌜ Rests (now script) (now program) (now scratch) cursor ⌝ }
     requires { ⌜ Small limits ⌝ }
     requires { ⌜ k .0 < cursor .counts .classes ⌝ }
-    ensures { λ r. ⌜ Takes (parseAttr (limitsOf limits) (now (script .entry)) (k .0)) 1 (now (script .entry)) (now (program .entry)) (now (scratch .entry)) cursor (now (program .exit)) (now (scratch .entry)) (movedOf r) ⌝ }
+    ensures { λ r. ⌜ Takes (parseAttr (limitsOf limits) (now (script .entry)) (k .0)) 1 (now (script .entry)) (now (program .entry))
+        (now (scratch .entry)) cursor (now (program .exit)) (now (scratch .entry)) (movedOf r) ⌝ }
 {
     match cursor::expect(script, cursor, b':') {
         Moved::Refused(e) => Moved::Refused(e),
@@ -119,7 +121,8 @@ fn parse_member(
     requires { ⌜ Rests (now script) (now program) (now scratch) cursor ⌝ }
     requires { ⌜ Small limits ⌝ }
     requires { ⌜ k .0 < cursor .counts .classes ⌝ }
-    ensures { λ r. ⌜ Turns (parseClassMember (limitsOf limits) (now (script .entry)) (k .0) tt) (now (script .entry)) (now (program .entry)) (now (scratch .entry)) cursor (now (program .exit)) (now (scratch .exit)) r ⌝ }
+    ensures { λ r. ⌜ Turns (parseClassMember (limitsOf limits) (now (script .entry)) (k .0) tt) (now (script .entry)) (now (program .entry))
+        (now (scratch .entry)) cursor (now (program .exit)) (now (scratch .exit)) r ⌝ }
 {
     match cursor::peek(script, cursor) {
         Lexed::Refused(e) => Turned::Refused(e),
@@ -160,7 +163,8 @@ fn parse_members(
     requires { ⌜ Rests (now script) (now program) (now scratch) cursor ⌝ }
     requires { ⌜ Small limits ⌝ }
     requires { ⌜ k .0 < cursor .counts .classes ⌝ }
-    ensures { λ r. ⌜ Takes (loop_of (parseClassMember (limitsOf limits) (now (script .entry)) (k .0)) (turns (now (script .entry))) tt) 0 (now (script .entry)) (now (program .entry)) (now (scratch .entry)) cursor (now (program .exit)) (now (scratch .exit)) (movedOf r) ⌝ }
+    ensures { λ r. ⌜ Takes (loop_of (parseClassMember (limitsOf limits) (now (script .entry)) (k .0)) (turns (now (script .entry))) tt) 0
+        (now (script .entry)) (now (program .entry)) (now (scratch .entry)) cursor (now (program .exit)) (now (scratch .exit)) (movedOf r) ⌝ }
 {
     let mut cur = cursor;
     loop {
@@ -189,7 +193,8 @@ pub fn parse_class(
     requires { ⌜ Rests (now script) (now program) (now scratch) cursor ⌝ }
     requires { ⌜ Small limits ⌝ }
     requires { ⌜ cursor .class ≡ Nobody ⌝ }
-    ensures { λ r. ⌜ Takes (parseClass (limitsOf limits) (now (script .entry))) 1 (now (script .entry)) (now (program .entry)) (now (scratch .entry)) cursor (now (program .exit)) (now (scratch .exit)) (movedOf r) ⌝ }
+    ensures { λ r. ⌜ Takes (parseClass (limitsOf limits) (now (script .entry))) 1 (now (script .entry)) (now (program .entry))
+        (now (scratch .entry)) cursor (now (program .exit)) (now (scratch .exit)) (movedOf r) ⌝ }
 {
     match cursor::expect_ident(script, cursor) {
         Ident::Refused(e) => Moved::Refused(e),

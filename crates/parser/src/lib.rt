@@ -16,12 +16,13 @@ ghost use Prim.Native.Nat.{_≤_};
 ghost use lib.ListN.{length};
 ghost use Rattle.rules.specs.Actions.{loop as loop_of};
 ghost use Rattle.rules.specs.Reading.{parseTop, turns};
-ghost use Rattle.program.specs.Rows as Rows;
 ghost use Rattle.program.specs.View.{Small, limitsOf};
 ghost use Rattle.program.specs.declared.Owner.the-variants.{Nobody};
-ghost use Rattle.cursor.specs.Cursor.{size};
 ghost use Rattle.cursor.specs.Promises.{movedOf};
 ghost use Rattle.functions.specs.Bodies.{Rests, Takes};
+ghost use Rattle.memory.specs.Layout.{scriptMost};
+ghost use Rattle.program.specs.Layout.{programSize};
+ghost use Rattle.cursor.specs.Layout.{scratchSize};
 ghost use Rattle.parser.specs.classes.Turning.{Turns};
 ghost use Rattle.parser.specs.Outcomes.{startCur, ReadsWithin, ReadsScript};
 
@@ -41,7 +42,7 @@ fn start(counts: Counts) -> Cursor
         receiver: SelfAt::Nobody,
         block: BlockId(0),
         vars: 0,
-        aside: 8192,
+        aside: variables::BINDINGS_MOST,
         args: 0,
     }
 }
@@ -57,7 +58,8 @@ fn parse_top(
     requires { ⌜ Rests (now script) (now program) (now scratch) cursor ⌝ }
     requires { ⌜ Small limits ⌝ }
     requires { ⌜ cursor .class ≡ Nobody ⌝ }
-    ensures { λ r. ⌜ Turns (parseTop (limitsOf limits) (now (script .entry)) tt) (now (script .entry)) (now (program .entry)) (now (scratch .entry)) cursor (now (program .exit)) (now (scratch .exit)) r ⌝ }
+    ensures { λ r. ⌜ Turns (parseTop (limitsOf limits) (now (script .entry)) tt) (now (script .entry)) (now (program .entry))
+        (now (scratch .entry)) cursor (now (program .exit)) (now (scratch .exit)) r ⌝ }
 {
     match cursor::peek(script, cursor) {
         Lexed::Refused(e) => Turned::Refused(e),
@@ -94,7 +96,8 @@ fn parse_program(
     requires { ⌜ Rests (now script) (now program) (now scratch) cursor ⌝ }
     requires { ⌜ Small limits ⌝ }
     requires { ⌜ cursor .class ≡ Nobody ⌝ }
-    ensures { λ r. ⌜ Takes (loop_of (parseTop (limitsOf limits) (now (script .entry))) (turns (now (script .entry))) tt) 0 (now (script .entry)) (now (program .entry)) (now (scratch .entry)) cursor (now (program .exit)) (now (scratch .exit)) (movedOf r) ⌝ }
+    ensures { λ r. ⌜ Takes (loop_of (parseTop (limitsOf limits) (now (script .entry))) (turns (now (script .entry))) tt) 0 (now (script .entry))
+        (now (program .entry)) (now (scratch .entry)) cursor (now (program .exit)) (now (scratch .exit)) (movedOf r) ⌝ }
 {
     let mut cur = cursor;
     loop {
@@ -119,10 +122,10 @@ fn read_within(
     scratch: &mut [usize],
     limits: Limits,
 ) -> ReadOutcome
-    requires { ⌜ Rows.size ≤ length (now program) ⌝ }
-    requires { ⌜ size ≤ length (now scratch) ⌝ }
+    requires { ⌜ programSize ≤ length (now program) ⌝ }
+    requires { ⌜ scratchSize ≤ length (now scratch) ⌝ }
     requires { ⌜ Small limits ⌝ }
-    requires { ⌜ limits .script ≤ 16384 ⌝ }
+    requires { ⌜ limits .script ≤ scriptMost ⌝ }
     ensures { λ r. ⌜ ReadsWithin limits (now (script .entry)) (now (program .exit)) r ⌝ }
 {
     if limits.script < script.len() {
@@ -141,8 +144,8 @@ fn read_within(
 
 // Reads a script into the tables. Both memories may hold anything.
 pub fn read(script: &[u8], program: &mut [usize], scratch: &mut [usize]) -> ReadOutcome
-    requires { ⌜ Rows.size ≤ length (now program) ⌝ }
-    requires { ⌜ size ≤ length (now scratch) ⌝ }
+    requires { ⌜ programSize ≤ length (now program) ⌝ }
+    requires { ⌜ scratchSize ≤ length (now scratch) ⌝ }
     ensures { λ r. ⌜ ReadsScript (now (script .entry)) (now (program .exit)) r ⌝ }
 {
     let l = Limits::built_in();

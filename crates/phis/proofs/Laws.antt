@@ -20,11 +20,11 @@ use Rattle.rules.specs.Program as P
 use Rattle.rules.specs.Program.{Name, sameOpnd}
 use Rattle.rules.specs.Reading.{Parser, withEnv, withProgram, allKeys, pushInsn, push, joinVars}
 use Rattle.rules.specs.Reading as R
-use Rattle.variables.specs.scopes.Made.{over, envOf, env-sorted}
-use Rattle.variables.specs.scopes.Rows.{sorted-rest}
-use Rattle.variables.specs.scopes.Sorted.{Sorted}
-use Rattle.variables.specs.scopes.Joins.{joinOne, joinRows, join-rows}
-use Rattle.variables.specs.Memory.{size, opndFrom, made, vars, row, Kept}
+use Rattle.variables.specs.Scopes.{over, envOf, Sorted, joinOne, joinRows}
+use Rattle.variables.proofs.scopes.Made.{env-sorted}
+use Rattle.variables.proofs.scopes.Rows.{sorted-rest}
+use Rattle.variables.proofs.scopes.Joins.{join-rows}
+use Rattle.variables.specs.Memory.{opndFrom, made, vars, row, Kept}
 use Rattle.variables.specs.Promises as E
 use Rattle.variables.specs.Promises.{VariableBinds, BindsAgain, Leaves, VariablesBlank, NotesBoth, VariableJoins, Nexts}
 use Rattle.variables.specs.declared.FoundVar.{FoundVar}
@@ -45,6 +45,7 @@ use Rattle.program.specs.declared.Op.{Op}
 use Rattle.program.specs.declared.Op.the-variants as O
 use Rattle.program.specs.declared.NewInsn.{NewInsn}
 use Rattle.program.specs.declared.NewInsn.the-variants as I
+use Rattle.variables.specs.Layout.{bindingsMost, entriesMost, variablesSize}
 use Rattle.phis.specs.Joining.{IsStored, PhisSets, PhisFinds, PhisGrown, Phis, state, joined, JoinReady, One, Fit, Rows, Arms, IfEnd}
 use Rattle.phis.specs.declared.Blocks.{Blocks}
 use Rattle.phis.specs.declared.Sides.{Sides}
@@ -162,27 +163,27 @@ module _ (l : Limits) (q : Blocks) (n : ℕ) (x : Joint) (m p : List ℕ) (c : C
     len-same = refl;
     is = λ s z h. rw (← ev, ← ew, ← g .is s (withEnv (vars s m n) z) h, e);
     old = kept-all 0 n m;
-    aside = kept-all 8192 16384 m;
+    aside = kept-all bindingsMost entriesMost m;
     ready = tt;
   }
 
 -- ---- join_rows, at its loop's head: what is left to join comes to what the whole comes to
 
 pub record Joining (s : List ℕ) (l : Limits) (q : Blocks) (base : ℕ) (x : Sides) (m₀ p₀ t : List ℕ) (c : Counts) (m p : List ℕ) (n : ℕ) (d : Counts) (lo ln hi rn : ℕ) : Type 0 where
-  pub big : size ≤ length m
+  pub big : variablesSize ≤ length m
   pub len-same : length m ≡ length m₀
   pub len-prog : length p ≡ length p₀
   pub low : Kept 0 base m₀ m
-  pub aside : Kept 8192 16384 m₀ m
+  pub aside : Kept bindingsMost entriesMost m₀ m
   pub ready : ProgramReady p d
   pub grown : PhisGrown c d
   pub old : base ≤ n
   pub room : n + (ln + rn) ≤ base + (x .ln + x .rn)
-  pub most : base + (x .ln + x .rn) ≤ 8192
-  pub left-low : 8192 ≤ lo
-  pub left : lo + ln ≤ 16384
-  pub right-low : 8192 ≤ hi
-  pub right : hi + rn ≤ 16384
+  pub most : base + (x .ln + x .rn) ≤ bindingsMost
+  pub left-low : bindingsMost ≤ lo
+  pub left : lo + ln ≤ entriesMost
+  pub right-low : bindingsMost ≤ hi
+  pub right : hi + rn ≤ entriesMost
   pub sorted-left : Sorted (row s m₀ lo ln)
   pub sorted-right : Sorted (row s m₀ hi rn)
   pub noted : NotesBoth s m₀ base lo ln hi rn t
@@ -190,7 +191,7 @@ pub record Joining (s : List ℕ) (l : Limits) (q : Blocks) (base : ℕ) (x : Si
       → joinRows (limitsOf l) (q .left .0) (q .right .0) (vars s m₀ base) (row s m₀ lo ln) (row s m₀ hi rn) (state s m n p d r)
       ≡ joinRows (limitsOf l) (q .left .0) (q .right .0) (vars s m₀ base) (row s m₀ (x .lo) (x .ln)) (row s m₀ (x .hi) (x .rn)) (state s m₀ base p₀ c r)
 
-pub join-start : (s : List ℕ) (l : Limits) (q : Blocks) (base : ℕ) (x : Sides) (m p t : List ℕ) (c : Counts) → size ≤ length m → ProgramReady p c → Fit base x
+pub join-start : (s : List ℕ) (l : Limits) (q : Blocks) (base : ℕ) (x : Sides) (m p t : List ℕ) (c : Counts) → variablesSize ≤ length m → ProgramReady p c → Fit base x
     → Sorted (row s m (x .lo) (x .ln)) × Sorted (row s m (x .hi) (x .rn)) → NotesBoth s m base (x .lo) (x .ln) (x .hi) (x .rn) t
     → Joining s l q base x m p t c m p base c (x .lo) (x .ln) (x .hi) (x .rn)
 join-start s l q base x m p t c h ok f o k = record {
@@ -198,7 +199,7 @@ join-start s l q base x m p t c h ok f o k = record {
   len-same = refl;
   len-prog = refl;
   low = kept-all 0 base m;
-  aside = kept-all 8192 16384 m;
+  aside = kept-all bindingsMost entriesMost m;
   ready = ok;
   grown = grown-self c;
   old = omega arith;
@@ -219,8 +220,8 @@ module _ {s : List ℕ} {l : Limits} {q : Blocks} {base : ℕ} {x : Sides} {m₀
   same-base : vars s m base ≡ vars s m₀ base
   same-base = vars-kept s m₀ m base 0 base (g .low) (omega arith) (omega arith)
 
-  same-row : (a k : ℕ) → 8192 ≤ a → a + k ≤ 16384 → row s m a k ≡ row s m₀ a k
-  same-row a k f h = row-kept s m₀ m a k 8192 16384 (g .aside) f h
+  same-row : (a k : ℕ) → bindingsMost ≤ a → a + k ≤ entriesMost → row s m a k ≡ row s m₀ a k
+  same-row a k f h = row-kept s m₀ m a k bindingsMost entriesMost (g .aside) f h
 
   pub join-sorted : Sorted (row s m lo ln) × Sorted (row s m hi rn)
   join-sorted = (rw (same-row lo ln (g .left-low) (g .left)) (g .sorted-left), rw (same-row hi rn (g .right-low) (g .right)) (g .sorted-right))
@@ -318,7 +319,7 @@ module _ {mark n top ln : ℕ} (f : Arms mark n top ln) where
     pub arms-sorted : Sorted (row s m top ln) → Sorted (row s m1 top ln) × Sorted (row s m1 (top + ln) rn)
     arms-sorted t = (rw same-left t, rw (v .is) (env-sorted (made s m mark (n - mark))))
 
-    pub arms-place : (8192 ≤ top) × ((top + ln ≤ top + ln) × ((top + ln) + rn ≤ 16384))
+    pub arms-place : (bindingsMost ≤ top) × ((top + ln ≤ top + ln) × ((top + ln) + rn ≤ entriesMost))
     arms-place = (f .low, (omega arith, omega (arith, f .old, f .room, v .less)))
 
     pub arms-none : NotesBoth s m1 mark top ln (top + ln) rn []
@@ -337,7 +338,7 @@ module _ {mark n top ln : ℕ} (f : Arms mark n top ln) where
               = join-rows (limitsOf l) (q .left .0) (q .right .0) (made s m mark (n - mark)) (state s m mark p c r) (env-sorted (made s m 0 mark)) left in
               rw (base, same-left, e, v .is) at (g .is r h) ∙ rw (vars-split s m mark n (f .old)) (sym all);
           old = kept-trans (kept-part 0 (top + ln) 0 mark m m1 (omega arith) (omega (arith, f .old, f .low, f .room)) (v .low)) (g .old);
-          aside = kept-trans (kept-part 0 (top + ln) 8192 top m m1 (omega arith) (omega arith) (v .low))
-              (kept-part 8192 16384 8192 top m1 m' (omega arith) (omega (arith, f .room)) (g .aside));
+          aside = kept-trans (kept-part 0 (top + ln) bindingsMost top m m1 (omega arith) (omega arith) (v .low))
+              (kept-part bindingsMost entriesMost bindingsMost top m1 m' (omega arith) (omega (arith, f .room)) (g .aside));
           ready = less-most p' c mark (mark + (ln + rn)) (n + ln) j (omega (arith, f .old, v .less)) (g .ready);
         }

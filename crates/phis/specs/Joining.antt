@@ -10,8 +10,7 @@ use Rattle.rules.specs.Program.{Name}
 use Rattle.rules.specs.Reading.{Parser, withEnv, withProgram, lookup, bind, allKeys, joinVars}
 use Rattle.rules.specs.Reading as R
 use Rattle.lexer.specs.Names.{name}
-use Rattle.variables.specs.scopes.Made.{Bindings, over, envOf}
-use Rattle.variables.specs.scopes.Joins.{joinOne, joinRows}
+use Rattle.variables.specs.Scopes.{Bindings, over, envOf, joinOne, joinRows}
 use Rattle.variables.specs.Memory.{nameIn, vars, row, Kept}
 use Rattle.variables.specs.Promises as E
 use Rattle.variables.specs.declared.Stored.{Stored}
@@ -21,6 +20,7 @@ use Rattle.program.specs.View.{programView, ProgramReady, limitsOf}
 use Rattle.program.specs.declared.Counts.{Counts}
 use Rattle.program.specs.declared.Limits.{Limits}
 use Rattle.program.specs.declared.Opnd.{Opnd}
+use Rattle.variables.specs.Layout.{bindingsMost, entriesMost}
 use Rattle.phis.specs.declared.Var.{Var}
 use Rattle.phis.specs.declared.Var.the-variants.{At, Unbound}
 use Rattle.phis.specs.declared.NewPhi as NewPhi
@@ -39,7 +39,7 @@ pub record PhisSets (n a k : ℕ) (o : Opnd) (m m' : List ℕ) : Type 0 where
   pub len-same : length m' ≡ length m
   pub is : (s : List ℕ) → vars s m' (n + 1) ≡ bind (name s a k) (opndOf o) (vars s m n)
   pub old : Kept 0 n m m'
-  pub aside : Kept 8192 16384 m m'
+  pub aside : Kept bindingsMost entriesMost m m'
 
 abbrev pub varOf : Var → Option P.Opnd
 varOf (At o) = some (opndOf o)
@@ -88,16 +88,16 @@ pub record One (l : Limits) (q : Blocks) (n : ℕ) (x : Joint) (m p : List ℕ) 
   pub is : (s : List ℕ) (r : Parser) → r .block ≡ q .at .0
       → joined s m' p' j r ≡ joinOne (limitsOf l) (q .left .0) (q .right .0) (nameIn s (x .word)) (E.opndOf (x .left)) (E.opndOf (x .right)) (state s m n p c r)
   pub old : Kept 0 n m m'
-  pub aside : Kept 8192 16384 m m'
+  pub aside : Kept bindingsMost entriesMost m m'
   pub ready : JoinReady p' c (n + 1) (n + 1) j
 
 -- the rows lie aside, and there is room for what they join to
 pub record Fit (base : ℕ) (x : Sides) : Type 0 where
-  pub left-low : 8192 ≤ x .lo
-  pub left : x .lo + x .ln ≤ 16384
-  pub right-low : 8192 ≤ x .hi
-  pub right : x .hi + x .rn ≤ 16384
-  pub room : base + (x .ln + x .rn) ≤ 8192
+  pub left-low : bindingsMost ≤ x .lo
+  pub left : x .lo + x .ln ≤ entriesMost
+  pub right-low : bindingsMost ≤ x .hi
+  pub right : x .hi + x .rn ≤ entriesMost
+  pub room : base + (x .ln + x .rn) ≤ bindingsMost
 
 -- two rows
 pub record Rows (s : List ℕ) (l : Limits) (q : Blocks) (base : ℕ) (x : Sides) (m p : List ℕ) (c : Counts) (m' p' : List ℕ) (j : JoinedVars) : Type 0 where
@@ -105,14 +105,14 @@ pub record Rows (s : List ℕ) (l : Limits) (q : Blocks) (base : ℕ) (x : Sides
   pub is : (r : Parser) → r .block ≡ q .at .0
       → joined s m' p' j r ≡ joinRows (limitsOf l) (q .left .0) (q .right .0) (vars s m base) (row s m (x .lo) (x .ln)) (row s m (x .hi) (x .rn)) (state s m base p c r)
   pub old : Kept 0 base m m'
-  pub aside : Kept 8192 16384 m m'
+  pub aside : Kept bindingsMost entriesMost m m'
   pub ready : JoinReady p' c base (base + (x .ln + x .rn)) j
 
 -- the older bindings are among all, and the right arm's row fits behind the left one's
 pub record Arms (mark n top ln : ℕ) : Type 0 where
   pub old : mark ≤ n
-  pub low : 8192 ≤ top
-  pub room : (n + ln) + top ≤ 16384
+  pub low : bindingsMost ≤ top
+  pub room : (n + ln) + top ≤ entriesMost
 
 -- the rules' join of all names that are bound in either arm, whatever bindings the left arm's row is made of
 pub record IfEnd (s : List ℕ) (l : Limits) (q : Blocks) (mark n top ln : ℕ) (m p : List ℕ) (c : Counts) (m' p' : List ℕ) (j : JoinedVars) : Type 0 where
@@ -121,5 +121,5 @@ pub record IfEnd (s : List ℕ) (l : Limits) (q : Blocks) (mark n top ln : ℕ) 
       → joined s m' p' j r
       ≡ joinVars (limitsOf l) (q .left .0) (over left (vars s m mark)) (q .right .0) (vars s m n) (allKeys (over left (vars s m mark)) (vars s m n)) (state s m mark p c r)
   pub old : Kept 0 mark m m'
-  pub aside : Kept 8192 top m m'
+  pub aside : Kept bindingsMost top m m'
   pub ready : JoinReady p' c mark (n + ln) j

@@ -15,11 +15,13 @@ ghost use mathlib.Core.Path.{_≡_};
 ghost use Prim.Native.Nat.{_+_, _≤_, _<_};
 ghost use lib.ListN.{length};
 ghost use Rattle.lexer.specs.Names.{name};
-ghost use Rattle.variables.specs.scopes.Sorted.{Sorted};
-ghost use Rattle.variables.specs.Memory.{size, row};
+ghost use Rattle.variables.specs.Scopes.{Sorted};
+ghost use Rattle.variables.specs.Memory.{row};
 ghost use Rattle.variables.specs.Promises.{opndOf as stored_of, NotesBoth};
 ghost use Rattle.program.specs.Rows.{opndOf};
 ghost use Rattle.program.specs.View.{ProgramReady, Small};
+ghost use Rattle.memory.specs.Layout.{scriptMost};
+ghost use Rattle.variables.specs.Layout.{bindingsMost, entriesMost, variablesSize};
 ghost use Rattle.phis.specs.Joining.{IsStored, PhisSets, PhisFinds, Phis, One, Fit, Rows, Arms, IfEnd};
 
 pub enum Var {
@@ -72,8 +74,8 @@ fn store(o: Opnd) -> Stored
 
 // The name of k bytes at a is bound to o, as binding n.
 pub fn set_var(scratch: &mut [usize], n: usize, a: usize, k: usize, o: Opnd)
-    requires { ⌜ (size ≤ length (now scratch)) × (n < 8192) ⌝ }
-    requires { ⌜ (a ≤ 16384) × (k ≤ 16384) ⌝ }
+    requires { ⌜ (variablesSize ≤ length (now scratch)) × (n < bindingsMost) ⌝ }
+    requires { ⌜ (a ≤ scriptMost) × (k ≤ scriptMost) ⌝ }
     ensures { λ r. ⌜ PhisSets n a k o (now (scratch .entry)) (now (scratch .exit)) ⌝ }
 {
     let w = store(o);
@@ -82,7 +84,7 @@ pub fn set_var(scratch: &mut [usize], n: usize, a: usize, k: usize, o: Opnd)
 
 // What the name of k bytes at a is among n bindings.
 pub fn get_var(script: &[u8], scratch: &[usize], n: usize, a: usize, k: usize) -> Var
-    requires { ⌜ (size ≤ length (now scratch)) × (n ≤ 16384) ⌝ }
+    requires { ⌜ (variablesSize ≤ length (now scratch)) × (n ≤ entriesMost) ⌝ }
     ensures { λ r. ⌜ PhisFinds (now (script .entry)) (now (scratch .entry)) n (name (now (script .entry)) a k) r ⌝ }
 {
     match variables::find(script, scratch, n, a, k) {
@@ -150,7 +152,7 @@ fn join_one(
     requires { ⌜ ProgramReady (now program) counts ⌝ }
     requires { ⌜ Small limits ⌝ }
     requires { ⌜ q .at .0 < counts .blocks ⌝ }
-    requires { ⌜ (size ≤ length (now scratch)) × (n < 8192) ⌝ }
+    requires { ⌜ (variablesSize ≤ length (now scratch)) × (n < bindingsMost) ⌝ }
     ensures { λ r. ⌜ One limits q n x (now (scratch .entry)) (now (program .entry)) counts (now (scratch .exit)) (now (program .exit)) r ⌝ }
 {
     let left = x.left;
@@ -182,7 +184,7 @@ fn join_rows(
     requires { ⌜ ProgramReady (now program) counts ⌝ }
     requires { ⌜ Small limits ⌝ }
     requires { ⌜ q .at .0 < counts .blocks ⌝ }
-    requires { ⌜ size ≤ length (now scratch) ⌝ }
+    requires { ⌜ variablesSize ≤ length (now scratch) ⌝ }
     requires { ⌜ Fit base x ⌝ }
     requires { ⌜ Sorted (row (now script) (now scratch) (x .lo) (x .ln)) × Sorted (row (now script) (now scratch) (x .hi) (x .rn)) ⌝ }
     requires { ⌜ NotesBoth (now script) (now scratch) base (x .lo) (x .ln) (x .hi) (x .rn) (now g) ⌝ }
@@ -234,7 +236,7 @@ pub fn join_arms(
     requires { ⌜ ProgramReady (now program) counts ⌝ }
     requires { ⌜ Small limits ⌝ }
     requires { ⌜ q .at .0 < counts .blocks ⌝ }
-    requires { ⌜ size ≤ length (now scratch) ⌝ }
+    requires { ⌜ variablesSize ≤ length (now scratch) ⌝ }
     requires { ⌜ Arms mark n top ln ⌝ }
     requires { ⌜ Sorted (row (now script) (now scratch) top ln) ⌝ }
     ensures { λ r. ⌜ IfEnd (now (script .entry)) limits q mark n top ln (now (scratch .entry)) (now (program .entry)) counts (now (scratch .exit)) (now (program .exit)) r ⌝ }
@@ -251,7 +253,7 @@ pub fn join_arms(
         let none = [0u16; 0];
         return join_rows(script, scratch, program, &none, counts, limits, q, mark, x);
     }
-    let mut g = [0u16; 8192];
+    let mut g = [0u16; variables::BINDINGS_MOST];
     variables::note_rows(script, scratch, &mut g, mark, top, ln, hi, rn);
     join_rows(script, scratch, program, &g, counts, limits, q, mark, x)
 }

@@ -21,9 +21,11 @@ use Rattle.frames.specs.Text.{restOf, moreOf, leftOf}
 use Rattle.frames.proofs.Frames.{image-frames}
 use Rattle.call.specs.declared.Outcome.{Outcome}
 use Rattle.call.specs.declared.Outcome.the-variants.{Answered as Yes, Refused as No}
-use Rattle.call.specs.Call.{programLen, stateLen, numberOf, Lent, CallLeft, lent, left, longEnough, after}
+use Rattle.call.specs.Call.{numberOf, Lent, CallLeft, lent, left, longEnough, after}
 use Rattle.call.proofs.Facts as Facts
 use Rattle.call.proofs.Written.{refusal-frame}
+use Rattle.state.specs.Layout.{stateLen}
+use Rattle.chains.specs.Layout.{programLen}
 use Rattle.printing.specs.declared.Piece.{Piece}
 use Rattle.printing.specs.declared.Sent.{Sent}
 use Rattle.printing.specs.declared.Sent.the-variants.{All, Part}

@@ -16,8 +16,10 @@ use Rattle.rules.specs.Program as P
 use Rattle.rules.specs.Program.{isTerminator, terminated, listedCount}
 use Rattle.rules.specs.Reading.{withProgram, withBlock, withClass, newBlockOf, newFun, newClass}
 use Rattle.lexer.specs.Names.{name}
+use Rattle.memory.specs.Layout.{functionsMost, ivarsMost}
+use Rattle.program.specs.Layout.{classesAt, programSize, classWords}
 use Rattle.program.specs.Tab.{tab}
-use Rattle.program.specs.Rows.{classesAt, insnAt, instructionAt, functionIn, nameIn, ownerIn, classAt, ivarAt, ivarsOf, firstOf, flagAt}
+use Rattle.program.specs.Rows.{insnAt, instructionAt, functionIn, nameIn, ownerIn, classAt, ivarAt, ivarsOf, firstOf, flagAt}
 use Rattle.program.specs.View.{instructionsOf, functionsOf, classesOf, blocksOf, programView, OwnsFrom, ProgramReady, Small, limitsOf, PutsBlock, PutsFun, PutsClass, ProgramDid, DidFun, Starts}
 use Rattle.program.specs.View.{grew, stopped, blockOf, blockFor, classFor, unchanged, moreBlocks, moreFunctions, moreClasses}
 use Rattle.program.specs.declared.Counts.{Counts}
@@ -114,7 +116,7 @@ block-stop l m c f h = record { is = λ s q. rw (blocks-length m (c .blocks), le
 
 -- ---- a function
 
-module _ {m m' : List ℕ} {c : Counts} (x : Function) (r : ProgramReady m c) (few : c .functions < 128) (p : PutsFun (c .functions) x m m') where
+module _ {m m' : List ℕ} {c : Counts} (x : Function) (r : ProgramReady m c) (few : c .functions < functionsMost) (p : PutsFun (c .functions) x m m') where
   fun-keeps : Keeps c m m'
   fun-keeps = free-functions r (p .only) few
 
@@ -194,7 +196,7 @@ module _ {m m1 : List ℕ} {c : Counts} {l : Limits} {q : NewBlock} (n : Name) (
         let counts = a .ok .counts in
         let ready : ProgramReady m1 (moreBlocks c) = rw counts at (a .ok .ready) in
         let x : Function = record { name = n; class = k; entry = b } in
-        let few : c .functions < 128 = omega (arith, small .functions) in
+        let few : c .functions < functionsMost = omega (arith, small .functions) in
         rw counts
         (record {
           did =
@@ -214,7 +216,8 @@ module _ {m m1 : List ℕ} {c : Counts} {l : Limits} {q : NewBlock} (n : Name) (
 
 -- ---- a class
 
-module _ {m m' : List ℕ} {c : Counts} {l : Limits} (n : Name) (r : ProgramReady m c) (small : Small l) (few : c .classes < l .classes) {a : ℕ} (owns : OwnsFrom m (c .functions) (c .classes) a) (p : PutsClass (c .classes) n a m m') where
+module _ {m m' : List ℕ} {c : Counts} {l : Limits} (n : Name) (r : ProgramReady m c) (small : Small l) (few : c .classes < l .classes) {a : ℕ}
+    (owns : OwnsFrom m (c .functions) (c .classes) a) (p : PutsClass (c .classes) n a m m') where
   class-keeps : Keeps c m m'
   class-keeps = free-classes r (p .only) (omega (arith, small .classes))
 
@@ -247,7 +250,7 @@ module _ {m m' : List ℕ} {c : Counts} {l : Limits} (n : Name) (r : ProgramRead
         listed = r .listed;
         opnds = r .opnds;
         ivars =
-            old-or-new (λ k. ivarsOf m' k ≤ 64) (c .classes) (λ k h. rw (ivars-keep r K k h) (r .ivars k h)) (omega (arith, p .none));
+            old-or-new (λ k. ivarsOf m' k ≤ ivarsMost) (c .classes) (λ k h. rw (ivars-keep r K k h) (r .ivars k h)) (omega (arith, p .none));
         ranges = λ i h. rw (insn-keep r K i h) (r .ranges i h);
         inside = λ i h. rw (insn-keep r K i h) (r .inside i h);
         flags = λ s b h.
@@ -277,27 +280,27 @@ class-stop l m c n h = record { is = λ s q. rw (classes-length s m (c .classes)
 -- ---- the start
 
 -- a class without a name and without attributes
-empty-class : (s m : List ℕ) (k : ℕ) → getD m (classesAt + 4 * k + 1) 0 ≡ 0 → ivarsOf m k ≡ 0 → classAt s m k ≡ P.builtIn
+empty-class : (s m : List ℕ) (k : ℕ) → getD m (classesAt + classWords * k + 1) 0 ≡ 0 → ivarsOf m k ≡ 0 → classAt s m k ≡ P.builtIn
 unfolding classAt tab name
 empty-class s m k e f =
-    ap₂ {C = P.Class} (λ a b. record { name = a; ivars = b }) (ap (λ (n : ℕ). name s (getD m (classesAt + 4 * k) 0) n) e)
+    ap₂ {C = P.Class} (λ a b. record { name = a; ivars = b }) (ap (λ (n : ℕ). name s (getD m (classesAt + classWords * k) 0) n) e)
     (ap (tab (λ j. nameIn s (ivarAt m k j))) f)
 
 -- the row of class k stays while those of later classes are stored
-row-stays : {k j : ℕ} {x : Name} {f : ℕ} {m m' : List ℕ} → PutsClass j x f m m' → k < j → (d : ℕ) → d < 4 → getD m' (classesAt + 4 * k + d) 0 ≡ getD m (classesAt + 4 * k + d) 0
-row-stays {k = k} p h d g = p .only .below (classesAt + 4 * k + d) (omega arith)
+row-stays : {k j : ℕ} {x : Name} {f : ℕ} {m m' : List ℕ} → PutsClass j x f m m' → k < j → (d : ℕ) → d < 4 → getD m' (classesAt + classWords * k + d) 0 ≡ getD m (classesAt + classWords * k + d) 0
+row-stays {k = k} p h d g = p .only .below (classesAt + classWords * k + d) (omega arith)
 
-pub starts-is : {m m1 m2 m3 m4 : List ℕ} (x : Name) → x .len ≡ 0 → 47872 ≤ length m → PutsClass 0 x 0 m m1 → PutsClass 1 x 0 m1 m2 → PutsClass 2 x 0 m2 m3 → PutsClass 3 x 0 m3 m4
+pub starts-is : {m m1 m2 m3 m4 : List ℕ} (x : Name) → x .len ≡ 0 → programSize ≤ length m → PutsClass 0 x 0 m m1 → PutsClass 1 x 0 m1 m2 → PutsClass 2 x 0 m2 m3 → PutsClass 3 x 0 m3 m4
     → Starts m4 (record { functions = 0; classes = 4; blocks = 0; insns = 0; opnds = 0; listed = 0 })
 unfolding instructionsOf functionsOf classesOf blocksOf listedCount tab
 starts-is {m4 = m4} x z long p0 p1 p2 p3 =
-    let len0 : getD m4 (classesAt + 4 * 0 + 1) 0 ≡ 0 =
+    let len0 : getD m4 (classesAt + classWords * 0 + 1) 0 ≡ 0 =
     row-stays {k = 0} p3 (omega arith) 1 (omega arith) ∙ row-stays {k = 0} p2 (omega arith) 1 (omega arith) ∙ row-stays {k = 0} p1 (omega arith) 1 (omega arith)
     ∙ ap (λ (n : Name). n .len) (p0 .here) ∙ z in
-    let len1 : getD m4 (classesAt + 4 * 1 + 1) 0 ≡ 0 =
+    let len1 : getD m4 (classesAt + classWords * 1 + 1) 0 ≡ 0 =
     row-stays {k = 1} p3 (omega arith) 1 (omega arith) ∙ row-stays {k = 1} p2 (omega arith) 1 (omega arith) ∙ ap (λ (n : Name). n .len) (p1 .here) ∙ z in
-    let len2 : getD m4 (classesAt + 4 * 2 + 1) 0 ≡ 0 = row-stays {k = 2} p3 (omega arith) 1 (omega arith) ∙ ap (λ (n : Name). n .len) (p2 .here) ∙ z in
-    let len3 : getD m4 (classesAt + 4 * 3 + 1) 0 ≡ 0 = ap (λ (n : Name). n .len) (p3 .here) ∙ z in
+    let len2 : getD m4 (classesAt + classWords * 2 + 1) 0 ≡ 0 = row-stays {k = 2} p3 (omega arith) 1 (omega arith) ∙ ap (λ (n : Name). n .len) (p2 .here) ∙ z in
+    let len3 : getD m4 (classesAt + classWords * 3 + 1) 0 ≡ 0 = ap (λ (n : Name). n .len) (p3 .here) ∙ z in
     let none0 : ivarsOf m4 0 ≡ 0 =
     row-stays {k = 0} p3 (omega arith) 2 (omega arith) ∙ row-stays {k = 0} p2 (omega arith) 2 (omega arith) ∙ row-stays {k = 0} p1 (omega arith) 2 (omega arith)
     ∙ p0 .none in
@@ -319,7 +322,7 @@ starts-is {m4 = m4} x z long p0 p1 p2 p3 =
             insns = omega arith;
             listed = omega arith;
             opnds = omega arith;
-            ivars = below-four (λ k. ivarsOf m4 k) 64 none0 none1 none2 (p3 .none);
+            ivars = below-four (λ k. ivarsOf m4 k) ivarsMost none0 none1 none2 (p3 .none);
             ranges = λ i h. absurd (omega arith);
             inside = λ i h. absurd (omega arith);
             flags = λ s b h. absurd (omega arith);

@@ -6,6 +6,7 @@ use native.Mathlib.Omega.{arith}
 use lib.ListN.{length, length-append}
 use Rattle.ids.specs.declared.FunId.{FunId}
 use Rattle.rules.specs.Program as P
+use Rattle.program.specs.Layout.{opndsAt}
 use Rattle.program.specs.Rows.{opndsIn, opndOf, nameIn, given}
 use Rattle.program.specs.View.{ProgramReady, Small, limitsOf, Puts, ProgramRoom, Commits, ProgramAdds, Asks, ProgramDid, grew, stopped, callOf, moreInsns, moreCalls, unchanged}
 use Rattle.program.specs.declared.Counts.{Counts}
@@ -23,9 +24,9 @@ use Rattle.program.proofs.Pushing.{room-of, ready-puts, adds-is, stop-i
 
 -- the operands given, then those copied
 module _ {m m1 m2 : List ℕ} {c : Counts} {b : ℕ} (o : Op) (k n : ℕ) (g : Given) (os : List Opnd) (r : ProgramReady m c) (room : ProgramRoom b o (k + n) c) (q : k ≡ length (given g))
-    (w : length os ≡ n) (p : Puts (12288 + 2 * c .opnds) (given g) m m1) (p' : Puts (12288 + 2 * c .opnds + 2 * k) os m1 m2) where
-  both : Puts (12288 + 2 * c .opnds) (given g ++ os) m m2
-  both = puts-then p (ap (λ (j : ℕ). 12288 + 2 * c .opnds + 2 * j) q) p'
+    (w : length os ≡ n) (p : Puts (opndsAt + 2 * c .opnds) (given g) m m1) (p' : Puts (opndsAt + 2 * c .opnds + 2 * k) os m1 m2) where
+  both : Puts (opndsAt + 2 * c .opnds) (given g ++ os) m m2
+  both = puts-then p (ap (λ (j : ℕ). opndsAt + 2 * c .opnds + 2 * j) q) p'
 
   total : k + n ≡ length (given g ++ os)
   total = omega (arith, length-append (given g) os)
@@ -37,7 +38,7 @@ module _ {m m1 m2 : List ℕ} {c : Counts} {b : ℕ} (o : Op) (k n : ℕ) (g : G
   adds-all a = adds-is o (k + n) (given g ++ os) r room total both a
 
 module _ {m m1 m2 : List ℕ} {c : Counts} {b : ℕ} (o : Op) (k a n : ℕ) (g : Given) (args : List ℕ) (r : ProgramReady m c) (room : ProgramRoom b o (k + n) c) (q : k ≡ length (given g))
-    (p : Puts (12288 + 2 * c .opnds) (given g) m m1) (p' : Puts (12288 + 2 * c .opnds + 2 * k) (opndsIn args a n) m1 m2) where
+    (p : Puts (opndsAt + 2 * c .opnds) (given g) m m1) (p' : Puts (opndsAt + 2 * c .opnds + 2 * k) (opndsIn args a n) m1 m2) where
   pub call-ready : ProgramReady m2 c
   call-ready = ready-all o k n g (opndsIn args a n) r room q (opnds-length args a n) p p'
 

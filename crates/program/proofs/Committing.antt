@@ -1,5 +1,5 @@
 -- An instruction that is added: what the row and the flag make of the program. Assumes nothing.
-use mathlib.Core.Bool.{Bool, true, false, _&&_, _||_}
+use mathlib.Core.Bool.{Bool, true, false, _&&_, _||_, or-true, or-false, or-assoc}
 use mathlib.Core.Path.{_≡_, refl, sym, ap, _∙_}
 use mathlib.Core.List.{List, [], _∷_, _++_, map}
 use Prim.Native.Nat.{ℕ, _+_, _*_, _≤_, _<_}
@@ -11,10 +11,13 @@ use lib.Seq.{getD-set-same, getD-set-other}
 use borrow.Author.Tests.{eq-eqb, ne-eqb}
 use Rattle.kinds.specs.Kinds.{bitOf}
 use Rattle.ids.specs.declared.BlockId.{BlockId}
-use Rattle.rules.specs.Lists.{any, sum}
+use Rattle.rules.specs.Lists.{any}
 use Rattle.rules.specs.Program as P
 use Rattle.rules.specs.Program.{about, isTerminator, terminated, listedCount}
-use Rattle.program.specs.Rows.{insnsAt, opndsAt, blocksAt, opndsIn, opndOf, opIn, listedIn, endsBlock, insnAt, instructionAt, flagAt}
+use Rattle.rules.proofs.Wellformed.Tables.{sum-snoc}
+use Rattle.memory.specs.Layout.{instructionsMost}
+use Rattle.program.specs.Layout.{insnsAt, opndsAt, blocksAt, insnWords}
+use Rattle.program.specs.Rows.{opndsIn, opndOf, opIn, listedIn, endsBlock, insnAt, instructionAt, flagAt}
 use Rattle.program.specs.View.{programView, ProgramReady, PutsRow, ProgramRoom, Commits, moreInsns}
 use Rattle.program.specs.declared.Counts.{Counts}
 use Rattle.program.specs.declared.Op.{Op}
@@ -26,20 +29,8 @@ use Rattle.program.proofs.Viewing.{instructions-more}
 -- ---- what the rules ask of one instruction more
 
 pub any-snoc : {A : Type 0} (f : A → Bool) (l : List A) (x : A) → any f (l ++ x ∷ []) ≡ (any f l || f x)
-any-snoc f [] x = or-none (f x)
-  where
-    or-none : (b : Bool) → (b || false) ≡ b
-    or-none true = refl
-    or-none false = refl
-any-snoc f (y ∷ l) x = rw (any-snoc f l x) (or-assoc (f y) (any f l) (f x))
-  where
-    or-assoc : (a b c : Bool) → (a || (b || c)) ≡ ((a || b) || c)
-    or-assoc true b c = refl
-    or-assoc false b c = refl
-
-sum-snoc : {A : Type 0} (f : A → ℕ) (l : List A) (x : A) → sum f (l ++ x ∷ []) ≡ sum f l + f x
-sum-snoc f [] x = omega arith
-sum-snoc f (y ∷ l) x = rw (sum-snoc f l x) (omega arith)
+any-snoc f [] x = or-false (f x)
+any-snoc f (y ∷ l) x = rw (any-snoc f l x) (sym (or-assoc (f y) (any f l) (f x)))
 
 pub terminated-more : (p : P.Program) (x : P.Instruction) (b : ℕ)
     → terminated (P.withInstruction x p) b ≡ (terminated p b || (eqb (x .block) b && isTerminator (x .op)))
@@ -85,26 +76,18 @@ plain true a f e = refl
 plain false true f e = e
 plain false false f e = refl
 
-or-true : (a : Bool) → (a || true) ≡ true
-or-true true = refl
-or-true false = refl
-
-or-false : (a : Bool) → (a || false) ≡ a
-or-false true = refl
-or-false false = refl
-
 -- ---- the flag of a block
 
-row-apart : (l : List ℕ) (k : ℕ) → k < 2048 → (at v : ℕ) → blocksAt ≤ at → insnAt (set l at v) k ≡ insnAt l k
+row-apart : (l : List ℕ) (k : ℕ) → k < instructionsMost → (at v : ℕ) → blocksAt ≤ at → insnAt (set l at v) k ≡ insnAt l k
 unfolding insnAt
 row-apart l k h at v a =
     rw (
-      getD-set-other l at (insnsAt + 6 * k) v 0 (λ z. omega arith),
-      getD-set-other l at (insnsAt + 6 * k + 1) v 0 (λ z. omega arith),
-      getD-set-other l at (insnsAt + 6 * k + 2) v 0 (λ z. omega arith),
-      getD-set-other l at (insnsAt + 6 * k + 3) v 0 (λ z. omega arith),
-      getD-set-other l at (insnsAt + 6 * k + 4) v 0 (λ z. omega arith),
-      getD-set-other l at (insnsAt + 6 * k + 5) v 0 (λ z. omega arith),
+      getD-set-other l at (insnsAt + insnWords * k) v 0 (λ z. omega arith),
+      getD-set-other l at (insnsAt + insnWords * k + 1) v 0 (λ z. omega arith),
+      getD-set-other l at (insnsAt + insnWords * k + 2) v 0 (λ z. omega arith),
+      getD-set-other l at (insnsAt + insnWords * k + 3) v 0 (λ z. omega arith),
+      getD-set-other l at (insnsAt + insnWords * k + 4) v 0 (λ z. omega arith),
+      getD-set-other l at (insnsAt + insnWords * k + 5) v 0 (λ z. omega arith),
     )
 
 flag-is : (l : List ℕ) (g d : ℕ) → blocksAt + 2 * g + 1 < length l → (t f : Bool) → flagAt l d ≡ bitOf t → f ≡ true

@@ -20,6 +20,7 @@ use Rattle.ids.specs.declared.BlockId.{BlockId}
 use Rattle.ids.specs.declared.ClassId.{ClassId}
 use Rattle.ids.specs.declared.FunId.{FunId}
 use Rattle.ids.specs.declared.InsnId.{InsnId}
+use Rattle.program.specs.Layout.{insnsAt, functionsAt, insnWords, functionWords}
 use Rattle.program.specs.Rows.{opndFrom, opFrom, insnAt, ownerFrom, funAt, listedIn}
 use Rattle.program.specs.declared.Name.{Name}
 use Rattle.program.specs.declared.Opnd.{Opnd}
@@ -240,13 +241,22 @@ listed-none n e h = rw e (omega arith)
 -- ---- rows
 
 module _ (m : List ℕ) (i : ℕ) where
-  pub insn-is : {o : Op} → o ≡ opFrom (getD m (0 + 6 * i) 0) (getD m (0 + 6 * i + 2) 0) (getD m (0 + 6 * i + 3) 0)
-      → _≡_ {A = Row} (record { block = record { 0 = getD m (0 + 6 * i + 1) 0 % 2 ^ 32 }; op = o; first = getD m (0 + 6 * i + 4) 0; count = getD m (0 + 6 * i + 5) 0 }) (insnAt m i)
+  pub insn-is : {o : Op} → o ≡ opFrom (getD m (insnsAt + insnWords * i) 0) (getD m (insnsAt + insnWords * i + 2) 0) (getD m (insnsAt + insnWords * i + 3) 0)
+      → _≡_ {A = Row} (record {
+        block = record { 0 = getD m (insnsAt + insnWords * i + 1) 0 % 2 ^ 32 };
+        op = o;
+        first = getD m (insnsAt + insnWords * i + 4) 0;
+        count = getD m (insnsAt + insnWords * i + 5) 0;
+      }) (insnAt m i)
   unfolding insnAt
   insn-is e = rw e
 
-  pub fun-is : {o : Owner} → o ≡ ownerFrom (getD m (38912 + 4 * i + 2) 0)
-      → _≡_ {A = Function} (record { name = record { start = getD m (38912 + 4 * i) 0; len = getD m (38912 + 4 * i + 1) 0 }; class = o; entry = record { 0 = getD m (38912 + 4 * i + 3) 0 % 2 ^ 32 } })
+  pub fun-is : {o : Owner} → o ≡ ownerFrom (getD m (functionsAt + functionWords * i + 2) 0)
+      → _≡_ {A = Function} (record {
+        name = record { start = getD m (functionsAt + functionWords * i) 0; len = getD m (functionsAt + functionWords * i + 1) 0 };
+        class = o;
+        entry = record { 0 = getD m (functionsAt + functionWords * i + 3) 0 % 2 ^ 32 };
+      })
       (funAt m i)
   unfolding funAt
   fun-is e = rw e

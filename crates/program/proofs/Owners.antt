@@ -9,6 +9,7 @@ use lib.Dec.{eqb, ltb}
 use lib.ListN.{getD}
 use borrow.Author.Tests.{eq-eqb, ne-eqb, lt-ltb}
 use Rattle.rules.specs.Lists.{isJust}
+use Rattle.program.specs.Layout.{functionsAt, classesAt, functionWords, classWords}
 use Rattle.program.specs.Rows.{ownerIn, ownerFrom, funAt}
 use Rattle.program.specs.View.{OwnsFrom, ProgramReady}
 use Rattle.program.specs.declared.Counts.{Counts}
@@ -38,11 +39,11 @@ pub owns-start : (m : List ℕ) (n k : ℕ) → OwnsFrom m n k 0
 owns-start m n k = record { high = omega arith; owned = λ f g e. omega arith }
 
 module _ {m : List ℕ} {n k i : ℕ} (o : OwnsFrom m n k i) where
-  not-here : {r : Bool} → r ≡ isJust (ownerIn (ownerFrom (getD m (38912 + 4 * i + 2) 0))) k → r ≡ false → isJust (ownerIn (funAt m i .class)) k ≡ false
+  not-here : {r : Bool} → r ≡ isJust (ownerIn (ownerFrom (getD m (functionsAt + functionWords * i + 2) 0))) k → r ≡ false → isJust (ownerIn (funAt m i .class)) k ≡ false
   unfolding funAt
   not-here e q = sym e ∙ q
 
-  pub owns-next : {r : Bool} → i < n → r ≡ isJust (ownerIn (ownerFrom (getD m (38912 + 4 * i + 2) 0))) k → r ≡ false → OwnsFrom m n k (i + 1)
+  pub owns-next : {r : Bool} → i < n → r ≡ isJust (ownerIn (ownerFrom (getD m (functionsAt + functionWords * i + 2) 0))) k → r ≡ false → OwnsFrom m n k (i + 1)
   owns-next h e q =
       record {
         high = omega arith;
@@ -56,5 +57,5 @@ module _ {m : List ℕ} {n k i : ℕ} (o : OwnsFrom m n k i) where
   pub owns-end : n ≤ i → OwnsFrom m n k n
   owns-end h = record { high = omega arith; owned = λ f g t. omega (arith, o .owned f g t) }
 
-pub owns-row : {m : List ℕ} {c : Counts} (k : ℕ) → ProgramReady m c → k < c .classes → OwnsFrom m (c .functions) k (getD m (39424 + 4 * k + 3) 0)
+pub owns-row : {m : List ℕ} {c : Counts} (k : ℕ) → ProgramReady m c → k < c .classes → OwnsFrom m (c .functions) k (getD m (classesAt + classWords * k + 3) 0)
 owns-row k r h = r .firsts k h

@@ -12,7 +12,8 @@ use Rattle.rules.specs.Actions.{answered, refused}
 use Rattle.rules.specs.Program as P
 use Rattle.rules.specs.Program.{about, terminated, listedCount}
 use Rattle.rules.specs.Reading.{Parser, withProgram, pushInsn}
-use Rattle.program.specs.Rows.{opndsAt, blocksAt, opndAt, opndsIn, opndOf, given, opIn, listedIn, flagAt}
+use Rattle.program.specs.Layout.{opndsAt, blocksAt}
+use Rattle.program.specs.Rows.{opndAt, opndsIn, opndOf, given, opIn, listedIn, flagAt}
 use Rattle.program.specs.View.{programView, ProgramReady, Small, limitsOf, Puts, ProgramRoom, Commits, ProgramAdds, Asks, ProgramDid, grew, stopped, pushOf, pushAsks, moreInsns, unchanged}
 use Rattle.program.specs.declared.Counts.{Counts}
 use Rattle.program.specs.declared.Limits.{Limits}
@@ -74,11 +75,11 @@ bit-false true x e h = let z : _≡_ {A = ℕ} 0 1 = cc in absurd (omega arith)
 bit-false false x e h = refl
 
 module _ {m : List ℕ} {c : Counts} (l : Limits) (b k : ℕ) (r : ProgramReady m c) (h : b < c .blocks) where
-  pub asks-ended : (getD m (36864 + 2 * b + 1) 0 ≡ 0 → ⊥) → Asks l m c b k 10
+  pub asks-ended : (getD m (blocksAt + 2 * b + 1) 0 ≡ 0 → ⊥) → Asks l m c b k 10
   unfolding pushAsks
   asks-ended e = record { is = λ s. rw (bit-true (terminated (programView s m c) b) (flagAt m b) (r .flags s b h) e) }
 
-  module _ (open' : getD m (36864 + 2 * b + 1) 0 ≡ 0) where
+  module _ (open' : getD m (blocksAt + 2 * b + 1) 0 ≡ 0) where
     goes-on : (s : List ℕ) → terminated (programView s m c) b ≡ false
     goes-on s = bit-false (terminated (programView s m c) b) (flagAt m b) (r .flags s b h) open'
 
@@ -186,8 +187,8 @@ room-given o n g r small h asks z q w = room-of o n r small h asks z q (omega (a
 
 -- operands behind those in use
 module _ {m m1 : List ℕ} {c : Counts} {b : ℕ} (o : Op) (n : ℕ) (os : List Opnd) (r : ProgramReady m c) (room : ProgramRoom b o n c) (q : n ≡ length os)
-    (p : Puts (12288 + 2 * c .opnds) os m m1) where
-  fits : 12288 + 2 * c .opnds + 2 * length os ≤ blocksAt
+    (p : Puts (opndsAt + 2 * c .opnds) os m m1) where
+  fits : opndsAt + 2 * c .opnds + 2 * length os ≤ blocksAt
   fits = omega (arith, r .opnds, room .listed, room .opnds, room .insns)
 
   puts-keeps : Keeps c m m1

@@ -13,8 +13,9 @@ use Rattle.ids.specs.declared.InsnId.{InsnId}
 use Rattle.rules.specs.Program as P
 use Rattle.rules.specs.Program.{sameOpnd}
 use Rattle.rules.specs.Reading.{newBlock}
+use Rattle.program.specs.Layout.{insnsAt, opndsAt, blocksAt, functionsAt, insnWords, functionWords}
 use Rattle.program.specs.Tab.{tab}
-use Rattle.program.specs.Rows.{opndAt, opndsIn, opndOf, nth, opFrom, instructionAt, ownerFrom, funAt, functionIn, blockAt}
+use Rattle.program.specs.Rows.{insnAt, opndAt, opndsIn, opndOf, nth, opFrom, opIn, instructionAt, ownerFrom, funAt, functionIn, blockAt}
 use Rattle.program.specs.View.{programView, instructionsOf, functionsOf, blocksOf, ProgramReady, limitsOf, ProgramDid, Grew, ReadsInsn, ReadsFun, ReadsBlock, blockFor, nextBlock, moreBlocks}
 use Rattle.program.specs.View.{unchanged}
 use Rattle.program.specs.declared.Counts.{Counts}
@@ -27,31 +28,35 @@ use Rattle.program.proofs.Tables.{tab-at}
 use Rattle.program.proofs.Forms.{insn-is, fun-is}
 use Rattle.program.proofs.Viewing.{functions-length}
 
-instruction-is : (s m : List ℕ) (c : Counts) (i : ℕ) → i < c .insns → P.instruction (programView s m c) i ≡ instructionAt s m i
+pub instruction-is : (s m : List ℕ) (c : Counts) (i : ℕ) → i < c .insns → P.instruction (programView s m c) i ≡ instructionAt s m i
 unfolding instructionsOf
 instruction-is s m c i h = tab-at (instructionAt s m) (c .insns) i (record { block = 0; op = P.New 0 }) h
 
+pub op-is : (s m : List ℕ) (c : Counts) (i : ℕ) → i < c .insns → P.opOf (programView s m c) i ≡ opIn s (insnAt m i .op) (map opndOf (opndsIn m (opndsAt + 2 * insnAt m i .first) (insnAt m i .count)))
+unfolding instructionAt
+op-is s m c i h = ap (λ (x : P.Instruction). x .op) (instruction-is s m c i h)
+
 module _ {m : List ℕ} {c : Counts} (i : ℕ) (r : ProgramReady m c) where
-  pub insn-read : {o : Op} → i < c .insns → o ≡ opFrom (getD m (0 + 6 * i) 0) (getD m (0 + 6 * i + 2) 0) (getD m (0 + 6 * i + 3) 0)
+  pub insn-read : {o : Op} → i < c .insns → o ≡ opFrom (getD m (insnsAt + insnWords * i) 0) (getD m (insnsAt + insnWords * i + 2) 0) (getD m (insnsAt + insnWords * i + 3) 0)
       → ReadsInsn m c i
-      (record { block = record { 0 = getD m (0 + 6 * i + 1) 0 % 2 ^ 32 }; op = o; first = getD m (0 + 6 * i + 4) 0; count = getD m (0 + 6 * i + 5) 0 })
+      (record { block = record { 0 = getD m (insnsAt + insnWords * i + 1) 0 % 2 ^ 32 }; op = o; first = getD m (insnsAt + insnWords * i + 4) 0; count = getD m (insnsAt + insnWords * i + 5) 0 })
   unfolding instructionAt
   insn-read h e =
       rw (insn-is m i e) (record { row = refl; is = λ s. instruction-is s m c i h; range = r .ranges i h; inside = r .inside i h })
 
-  pub fun-read : {o : Owner} → i < c .functions → o ≡ ownerFrom (getD m (38912 + 4 * i + 2) 0)
+  pub fun-read : {o : Owner} → i < c .functions → o ≡ ownerFrom (getD m (functionsAt + functionWords * i + 2) 0)
       → ReadsFun m c i
       (record {
-        name = record { start = getD m (38912 + 4 * i) 0; len = getD m (38912 + 4 * i + 1) 0 };
+        name = record { start = getD m (functionsAt + functionWords * i) 0; len = getD m (functionsAt + functionWords * i + 1) 0 };
         class = o;
-        entry = record { 0 = getD m (38912 + 4 * i + 3) 0 % 2 ^ 32 };
+        entry = record { 0 = getD m (functionsAt + functionWords * i + 3) 0 % 2 ^ 32 };
       })
   unfolding functionsOf
   fun-read h e =
       rw (fun-is m i e)
       (record { row = refl; is = λ s. tab-at (λ f. functionIn s (funAt m f)) (c .functions) i (record { name = []; class = mathlib.Core.Option.none; entry = 0 }) h })
 
-  pub block-read : i < c .blocks → ReadsBlock m c i (getD m (36864 + 2 * i) 0 % 2 ^ 32)
+  pub block-read : i < c .blocks → ReadsBlock m c i (getD m (blocksAt + 2 * i) 0 % 2 ^ 32)
   unfolding blocksOf blockAt
   block-read h = record { is = λ s. tab-at (blockAt m) (c .blocks) i 0 h }
 

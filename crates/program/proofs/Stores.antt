@@ -7,7 +7,9 @@ use lib.ListN.{length, getD, set, length-set}
 use lib.Seq.{getD-set-same, getD-set-other}
 use mir.Val.{Fits}
 use mir.Syntax.{w32}
-use Rattle.program.specs.Rows.{size, insnsAt, blocksAt, functionsAt, classesAt, opFrom, insnAt, ownerFrom, funAt, blockAt}
+use Rattle.memory.specs.Layout.{functionsMost, instructionsMost, blocksRoom}
+use Rattle.program.specs.Layout.{insnsAt, blocksAt, functionsAt, classesAt, programSize, insnWords, functionWords, classWords}
+use Rattle.program.specs.Rows.{opFrom, insnAt, ownerFrom, funAt, blockAt}
 use Rattle.program.specs.View.{ProgramOnly, PutsRow, PutsBlock, PutsFun, PutsClass}
 use Rattle.program.specs.declared.Name.{Name}
 use Rattle.program.specs.declared.Row.{Row}
@@ -108,20 +110,25 @@ module _ (m : List ℕ) (at v0 v1 v2 v3 v4 v5 : ℕ) (h : at + 5 < length m) whe
   six-only : ProgramOnly at (at + 6) m sixStored
   six-only =
       only-set (at + 5) v5
-      (only-set (at + 4) v4 (only-set (at + 3) v3 (only-set (at + 2) v2 (only-set (at + 1) v1 (only-set at v0 (only-none m) (omega arith) (omega arith)) (omega arith) (omega arith)) (omega arith) (omega arith)) (omega arith) (omega arith)) (omega arith) (omega arith))
+      (only-set (at + 4) v4
+      (only-set (at + 3) v3
+      (only-set (at + 2) v2 (only-set (at + 1) v1 (only-set at v0 (only-none m) (omega arith) (omega arith)) (omega arith) (omega arith))
+      (omega arith) (omega arith))
+      (omega arith) (omega arith))
+      (omega arith) (omega arith))
       (omega arith) (omega arith)
 
 -- an instruction's six words
-pub row-put : (m : List ℕ) (n : ℕ) (x : Row) (t u v : ℕ) → opFrom t u v ≡ x .op → Fits w32 (x .block .0) → size ≤ length m → n < 2048
+pub row-put : (m : List ℕ) (n : ℕ) (x : Row) (t u v : ℕ) → opFrom t u v ≡ x .op → Fits w32 (x .block .0) → programSize ≤ length m → n < instructionsMost
     → PutsRow n x m
     (set
-    (set (set (set (set (set m (insnsAt + 6 * n) t) (insnsAt + 6 * n + 1) (x .block .0)) (insnsAt + 6 * n + 2) u) (insnsAt + 6 * n + 3) v) (insnsAt + 6 * n + 4)
+    (set (set (set (set (set m (insnsAt + insnWords * n) t) (insnsAt + insnWords * n + 1) (x .block .0)) (insnsAt + insnWords * n + 2) u) (insnsAt + insnWords * n + 3) v) (insnsAt + insnWords * n + 4)
     (x .first))
-    (insnsAt + 6 * n + 5)
+    (insnsAt + insnWords * n + 5)
     (x .count))
 unfolding insnAt
 row-put m n x t u v e f long h =
-    let at = insnsAt + 6 * n in
+    let at = insnsAt + insnWords * n in
     let b = x .block .0 in
     let i = x .first in
     let k = x .count in
@@ -142,7 +149,7 @@ row-put m n x t u v e f long h =
     }
 
 -- a block's two words
-pub block-put : (m : List ℕ) (n f : ℕ) → Fits w32 f → size ≤ length m → n < 1024 → PutsBlock n f m (set (set m (blocksAt + 2 * n) f) (blocksAt + 2 * n + 1) 0)
+pub block-put : (m : List ℕ) (n f : ℕ) → Fits w32 f → programSize ≤ length m → n < blocksRoom → PutsBlock n f m (set (set m (blocksAt + 2 * n) f) (blocksAt + 2 * n + 1) 0)
 unfolding blockAt
 block-put m n f w long h =
     let at = blocksAt + 2 * n in
@@ -150,13 +157,16 @@ block-put m n f w long h =
     record { only = two-only m at f 0 g; here = rw (two-0 m at f 0 g, id-mod f w); flag = two-1 m at f 0 g }
 
 -- a function's four words
-pub fun-put : (m : List ℕ) (n : ℕ) (x : Function) (w : ℕ) → ownerFrom w ≡ x .class → Fits w32 (x .entry .0) → size ≤ length m → n < 128
+pub fun-put : (m : List ℕ) (n : ℕ) (x : Function) (w : ℕ) → ownerFrom w ≡ x .class → Fits w32 (x .entry .0) → programSize ≤ length m → n < functionsMost
     → PutsFun n x m
-    (set (set (set (set m (functionsAt + 4 * n) (x .name .start)) (functionsAt + 4 * n + 1) (x .name .len)) (functionsAt + 4 * n + 2) w) (functionsAt + 4 * n + 3)
+    (set
+    (set (set (set m (functionsAt + functionWords * n) (x .name .start)) (functionsAt + functionWords * n + 1) (x .name .len))
+    (functionsAt + functionWords * n + 2) w)
+    (functionsAt + functionWords * n + 3)
     (x .entry .0))
 unfolding funAt
 fun-put m n x w e f long h =
-    let at = functionsAt + 4 * n in
+    let at = functionsAt + functionWords * n in
     let a = x .name .start in
     let k = x .name .len in
     let b = x .entry .0 in
@@ -167,11 +177,11 @@ fun-put m n x w e f long h =
     }
 
 -- a class's four
-pub class-put : (m : List ℕ) (n : ℕ) (x : Name) (f : ℕ) → size ≤ length m → n < 64
+pub class-put : (m : List ℕ) (n : ℕ) (x : Name) (f : ℕ) → programSize ≤ length m → n < 64
     → PutsClass n x f m
-    (set (set (set (set m (classesAt + 4 * n) (x .start)) (classesAt + 4 * n + 1) (x .len)) (classesAt + 4 * n + 2) 0) (classesAt + 4 * n + 3) f)
+    (set (set (set (set m (classesAt + classWords * n) (x .start)) (classesAt + classWords * n + 1) (x .len)) (classesAt + classWords * n + 2) 0) (classesAt + classWords * n + 3) f)
 class-put m n x f long h =
-    let at = classesAt + 4 * n in
+    let at = classesAt + classWords * n in
     let a = x .start in
     let k = x .len in
     let g : at + 3 < length m = omega arith in

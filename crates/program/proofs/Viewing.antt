@@ -8,7 +8,9 @@ use lib.ListN.{length, getD}
 use Rattle.kinds.specs.Kinds.{bitOf}
 use Rattle.rules.specs.Program as P
 use Rattle.rules.specs.Program.{terminated, listedCount}
-use Rattle.program.specs.Rows.{insnsAt, opndsAt, blocksAt, functionsAt, classesAt, ivarsAt, insnAt, instructionAt, funAt, functionIn, nameIn, ivarAt, ivarsOf, firstOf, classAt, blockAt, flagAt}
+use Rattle.memory.specs.Layout.{functionsMost, classesMost, instructionsMost, blocksRoom}
+use Rattle.program.specs.Layout.{insnsAt, opndsAt, blocksAt, functionsAt, classesAt, ivarsAt, insnWords, functionWords, classWords, ivarRowWords}
+use Rattle.program.specs.Rows.{insnAt, instructionAt, funAt, functionIn, nameIn, ivarAt, ivarsOf, firstOf, classAt, blockAt, flagAt}
 use Rattle.program.specs.View.{instructionsOf, functionsOf, classesOf, blocksOf, programView, OwnsFrom, ProgramReady, ProgramOnly}
 use Rattle.program.specs.declared.Counts.{Counts}
 use Rattle.program.proofs.Tables.{tab-ext, tab-more, tab-length}
@@ -17,12 +19,12 @@ use Rattle.program.proofs.Areas.{Same, same-below, same-above, opnds-sa
 -- the rows in use stay; of a block only its function
 pub record Keeps (c : Counts) (m m' : List ℕ) : Type 0 where
   pub len-same : length m' ≡ length m
-  pub insns : Same insnsAt (insnsAt + 6 * c .insns) m m'
+  pub insns : Same insnsAt (insnsAt + insnWords * c .insns) m m'
   pub opnds : Same opndsAt (opndsAt + 2 * c .opnds) m m'
   pub blocks : (b : ℕ) → b < c .blocks → getD m' (blocksAt + 2 * b) 0 ≡ getD m (blocksAt + 2 * b) 0
-  pub functions : Same functionsAt (functionsAt + 4 * c .functions) m m'
-  pub classes : Same classesAt (classesAt + 4 * c .classes) m m'
-  pub ivars : Same ivarsAt (ivarsAt + 128 * c .classes) m m'
+  pub functions : Same functionsAt (functionsAt + functionWords * c .functions) m m'
+  pub classes : Same classesAt (classesAt + classWords * c .classes) m m'
+  pub ivars : Same ivarsAt (ivarsAt + ivarRowWords * c .classes) m m'
 
 -- the flags of blocks stay
 abbrev pub Flags : Counts → List ℕ → List ℕ → Type 0
@@ -62,12 +64,12 @@ module _ {m m' : List ℕ} {c : Counts} (r : ProgramReady m c) (K : Keeps c m m'
   unfolding insnAt
   insn-keep i h =
       rw (
-        K .insns (insnsAt + 6 * i) (omega arith) (omega arith),
-        K .insns (insnsAt + 6 * i + 1) (omega arith) (omega arith),
-        K .insns (insnsAt + 6 * i + 2) (omega arith) (omega arith),
-        K .insns (insnsAt + 6 * i + 3) (omega arith) (omega arith),
-        K .insns (insnsAt + 6 * i + 4) (omega arith) (omega arith),
-        K .insns (insnsAt + 6 * i + 5) (omega arith) (omega arith),
+        K .insns (insnsAt + insnWords * i) (omega arith) (omega arith),
+        K .insns (insnsAt + insnWords * i + 1) (omega arith) (omega arith),
+        K .insns (insnsAt + insnWords * i + 2) (omega arith) (omega arith),
+        K .insns (insnsAt + insnWords * i + 3) (omega arith) (omega arith),
+        K .insns (insnsAt + insnWords * i + 4) (omega arith) (omega arith),
+        K .insns (insnsAt + insnWords * i + 5) (omega arith) (omega arith),
       )
 
   instruction-keep : (s : List ℕ) (i : ℕ) → i < c .insns → instructionAt s m' i ≡ instructionAt s m i
@@ -87,10 +89,10 @@ module _ {m m' : List ℕ} {c : Counts} (r : ProgramReady m c) (K : Keeps c m m'
   unfolding funAt
   fun-keep f h =
       rw (
-        K .functions (functionsAt + 4 * f) (omega arith) (omega arith),
-        K .functions (functionsAt + 4 * f + 1) (omega arith) (omega arith),
-        K .functions (functionsAt + 4 * f + 2) (omega arith) (omega arith),
-        K .functions (functionsAt + 4 * f + 3) (omega arith) (omega arith),
+        K .functions (functionsAt + functionWords * f) (omega arith) (omega arith),
+        K .functions (functionsAt + functionWords * f + 1) (omega arith) (omega arith),
+        K .functions (functionsAt + functionWords * f + 2) (omega arith) (omega arith),
+        K .functions (functionsAt + functionWords * f + 3) (omega arith) (omega arith),
       )
 
   pub functions-keep : (s : List ℕ) → functionsOf s m' (c .functions) ≡ functionsOf s m (c .functions)
@@ -99,24 +101,24 @@ module _ {m m' : List ℕ} {c : Counts} (r : ProgramReady m c) (K : Keeps c m m'
       tab-ext (λ f. functionIn s (funAt m' f)) (λ f. functionIn s (funAt m f)) (c .functions) (λ f h. ap (functionIn s) (fun-keep f h))
 
   pub ivars-keep : (k : ℕ) → k < c .classes → ivarsOf m' k ≡ ivarsOf m k
-  ivars-keep k h = K .classes (classesAt + 4 * k + 2) (omega arith) (omega arith)
+  ivars-keep k h = K .classes (classesAt + classWords * k + 2) (omega arith) (omega arith)
 
   pub firsts-keep : (k : ℕ) → k < c .classes → OwnsFrom m' (c .functions) k (firstOf m' k)
   firsts-keep k h =
-      rw (K .classes (classesAt + 4 * k + 3) (omega arith) (omega arith)) (owns-same fun-keep (r .firsts k h))
+      rw (K .classes (classesAt + classWords * k + 3) (omega arith) (omega arith)) (owns-same fun-keep (r .firsts k h))
 
   pub class-keep : (s : List ℕ) (k : ℕ) → k < c .classes → classAt s m' k ≡ classAt s m k
   unfolding classAt
   class-keep s k h =
       let few = r .ivars k h in
       rw (
-        K .classes (classesAt + 4 * k) (omega arith) (omega arith),
-        K .classes (classesAt + 4 * k + 1) (omega arith) (omega arith),
+        K .classes (classesAt + classWords * k) (omega arith) (omega arith),
+        K .classes (classesAt + classWords * k + 1) (omega arith) (omega arith),
         ivars-keep k h,
         tab-ext (λ j. nameIn s (ivarAt m' k j)) (λ j. nameIn s (ivarAt m k j)) (ivarsOf m k)
             (λ j p.
             rw
-            (K .ivars (ivarsAt + 128 * k + 2 * j) (omega arith) (omega arith), K .ivars (ivarsAt + 128 * k + 2 * j + 1) (omega arith) (omega arith))),
+            (K .ivars (ivarsAt + ivarRowWords * k + 2 * j) (omega arith) (omega arith), K .ivars (ivarsAt + ivarRowWords * k + 2 * j + 1) (omega arith) (omega arith))),
       )
 
   pub classes-keep : (s : List ℕ) → classesOf s m' (c .classes) ≡ classesOf s m (c .classes)
@@ -161,56 +163,56 @@ module _ {m m' : List ℕ} {c : Counts} (r : ProgramReady m c) where
       let i = r .insns in
       record {
         len-same = o .len-same;
-        insns = same-below o insnsAt (insnsAt + 6 * c .insns) (omega arith);
+        insns = same-below o insnsAt (insnsAt + insnWords * c .insns) (omega arith);
         opnds = same-below o opndsAt (opndsAt + 2 * c .opnds) (omega arith);
         blocks = λ b p. o .above (blocksAt + 2 * b) (omega arith);
-        functions = same-above o functionsAt (functionsAt + 4 * c .functions) (omega arith);
-        classes = same-above o classesAt (classesAt + 4 * c .classes) (omega arith);
-        ivars = same-above o ivarsAt (ivarsAt + 128 * c .classes) (omega arith);
+        functions = same-above o functionsAt (functionsAt + functionWords * c .functions) (omega arith);
+        classes = same-above o classesAt (classesAt + classWords * c .classes) (omega arith);
+        ivars = same-above o ivarsAt (ivarsAt + ivarRowWords * c .classes) (omega arith);
       }
 
-  pub free-insns : ProgramOnly (insnsAt + 6 * c .insns) (insnsAt + 6 * c .insns + 6) m m' → c .insns < 2048 → Keeps c m m'
+  pub free-insns : ProgramOnly (insnsAt + insnWords * c .insns) (insnsAt + insnWords * c .insns + 6) m m' → c .insns < instructionsMost → Keeps c m m'
   free-insns o h =
       record {
         len-same = o .len-same;
-        insns = same-below o insnsAt (insnsAt + 6 * c .insns) (omega arith);
+        insns = same-below o insnsAt (insnsAt + insnWords * c .insns) (omega arith);
         opnds = same-above o opndsAt (opndsAt + 2 * c .opnds) (omega arith);
         blocks = λ b p. o .above (blocksAt + 2 * b) (omega arith);
-        functions = same-above o functionsAt (functionsAt + 4 * c .functions) (omega arith);
-        classes = same-above o classesAt (classesAt + 4 * c .classes) (omega arith);
-        ivars = same-above o ivarsAt (ivarsAt + 128 * c .classes) (omega arith);
+        functions = same-above o functionsAt (functionsAt + functionWords * c .functions) (omega arith);
+        classes = same-above o classesAt (classesAt + classWords * c .classes) (omega arith);
+        ivars = same-above o ivarsAt (ivarsAt + ivarRowWords * c .classes) (omega arith);
       }
 
-  pub free-blocks : ProgramOnly (blocksAt + 2 * c .blocks) (blocksAt + 2 * c .blocks + 2) m m' → c .blocks < 1024 → Keeps c m m'
+  pub free-blocks : ProgramOnly (blocksAt + 2 * c .blocks) (blocksAt + 2 * c .blocks + 2) m m' → c .blocks < blocksRoom → Keeps c m m'
   free-blocks o h =
       let i = r .insns in
       let e = opnds-end r in
       record {
         len-same = o .len-same;
-        insns = same-below o insnsAt (insnsAt + 6 * c .insns) (omega arith);
+        insns = same-below o insnsAt (insnsAt + insnWords * c .insns) (omega arith);
         opnds = same-below o opndsAt (opndsAt + 2 * c .opnds) (omega arith);
         blocks = λ b p. o .below (blocksAt + 2 * b) (omega arith);
-        functions = same-above o functionsAt (functionsAt + 4 * c .functions) (omega arith);
-        classes = same-above o classesAt (classesAt + 4 * c .classes) (omega arith);
-        ivars = same-above o ivarsAt (ivarsAt + 128 * c .classes) (omega arith);
+        functions = same-above o functionsAt (functionsAt + functionWords * c .functions) (omega arith);
+        classes = same-above o classesAt (classesAt + classWords * c .classes) (omega arith);
+        ivars = same-above o ivarsAt (ivarsAt + ivarRowWords * c .classes) (omega arith);
       }
 
-  pub free-functions : ProgramOnly (functionsAt + 4 * c .functions) (functionsAt + 4 * c .functions + 4) m m' → c .functions < 128 → Keeps c m m'
+  pub free-functions : ProgramOnly (functionsAt + functionWords * c .functions) (functionsAt + functionWords * c .functions + 4) m m' → c .functions < functionsMost → Keeps c m m'
   free-functions o h =
       let i = r .insns in
       let e = opnds-end r in
       let n = r .blocks in
       record {
         len-same = o .len-same;
-        insns = same-below o insnsAt (insnsAt + 6 * c .insns) (omega arith);
+        insns = same-below o insnsAt (insnsAt + insnWords * c .insns) (omega arith);
         opnds = same-below o opndsAt (opndsAt + 2 * c .opnds) (omega arith);
         blocks = λ b p. o .below (blocksAt + 2 * b) (omega arith);
-        functions = same-below o functionsAt (functionsAt + 4 * c .functions) (omega arith);
-        classes = same-above o classesAt (classesAt + 4 * c .classes) (omega arith);
-        ivars = same-above o ivarsAt (ivarsAt + 128 * c .classes) (omega arith);
+        functions = same-below o functionsAt (functionsAt + functionWords * c .functions) (omega arith);
+        classes = same-above o classesAt (classesAt + classWords * c .classes) (omega arith);
+        ivars = same-above o ivarsAt (ivarsAt + ivarRowWords * c .classes) (omega arith);
       }
 
-  pub free-classes : ProgramOnly (classesAt + 4 * c .classes) (classesAt + 4 * c .classes + 4) m m' → c .classes < 64 → Keeps c m m'
+  pub free-classes : ProgramOnly (classesAt + classWords * c .classes) (classesAt + classWords * c .classes + 4) m m' → c .classes < classesMost → Keeps c m m'
   free-classes o h =
       let i = r .insns in
       let e = opnds-end r in
@@ -218,12 +220,12 @@ module _ {m m' : List ℕ} {c : Counts} (r : ProgramReady m c) where
       let f = r .functions in
       record {
         len-same = o .len-same;
-        insns = same-below o insnsAt (insnsAt + 6 * c .insns) (omega arith);
+        insns = same-below o insnsAt (insnsAt + insnWords * c .insns) (omega arith);
         opnds = same-below o opndsAt (opndsAt + 2 * c .opnds) (omega arith);
         blocks = λ b p. o .below (blocksAt + 2 * b) (omega arith);
-        functions = same-below o functionsAt (functionsAt + 4 * c .functions) (omega arith);
-        classes = same-below o classesAt (classesAt + 4 * c .classes) (omega arith);
-        ivars = same-above o ivarsAt (ivarsAt + 128 * c .classes) (omega arith);
+        functions = same-below o functionsAt (functionsAt + functionWords * c .functions) (omega arith);
+        classes = same-below o classesAt (classesAt + classWords * c .classes) (omega arith);
+        ivars = same-above o ivarsAt (ivarsAt + ivarRowWords * c .classes) (omega arith);
       }
 
 -- flags stay where nothing of the blocks' table changes

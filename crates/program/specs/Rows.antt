@@ -10,6 +10,7 @@ use Rattle.kinds.specs.declared.Kind.the-variants.{Nil}
 use Rattle.kinds.specs.declared.Arith.the-variants.{Add, Sub, Mul, Less}
 use Rattle.lexer.specs.Names.{name}
 use Rattle.rules.specs.Program as P
+use Rattle.program.specs.Layout.{insnsAt, opndsAt, blocksAt, functionsAt, classesAt, ivarsAt, insnWords, functionWords, classWords, ivarRowWords}
 use Rattle.program.specs.Tab.{tab}
 use Rattle.program.specs.declared.Name.{Name}
 use Rattle.program.specs.declared.Opnd.{Opnd}
@@ -22,29 +23,6 @@ use Rattle.program.specs.declared.Owner.the-variants.{Class, Nobody}
 use Rattle.program.specs.declared.Function.{Function}
 use Rattle.program.specs.declared.Given.{Given}
 use Rattle.program.specs.declared.Given.the-variants.{Zero, One, Two}
-
--- ---- where the tables start, and how many words they take together
-
-abbrev pub insnsAt : ℕ
-insnsAt = 0
-
-abbrev pub opndsAt : ℕ
-opndsAt = 12288
-
-abbrev pub blocksAt : ℕ
-blocksAt = 36864
-
-abbrev pub functionsAt : ℕ
-functionsAt = 38912
-
-abbrev pub classesAt : ℕ
-classesAt = 39424
-
-abbrev pub ivarsAt : ℕ
-ivarsAt = 39680
-
-abbrev pub size : ℕ
-size = 47872
 
 -- ---- numbers and operands
 
@@ -97,10 +75,10 @@ opFrom t x y =
 unfoldable pub insnAt : List ℕ → ℕ → Row
 insnAt m i =
     record {
-      block = record { 0 = getD m (insnsAt + 6 * i + 1) 0 % 2 ^ 32 };
-      op = opFrom (getD m (insnsAt + 6 * i) 0) (getD m (insnsAt + 6 * i + 2) 0) (getD m (insnsAt + 6 * i + 3) 0);
-      first = getD m (insnsAt + 6 * i + 4) 0;
-      count = getD m (insnsAt + 6 * i + 5) 0;
+      block = record { 0 = getD m (insnsAt + insnWords * i + 1) 0 % 2 ^ 32 };
+      op = opFrom (getD m (insnsAt + insnWords * i) 0) (getD m (insnsAt + insnWords * i + 2) 0) (getD m (insnsAt + insnWords * i + 3) 0);
+      first = getD m (insnsAt + insnWords * i + 4) 0;
+      count = getD m (insnsAt + insnWords * i + 5) 0;
     }
 
 -- the first, or the second, of an instruction's operands
@@ -173,9 +151,9 @@ ownerIn Nobody = none
 unfoldable pub funAt : List ℕ → ℕ → Function
 funAt m f =
     record {
-      name = record { start = getD m (functionsAt + 4 * f) 0; len = getD m (functionsAt + 4 * f + 1) 0 };
-      class = ownerFrom (getD m (functionsAt + 4 * f + 2) 0);
-      entry = record { 0 = getD m (functionsAt + 4 * f + 3) 0 % 2 ^ 32 };
+      name = record { start = getD m (functionsAt + functionWords * f) 0; len = getD m (functionsAt + functionWords * f + 1) 0 };
+      class = ownerFrom (getD m (functionsAt + functionWords * f + 2) 0);
+      entry = record { 0 = getD m (functionsAt + functionWords * f + 3) 0 % 2 ^ 32 };
     }
 
 abbrev pub nameIn : List ℕ → Name → List ℕ
@@ -186,17 +164,17 @@ functionIn s f = record { name = nameIn s (f .name); class = ownerIn (f .class);
 
 -- a class's row: the name's start and length, the number of attributes, a function below which none is the class's
 abbrev pub classNameAt : List ℕ → ℕ → Name
-classNameAt m c = record { start = getD m (classesAt + 4 * c) 0; len = getD m (classesAt + 4 * c + 1) 0 }
+classNameAt m c = record { start = getD m (classesAt + classWords * c) 0; len = getD m (classesAt + classWords * c + 1) 0 }
 
 abbrev pub ivarsOf : List ℕ → ℕ → ℕ
-ivarsOf m c = getD m (classesAt + 4 * c + 2) 0
+ivarsOf m c = getD m (classesAt + classWords * c + 2) 0
 
 abbrev pub firstOf : List ℕ → ℕ → ℕ
-firstOf m c = getD m (classesAt + 4 * c + 3) 0
+firstOf m c = getD m (classesAt + classWords * c + 3) 0
 
 -- an attribute's name: 64 places for each class
 abbrev pub ivarAt : List ℕ → ℕ → ℕ → Name
-ivarAt m c j = record { start = getD m (ivarsAt + 128 * c + 2 * j) 0; len = getD m (ivarsAt + 128 * c + 2 * j + 1) 0 }
+ivarAt m c j = record { start = getD m (ivarsAt + ivarRowWords * c + 2 * j) 0; len = getD m (ivarsAt + ivarRowWords * c + 2 * j + 1) 0 }
 
 unfoldable pub classAt : List ℕ → List ℕ → ℕ → P.Class
 classAt s m c = record { name = nameIn s (classNameAt m c); ivars = tab (λ j. nameIn s (ivarAt m c j)) (ivarsOf m c) }

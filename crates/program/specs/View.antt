@@ -11,8 +11,10 @@ use Rattle.rules.specs.Lists.{isJust}
 use Rattle.rules.specs.Program as P
 use Rattle.rules.specs.Program.{terminated, listedCount}
 use Rattle.rules.specs.Reading.{Parser, withProgram, withBlock, withClass, pushInsn, newBlockOf, newBlock, newFun, newClass}
+use Rattle.memory.specs.Layout.{functionsMost, classesMost, ivarsMost, instructionsMost, operandsMost, blocksRoom}
+use Rattle.program.specs.Layout.{insnsAt, opndsAt, blocksAt, functionsAt, classesAt, programSize, insnWords, functionWords, classWords}
 use Rattle.program.specs.Tab.{tab}
-use Rattle.program.specs.Rows.{size, insnsAt, opndsAt, blocksAt, functionsAt, classesAt, opndsIn, opndOf, opIn, listedIn, insnAt, instructionAt, funAt, functionIn, nameIn, ownerIn, classNameAt}
+use Rattle.program.specs.Rows.{opndsIn, opndOf, opIn, listedIn, insnAt, instructionAt, funAt, functionIn, nameIn, ownerIn, classNameAt}
 use Rattle.program.specs.Rows.{classAt, ivarsOf, firstOf, blockAt, flagAt}
 use Rattle.program.specs.declared.Counts.{Counts}
 use Rattle.program.specs.declared.Limits.{Limits}
@@ -64,16 +66,17 @@ pub record OwnsFrom (m : List ℕ) (n k x : ℕ) : Type 0 where
   pub high : x ≤ n
   pub owned : (f : ℕ) → f < n → isJust (ownerIn (funAt m f .class)) k ≡ true → x ≤ f
 
--- the counts stay within the tables; each instruction's block and operands are there; the flags of blocks and the number of listed operands are the program's; a class's methods stand from its first function on
+-- the counts stay within the tables; each instruction's block and operands are there; the flags of blocks and the number of listed operands are the
+-- program's; a class's methods stand from its first function on
 pub record ProgramReady (m : List ℕ) (c : Counts) : Type 0 where
-  pub len-mem : size ≤ length m
-  pub functions : c .functions ≤ 128
-  pub classes : c .classes ≤ 64
-  pub blocks : c .blocks ≤ 1024
-  pub insns : c .insns ≤ 2048
-  pub listed : c .listed ≤ 8192
+  pub len-mem : programSize ≤ length m
+  pub functions : c .functions ≤ functionsMost
+  pub classes : c .classes ≤ classesMost
+  pub blocks : c .blocks ≤ blocksRoom
+  pub insns : c .insns ≤ instructionsMost
+  pub listed : c .listed ≤ operandsMost
   pub opnds : c .opnds ≤ c .listed + 2 * c .insns
-  pub ivars : (k : ℕ) → k < c .classes → ivarsOf m k ≤ 64
+  pub ivars : (k : ℕ) → k < c .classes → ivarsOf m k ≤ ivarsMost
   pub ranges : (i : ℕ) → i < c .insns → insnAt m i .first + insnAt m i .count ≤ c .opnds
   pub inside : (i : ℕ) → i < c .insns → insnAt m i .block .0 < c .blocks
   pub flags : (s : List ℕ) (b : ℕ) → b < c .blocks → flagAt m b ≡ bitOf (terminated (programView s m c) b)
@@ -82,12 +85,12 @@ pub record ProgramReady (m : List ℕ) (c : Counts) : Type 0 where
 
 -- the limits that a call is given are at most the tables' room
 pub record Small (l : Limits) : Type 0 where
-  pub functions : l .functions ≤ 128
-  pub classes : l .classes ≤ 64
-  pub blocks : l .blocks ≤ 1024
-  pub instructions : l .instructions ≤ 2048
-  pub operands : l .operands ≤ 8192
-  pub ivars : l .ivars ≤ 64
+  pub functions : l .functions ≤ functionsMost
+  pub classes : l .classes ≤ classesMost
+  pub blocks : l .blocks ≤ blocksRoom
+  pub instructions : l .instructions ≤ instructionsMost
+  pub operands : l .operands ≤ operandsMost
+  pub ivars : l .ivars ≤ ivarsMost
 
 abbrev pub limitsOf : Limits → P.Limits
 limitsOf l =
@@ -137,7 +140,7 @@ pub record Puts (at : ℕ) (os : List Opnd) (m m' : List ℕ) : Type 0 where
 
 -- instruction n stands in its row
 pub record PutsRow (n : ℕ) (x : Row) (m m' : List ℕ) : Type 0 where
-  pub only : ProgramOnly (insnsAt + 6 * n) (insnsAt + 6 * n + 6) m m'
+  pub only : ProgramOnly (insnsAt + insnWords * n) (insnsAt + insnWords * n + 6) m m'
   pub here : insnAt m' n ≡ x
 
 -- the rows of a block, of a function and of a class
@@ -147,11 +150,11 @@ pub record PutsBlock (n f : ℕ) (m m' : List ℕ) : Type 0 where
   pub flag : flagAt m' n ≡ 0
 
 pub record PutsFun (n : ℕ) (x : Function) (m m' : List ℕ) : Type 0 where
-  pub only : ProgramOnly (functionsAt + 4 * n) (functionsAt + 4 * n + 4) m m'
+  pub only : ProgramOnly (functionsAt + functionWords * n) (functionsAt + functionWords * n + 4) m m'
   pub here : funAt m' n ≡ x
 
 pub record PutsClass (n : ℕ) (x : Name) (f : ℕ) (m m' : List ℕ) : Type 0 where
-  pub only : ProgramOnly (classesAt + 4 * n) (classesAt + 4 * n + 4) m m'
+  pub only : ProgramOnly (classesAt + classWords * n) (classesAt + classWords * n + 4) m m'
   pub here : classNameAt m' n ≡ x
   pub none : ivarsOf m' n ≡ 0
   pub first : firstOf m' n ≡ f
@@ -317,6 +320,6 @@ pub record Asks (l : Limits) (m : List ℕ) (c : Counts) (b k e : ℕ) : Type 0 
 -- room for it
 pub record ProgramRoom (b : ℕ) (o : Op) (n : ℕ) (c : Counts) : Type 0 where
   pub block : b < c .blocks
-  pub insns : c .insns < 2048
-  pub listed : c .listed + listedIn o n ≤ 8192
+  pub insns : c .insns < instructionsMost
+  pub listed : c .listed + listedIn o n ≤ operandsMost
   pub opnds : n ≤ listedIn o n + 2

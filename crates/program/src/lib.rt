@@ -11,23 +11,73 @@ ghost use Prim.Native.Nat.{_+_, _*_, _≤_, _<_};
 ghost use lib.ListN.{length};
 ghost use Rattle.rules.specs.Lists.{isJust};
 ghost use Rattle.rules.specs.Program.{limits, sameOpnd};
-ghost use Rattle.program.specs.Rows.{size, opndsAt, opndFrom, opndAt, opndsIn, opndOf, nth, given, opFrom, listedIn, endsBlock, ownerFrom, ownerIn};
-ghost use Rattle.program.specs.View.{OwnsFrom, ProgramReady, Small, limitsOf, ReadsInsn, ReadsFun, ReadsBlock, Puts, PutsRow, Asks, ProgramRoom, PutsBlock, PutsFun, PutsClass, Commits, ProgramAdds, ProgramDid, DidFun, Starts, insnOf, blockOf, classOf, pushOf, callOf, blockFor, nextBlock, classFor, moreInsns, moreCalls, moreBlocks, moreClasses, unchanged};
+ghost use Rattle.memory.specs.Layout.{functionsMost, instructionsMost, blocksRoom};
+ghost use Rattle.program.specs.Layout.{opndsAt, programSize};
+ghost use Rattle.program.specs.Rows.{opndFrom, opndAt, opndsIn, opndOf, nth, given, opFrom, listedIn, endsBlock, ownerFrom, ownerIn};
+ghost use Rattle.program.specs.View.{
+  OwnsFrom,
+  ProgramReady,
+  Small,
+  limitsOf,
+  ReadsInsn,
+  ReadsFun,
+  ReadsBlock,
+  Puts,
+  PutsRow,
+  Asks,
+  ProgramRoom,
+  PutsBlock,
+  PutsFun,
+  PutsClass,
+  Commits,
+  ProgramAdds,
+  ProgramDid,
+  DidFun,
+  Starts,
+  insnOf,
+  blockOf,
+  classOf,
+  pushOf,
+  callOf,
+  blockFor,
+  nextBlock,
+  classFor,
+  moreInsns,
+  moreCalls,
+  moreBlocks,
+  moreClasses,
+  unchanged,
+};
+
+// The words of a row of each table; a class has as many rows of names as it can have attributes.
+pub const INSN_WORDS: usize = 6;
+
+pub const OPND_WORDS: usize = 2;
+
+pub const BLOCK_WORDS: usize = 2;
+
+pub const FUNCTION_WORDS: usize = 4;
+
+pub const CLASS_WORDS: usize = 4;
+
+pub const NAME_WORDS: usize = 2;
+
+pub const IVAR_ROW_WORDS: usize = NAME_WORDS * memory::IVARS_MOST;
 
 // Where the tables start, in words, and how many words they take together.
 pub const INSNS: usize = 0;
 
-pub const OPNDS: usize = 12288;
+pub const OPNDS: usize = INSNS + INSN_WORDS * memory::INSTRUCTIONS_MOST;
 
-pub const BLOCKS: usize = 36864;
+pub const BLOCKS: usize = OPNDS + OPND_WORDS * memory::USES_MOST;
 
-pub const FUNCTIONS: usize = 38912;
+pub const FUNCTIONS: usize = BLOCKS + BLOCK_WORDS * memory::BLOCKS_ROOM;
 
-pub const CLASSES: usize = 39424;
+pub const CLASSES: usize = FUNCTIONS + FUNCTION_WORDS * memory::FUNCTIONS_MOST;
 
-pub const IVARS: usize = 39680;
+pub const IVARS: usize = CLASSES + CLASS_WORDS * memory::CLASSES_MOST;
 
-pub const SIZE: usize = 47872;
+pub const SIZE: usize = IVARS + IVAR_ROW_WORDS * memory::CLASSES_MOST;
 
 // A place in the script.
 pub struct Name {
@@ -118,15 +168,15 @@ impl Limits {
         ensures { λ r. ⌜ (limitsOf r ≡ limits) × Small r ⌝ }
     {
         Limits {
-            script: 16384,
-            functions: 128,
-            classes: 64,
-            blocks: 255,
-            instructions: 2048,
-            operands: 8192,
-            ivars: 64,
+            script: memory::SCRIPT_MOST,
+            functions: memory::FUNCTIONS_MOST,
+            classes: memory::CLASSES_MOST,
+            blocks: memory::BLOCKS_MOST,
+            instructions: memory::INSTRUCTIONS_MOST,
+            operands: memory::OPERANDS_MOST,
+            ivars: memory::IVARS_MOST,
             depth: 128,
-            worklist: 16384,
+            worklist: memory::WORKLIST_MOST,
         }
     }
 }
@@ -382,7 +432,7 @@ pub fn read_insn(program: &[usize], counts: Counts, i: InsnId) -> Row
     requires { ⌜ i .0 < counts .insns ⌝ }
     ensures { λ r. ⌜ ReadsInsn (now (program .entry)) counts (i .0) r ⌝ }
 {
-    let at = INSNS + 6 * (i.0 as usize);
+    let at = INSNS + INSN_WORDS * (i.0 as usize);
     Row {
         block: BlockId((program[at + 1] % 4294967296) as u32),
         op: op_from(program[at], program[at + 2], program[at + 3]),
@@ -405,7 +455,7 @@ pub fn read_fun(program: &[usize], counts: Counts, f: FunId) -> Function
     requires { ⌜ f .0 < counts .functions ⌝ }
     ensures { λ r. ⌜ ReadsFun (now (program .entry)) counts (f .0) r ⌝ }
 {
-    let at = FUNCTIONS + 4 * (f.0 as usize);
+    let at = FUNCTIONS + FUNCTION_WORDS * (f.0 as usize);
     Function {
         name: Name {
             start: program[at],
@@ -423,7 +473,7 @@ pub fn first_function(program: &[usize], counts: Counts, k: ClassId) -> usize
 {
     let n = k.0 as usize;
     if n < counts.classes {
-        return program[CLASSES + 4 * n + 3];
+        return program[CLASSES + CLASS_WORDS * n + 3];
     }
     0
 }
@@ -493,11 +543,11 @@ fn copy_opnds(args: &[usize], a: usize, n: usize, program: &mut [usize], at: usi
 }
 
 fn put_insn(program: &mut [usize], i: InsnId, x: Row)
-    requires { ⌜ size ≤ length (now program) ⌝ }
-    requires { ⌜ i .0 < 2048 ⌝ }
+    requires { ⌜ programSize ≤ length (now program) ⌝ }
+    requires { ⌜ i .0 < instructionsMost ⌝ }
     ensures { λ _. ⌜ PutsRow (i .0) x (now (program .entry)) (now (program .exit)) ⌝ }
 {
-    let at = INSNS + 6 * (i.0 as usize);
+    let at = INSNS + INSN_WORDS * (i.0 as usize);
     let b = x.block;
     let op = x.op;
     let w = op_words(op);
@@ -590,7 +640,8 @@ pub fn push_insn(
     requires { ⌜ ProgramReady (now program) counts ⌝ }
     requires { ⌜ Small limits ⌝ }
     requires { ⌜ b .0 < counts .blocks ⌝ }
-    ensures { λ r. ⌜ ProgramDid (pushOf (limitsOf limits) (b .0) op (given g)) unchanged (counts .insns) (moreInsns op (length (given g)) counts) (now (program .entry)) counts (now (program .exit)) (insnOf r) ⌝ }
+    ensures { λ r. ⌜ ProgramDid (pushOf (limitsOf limits) (b .0) op (given g)) unchanged (counts .insns) (moreInsns op (length (given g)) counts)
+        (now (program .entry)) counts (now (program .exit)) (insnOf r) ⌝ }
 {
     let n = count_of(g);
     let k = listed_in(op, n);
@@ -639,7 +690,8 @@ fn push_static(
     requires { ⌜ ProgramReady (now program) counts ⌝ }
     requires { ⌜ Small limits ⌝ }
     requires { ⌜ (b .0 < counts .blocks) × (a + 2 * n ≤ length (now args)) ⌝ }
-    ensures { λ r. ⌜ ProgramDid (callOf (limitsOf limits) (b .0) (Callee.Static f) (opndsIn (now (args .entry)) a n)) unchanged (counts .insns) (moreCalls (Callee.Static f) n counts) (now (program .entry)) counts (now (program .exit)) (insnOf r) ⌝ }
+    ensures { λ r. ⌜ ProgramDid (callOf (limitsOf limits) (b .0) (Callee.Static f) (opndsIn (now (args .entry)) a n)) unchanged (counts .insns)
+        (moreCalls (Callee.Static f) n counts) (now (program .entry)) counts (now (program .exit)) (insnOf r) ⌝ }
 {
     let e = may_push(program, counts, limits, b, n);
     if e != 0 {
@@ -674,7 +726,8 @@ fn push_dynamic(
     requires { ⌜ ProgramReady (now program) counts ⌝ }
     requires { ⌜ Small limits ⌝ }
     requires { ⌜ (b .0 < counts .blocks) × (a + 2 * n ≤ length (now args)) ⌝ }
-    ensures { λ r. ⌜ ProgramDid (callOf (limitsOf limits) (b .0) (Callee.Dynamic v name) (opndsIn (now (args .entry)) a n)) unchanged (counts .insns) (moreCalls (Callee.Dynamic v name) n counts) (now (program .entry)) counts (now (program .exit)) (insnOf r) ⌝ }
+    ensures { λ r. ⌜ ProgramDid (callOf (limitsOf limits) (b .0) (Callee.Dynamic v name) (opndsIn (now (args .entry)) a n)) unchanged (counts .insns)
+        (moreCalls (Callee.Dynamic v name) n counts) (now (program .entry)) counts (now (program .exit)) (insnOf r) ⌝ }
 {
     let e = may_push(program, counts, limits, b, n);
     if e != 0 {
@@ -709,7 +762,8 @@ pub fn push_call(
     requires { ⌜ ProgramReady (now program) counts ⌝ }
     requires { ⌜ Small limits ⌝ }
     requires { ⌜ (b .0 < counts .blocks) × (a + 2 * n ≤ length (now args)) ⌝ }
-    ensures { λ r. ⌜ ProgramDid (callOf (limitsOf limits) (b .0) callee (opndsIn (now (args .entry)) a n)) unchanged (counts .insns) (moreCalls callee n counts) (now (program .entry)) counts (now (program .exit)) (insnOf r) ⌝ }
+    ensures { λ r. ⌜ ProgramDid (callOf (limitsOf limits) (b .0) callee (opndsIn (now (args .entry)) a n)) unchanged (counts .insns)
+        (moreCalls callee n counts) (now (program .entry)) counts (now (program .exit)) (insnOf r) ⌝ }
 {
     match callee {
         Callee::Static(f) => push_static(program, counts, limits, b, f, args, a, n),
@@ -720,8 +774,8 @@ pub fn push_call(
 // ---- blocks, functions and classes added
 
 fn put_block(program: &mut [usize], b: BlockId, f: FunId)
-    requires { ⌜ size ≤ length (now program) ⌝ }
-    requires { ⌜ b .0 < 1024 ⌝ }
+    requires { ⌜ programSize ≤ length (now program) ⌝ }
+    requires { ⌜ b .0 < blocksRoom ⌝ }
     ensures { λ _. ⌜ PutsBlock (b .0) (f .0) (now (program .entry)) (now (program .exit)) ⌝ }
 {
     let at = BLOCKS + 2 * (b.0 as usize);
@@ -730,11 +784,11 @@ fn put_block(program: &mut [usize], b: BlockId, f: FunId)
 }
 
 fn put_fun(program: &mut [usize], f: FunId, x: Function)
-    requires { ⌜ size ≤ length (now program) ⌝ }
-    requires { ⌜ f .0 < 128 ⌝ }
+    requires { ⌜ programSize ≤ length (now program) ⌝ }
+    requires { ⌜ f .0 < functionsMost ⌝ }
     ensures { λ _. ⌜ PutsFun (f .0) x (now (program .entry)) (now (program .exit)) ⌝ }
 {
-    let at = FUNCTIONS + 4 * (f.0 as usize);
+    let at = FUNCTIONS + FUNCTION_WORDS * (f.0 as usize);
     let name = x.name;
     let class = x.class;
     let entry = x.entry;
@@ -746,11 +800,11 @@ fn put_fun(program: &mut [usize], f: FunId, x: Function)
 }
 
 fn put_class(program: &mut [usize], k: ClassId, x: Name, first: usize)
-    requires { ⌜ size ≤ length (now program) ⌝ }
+    requires { ⌜ programSize ≤ length (now program) ⌝ }
     requires { ⌜ k .0 < 64 ⌝ }
     ensures { λ _. ⌜ PutsClass (k .0) x first (now (program .entry)) (now (program .exit)) ⌝ }
 {
-    let at = CLASSES + 4 * (k.0 as usize);
+    let at = CLASSES + CLASS_WORDS * (k.0 as usize);
     program[at] = x.start;
     program[at + 1] = x.len;
     program[at + 2] = 0;
@@ -840,7 +894,7 @@ fn first_owned(program: &[usize], counts: Counts, k: ClassId) -> usize
     let most = counts.functions;
     let mut i = 0;
     while i < most {
-        if is_owned(program[FUNCTIONS + 4 * i + 2], k) {
+        if is_owned(program[FUNCTIONS + FUNCTION_WORDS * i + 2], k) {
             return i;
         }
         i += 1;
@@ -875,7 +929,7 @@ pub fn new_class(program: &mut [usize], counts: Counts, limits: Limits, name: Na
 
 // The program before any reading: the four built-in classes.
 pub fn no_program(program: &mut [usize]) -> Counts
-    requires { ⌜ size ≤ length (now program) ⌝ }
+    requires { ⌜ programSize ≤ length (now program) ⌝ }
     ensures { λ r. ⌜ Starts (now (program .exit)) r ⌝ }
 {
     put_class(program, ClassId(0), Name { start: 0, len: 0 }, 0);

@@ -20,9 +20,11 @@ use Rattle.memory.specs.tables.Bits.{bitAt, RowWord}
 use Rattle.memory.proofs.tables.Listed.{listed-length}
 use Rattle.state.specs.declared.Sizes.{Sizes}
 use Rattle.state.specs.View.{kindsOf, liveOf, calledOf, StateHeld}
-use Rattle.answer.specs.Layout.{answerLen, blocksMost, instructionsMost, functionsMost, rowWords, liveAt, tagsAt, payloadsAt, callersAt}
+use Rattle.state.proofs.Tables.{called-length}
+use Rattle.answer.specs.Layout.{answerLen, liveAt, tagsAt, payloadsAt, callersAt}
 use Rattle.answer.specs.Image.{wordOf, wordsOf}
 use Rattle.answer.proofs.Laws.{in-table, words-length, word-known, rows-length, map-at}
+use Rattle.memory.specs.Layout.{blocksMost, rowWords}
 use Rattle.publish.specs.Final.{callerWords, withState}
 
 module _ (z : Sizes) (m : List ℕ) where
@@ -33,10 +35,6 @@ module _ (z : Sizes) (m : List ℕ) where
   pub kinds-length : length (kindsOf z m) ≡ z .insns
   unfolding kindsOf
   kinds-length = listed-length (z .insns) _
-
-  pub called-length : length (calledOf z m) ≡ z .functions
-  unfolding calledOf
-  called-length = listed-length (z .functions) _
 
 -- ---- live flags
 

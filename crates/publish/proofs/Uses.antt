@@ -1,5 +1,5 @@
 -- The users that stand in the answer memory are two tables of the answer's record. Assumes nothing.
-use mathlib.Core.Path.{_≡_, refl, sym, ap, _∙_}
+use mathlib.Core.Path.{_≡_, sym, ap, _∙_}
 use mathlib.Core.List.{List, [], _++_}
 use Prim.Native.Nat.{ℕ, zero, suc, _+_, _-_, _≤_, _<_}
 use native.Mathlib.Omega.{arith}
@@ -17,14 +17,12 @@ use Rattle.program.proofs.Tables.{tab-length, tab-at}
 use Rattle.machine.specs.Analysed.{Users}
 use Rattle.memory.specs.Memory.{over}
 use Rattle.memory.proofs.Laws.{over-length, over-in, over-out, over-known}
-use Rattle.answer.specs.Layout.{answerLen, instructionsMost, usesMost, startsAt, usersAt}
+use Rattle.answer.specs.Layout.{answerLen, startsAt, usersAt}
 use Rattle.answer.specs.Record.{usersFrom}
 use Rattle.answer.specs.Image.{startsFrom}
 use Rattle.answer.proofs.Laws.{starts-length, starts-at, front-more, front-table}
-
-users-length : (p : Program) (i n : ℕ) → length (usersFrom p i n) ≡ n
-users-length p i zero = refl
-users-length p i (suc n) = ap suc (users-length p (suc i) n)
+use Rattle.answer.proofs.Uses.{users-length}
+use Rattle.memory.specs.Layout.{usesMost}
 
 users-at : (p : Program) (i n k : ℕ) → k < n → getD (usersFrom p i n) k [] ≡ R.uses p (i + k)
 users-at p i zero k h = absurd (not-suc-le-zero h)

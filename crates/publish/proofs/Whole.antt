@@ -14,12 +14,13 @@ use Rattle.machine.specs.Analysed.{Users}
 use Rattle.state.specs.declared.Sizes.{Sizes}
 use Rattle.state.specs.declared.Regs.{Regs}
 use Rattle.state.specs.View.{Attrs, kindsOf, liveOf, calledOf, stateView}
-use Rattle.answer.specs.Layout.{answerLen, rowWords, liveAt, tagsAt, payloadsAt, startsAt, usersAt, callersAt}
+use Rattle.state.proofs.Tables.{called-length}
+use Rattle.answer.specs.Layout.{answerLen, liveAt, tagsAt, payloadsAt, startsAt, usersAt, callersAt}
 use Rattle.answer.specs.Record.{Legal, usersFrom, recordOf}
 use Rattle.answer.specs.Image.{startsFrom, wordsOf, imageOf}
 use Rattle.answer.proofs.Publish.{published}
 use Rattle.publish.specs.Final.{callerWords, withState}
-use Rattle.publish.proofs.Tables.{live-length, kinds-length, called-length}
+use Rattle.publish.proofs.Tables.{live-length, kinds-length}
 use Rattle.publish.proofs.Uses.{Outside, uses-written}
 
 module _ (s m : List ℕ) (c : Counts) (z : Sizes) (v : Attrs) (w : List ℕ) (q : Regs) (ready : ProgramReady m c) (sizes : z .insns ≡ c .insns)

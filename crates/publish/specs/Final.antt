@@ -7,8 +7,9 @@ use Rattle.rules.specs.Lists.{concat}
 use Rattle.memory.specs.Memory.{over}
 use Rattle.state.specs.declared.Sizes.{Sizes}
 use Rattle.state.specs.View.{kindsOf, liveOf, calledOf}
-use Rattle.answer.specs.Layout.{rowWords, liveAt, tagsAt, payloadsAt, callersAt}
+use Rattle.answer.specs.Layout.{liveAt, tagsAt, payloadsAt, callersAt}
 use Rattle.answer.specs.Image.{wordsOf}
+use Rattle.memory.specs.Layout.{rowWords}
 
 -- the callers of all functions, a row of words for each
 unfoldable pub callerWords : List (List 𝔹) → List ℕ

@@ -10,7 +10,8 @@ ghost use lib.ListN.{length};
 ghost use Rattle.kinds.specs.Kinds.{bitOf, tagOf, payloadOf};
 ghost use Rattle.memory.specs.Memory.{over};
 ghost use Rattle.state.specs.View.{kindsOf, liveOf, calledOf, StateHeld};
-ghost use Rattle.answer.specs.Layout.{answerLen, blocksMost, liveAt, tagsAt, payloadsAt, callersAt};
+ghost use Rattle.answer.specs.Layout.{answerLen, liveAt, tagsAt, payloadsAt, callersAt};
+ghost use Rattle.memory.specs.Layout.{blocksMost};
 ghost use Rattle.publish.specs.Final.{callerWords, withState};
 
 fn write_live(state: &[usize], sizes: Sizes, answer: &mut [usize])
@@ -57,11 +58,11 @@ fn write_callers(state: &[usize], sizes: Sizes, answer: &mut [usize])
     requires { ⌜ length (now answer) ≡ answerLen ⌝ }
     ensures { λ _. ⌜ now (answer .exit) ≡ over callersAt (callerWords (calledOf sizes (now (state .entry)))) (now (answer .entry)) ⌝ }
 {
-    let words = sizes.functions * answer::ROW_WORDS;
+    let words = sizes.functions * memory::ROW_WORDS;
     let mut j = 0;
     while j < words {
-        let f = FunId((j / answer::ROW_WORDS) as u32);
-        let word = state::caller_word(state, sizes, f, j % answer::ROW_WORDS);
+        let f = FunId((j / memory::ROW_WORDS) as u32);
+        let word = state::caller_word(state, sizes, f, j % memory::ROW_WORDS);
         answer[answer::CALLERS + j] = word;
         j += 1;
     }

@@ -10,6 +10,7 @@ use Rattle.program.specs.declared.Counts.{Counts}
 use Rattle.program.specs.declared.Op.{Op}
 use Rattle.program.specs.declared.Row.{Row}
 use Rattle.program.proofs.Reading.{insn-read}
+use Rattle.program.specs.Layout.{insnsAt, insnWords}
 use Rattle.records.specs.Records.{none, recordAt, rowOf, Holds}
 use Rattle.records.specs.declared.Record.{Record}
 
@@ -17,12 +18,12 @@ use Rattle.records.specs.declared.Record.{Record}
 
 pub record-is : (m : List ℕ) (i : ℕ)
     → record {
-      tag = getD m (0 + 6 * i) 0;
-      block = getD m (0 + 6 * i + 1) 0;
-      x = getD m (0 + 6 * i + 2) 0;
-      y = getD m (0 + 6 * i + 3) 0;
-      first = getD m (0 + 6 * i + 4) 0;
-      count = getD m (0 + 6 * i + 5) 0;
+      tag = getD m (insnsAt + insnWords * i) 0;
+      block = getD m (insnsAt + insnWords * i + 1) 0;
+      x = getD m (insnsAt + insnWords * i + 2) 0;
+      y = getD m (insnsAt + insnWords * i + 3) 0;
+      first = getD m (insnsAt + insnWords * i + 4) 0;
+      count = getD m (insnsAt + insnWords * i + 5) 0;
     }
     ≡ recordAt m i
 unfolding recordAt

@@ -9,6 +9,7 @@ use lib.ListN.{length, getD, set, length-set}
 use lib.Seq.{getD-set-same, getD-set-other}
 use Rattle.program.specs.View.{ProgramReady}
 use Rattle.program.specs.declared.Counts.{Counts}
+use Rattle.memory.specs.Layout.{instructionsMost}
 use Rattle.records.specs.Records.{none, recordAt, Holds}
 use Rattle.records.specs.declared.Record.{Record}
 
@@ -36,5 +37,5 @@ module _ (t : List Record) (m : List ℕ) where
         | no q ↦ getD-set-other (committed t m k) k i (recordAt m k) none q ∙ committed-at k i (omega arith) (omega arith)
       ]
 
-  pub committed-holds : {c : Counts} → ProgramReady m c → length t ≡ 2048 → Holds (committed t m (c .insns)) m c
+  pub committed-holds : {c : Counts} → ProgramReady m c → length t ≡ instructionsMost → Holds (committed t m (c .insns)) m c
   committed-holds {c} r e = record { len-table = committed-length (c .insns) ∙ e; records = λ i h. committed-at (c .insns) i (omega (arith, r .insns)) h }

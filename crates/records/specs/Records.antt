@@ -3,9 +3,11 @@ use mathlib.Core.Path.{_≡_}
 use mathlib.Core.List.{List}
 use Prim.Native.Nat.{ℕ, _+_, _*_, _%_, _^_, _<_}
 use lib.ListN.{length, getD}
-use Rattle.program.specs.Rows.{insnsAt, opFrom}
+use Rattle.program.specs.Rows.{opFrom}
 use Rattle.program.specs.declared.Counts.{Counts}
 use Rattle.program.specs.declared.Row.{Row}
+use Rattle.memory.specs.Layout.{instructionsMost}
+use Rattle.program.specs.Layout.{insnsAt, insnWords}
 use Rattle.records.specs.declared.Record.{Record}
 
 -- what stands past the end of a table, and at every place of an empty one
@@ -16,12 +18,12 @@ none = record { tag = 0; block = 0; x = 0; y = 0; first = 0; count = 0 }
 unfoldable pub recordAt : List ℕ → ℕ → Record
 recordAt m i =
     record {
-      tag = getD m (insnsAt + 6 * i) 0;
-      block = getD m (insnsAt + 6 * i + 1) 0;
-      x = getD m (insnsAt + 6 * i + 2) 0;
-      y = getD m (insnsAt + 6 * i + 3) 0;
-      first = getD m (insnsAt + 6 * i + 4) 0;
-      count = getD m (insnsAt + 6 * i + 5) 0;
+      tag = getD m (insnsAt + insnWords * i) 0;
+      block = getD m (insnsAt + insnWords * i + 1) 0;
+      x = getD m (insnsAt + insnWords * i + 2) 0;
+      y = getD m (insnsAt + insnWords * i + 3) 0;
+      first = getD m (insnsAt + insnWords * i + 4) 0;
+      count = getD m (insnsAt + insnWords * i + 5) 0;
     }
 
 -- the row that a record stands for
@@ -30,5 +32,5 @@ rowOf x = record { block = record { 0 = x .block % 2 ^ 32 }; op = opFrom (x .tag
 
 -- the table holds the program's instructions
 pub record Holds (t : List Record) (m : List ℕ) (c : Counts) : Type 0 where
-  pub len-table : length t ≡ 2048
+  pub len-table : length t ≡ instructionsMost
   pub records : (i : ℕ) → i < c .insns → getD t i none ≡ recordAt m i

@@ -6,6 +6,7 @@ ghost use mathlib.Core.Path.{_≡_};
 ghost use Prim.Native.Nat.{_+_, _<_};
 ghost use lib.ListN.{length, getD, set, replicate};
 ghost use Rattle.program.specs.View.{ProgramReady};
+ghost use Rattle.memory.specs.Layout.{instructionsMost};
 ghost use Rattle.records.specs.Records.{none, recordAt, rowOf, Holds};
 
 // An instruction's record, in plain numbers.
@@ -36,8 +37,8 @@ pub fn append(t: &mut [Record], n: usize, x: Record) -> usize
 }
 
 // A table before anything is appended.
-pub fn empty() -> [Record; 2048]
-    ensures { λ r. ⌜ r ≡ replicate 2048 none ⌝ }
+pub fn empty() -> [Record; memory::INSTRUCTIONS_MOST]
+    ensures { λ r. ⌜ r ≡ replicate instructionsMost none ⌝ }
 {
     let x = Record {
         tag: 0,
@@ -47,7 +48,7 @@ pub fn empty() -> [Record; 2048]
         first: 0,
         count: 0,
     };
-    [x; 2048]
+    [x; memory::INSTRUCTIONS_MOST]
 }
 
 // The record of an instruction that the parser drafted in the program's words.
@@ -55,7 +56,7 @@ pub fn drafted(program: &[usize], counts: Counts, i: usize) -> Record
     requires { ⌜ ProgramReady (now program) counts × (i < counts .insns) ⌝ }
     ensures { λ r. ⌜ r ≡ recordAt (now (program .entry)) i ⌝ }
 {
-    let at = program::INSNS + 6 * i;
+    let at = program::INSNS + program::INSN_WORDS * i;
     Record {
         tag: program[at],
         block: program[at + 1],
@@ -80,7 +81,7 @@ pub fn row(x: Record) -> Row
 
 // The instructions that the parser drafted are appended to the table.
 pub fn commit(t: &mut [Record], program: &[usize], counts: Counts)
-    requires { ⌜ ProgramReady (now program) counts × (length (now t) ≡ 2048) ⌝ }
+    requires { ⌜ ProgramReady (now program) counts × (length (now t) ≡ instructionsMost) ⌝ }
     ensures { λ _. ⌜ Holds (now (t .exit)) (now (program .entry)) counts ⌝ }
 {
     let mut k = 0;

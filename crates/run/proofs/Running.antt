@@ -28,11 +28,12 @@ use Rattle.state.proofs.Pushes.{rest-told}
 use Rattle.machine.specs.blocks.Blocks.{BlockStepped}
 use Rattle.machine.specs.Analysed.{Suited, Analysed, MachineFits, MachineReached, Steady}
 use Rattle.machine.proofs.States.{attrs, attrs-fit, at-of, steady-at, bound-fits}
-use Rattle.run.specs.Runs.{blockNext, RecordOf, Front, Reaching, RunRan, Ahead, Going, TurnOutcome, Under, left, Turned}
+use Rattle.steps.specs.Steps.{blockNext, RecordOf, Front}
+use Rattle.run.specs.Runs.{Reaching, RunRan, Ahead, Going, TurnOutcome, Under, left, Turned}
 use Rattle.run.specs.declared.Turn.{Turn}
-use Rattle.run.specs.declared.Timed.{Timed}
-use Rattle.run.specs.Stamps.{tablesOf, Stamped, StampedIf, Timely}
-use Rattle.run.proofs.Stepping.{positive}
+use Rattle.steps.specs.declared.Timed.{Timed}
+use Rattle.steps.specs.Stamps.{tablesOf, Stamped, StampedIf, Timely}
+use Rattle.steps.proofs.Stepping.{positive}
 
 same : {x y : State} → answered x ≡ answered y → x ≡ y
 same e = cc
@@ -91,10 +92,13 @@ module _ {s p : List ℕ} {c : Counts} {z : Sizes} {m : List ℕ} {q : Regs} (g 
     going-refused {n} e = record {
       is = λ L S v a t₀ b.
           let h = g .reaching .at L S v a in
-          let i : step L (P.programView s p c) (stateView z v m q) ≡ refused n = sym (d .is L (S .room .worklist) (P.programView s p c) v a) ∙ ap (λ (x : Acted). stateOf L (P.programView s p c) (went z v m' x)) e in
+          let i : step L (P.programView s p c) (stateView z v m q) ≡ refused n = sym (d .is L (S .room .worklist) (P.programView s p c) v a)
+          ∙ ap (λ (x : Acted). stateOf L (P.programView s p c) (went z v m' x)) e in
           let k : h .from ≡ t₀ = same (sym (h .starts) ∙ b) in
           sym
-          (ap (run L (P.programView s p c) (bound (P.programView s p c))) (sym k) ∙ at-refused L (S .room .classes) (P.programView s p c) (S .finished) (h .from) (stateView z v m q) n (at-of s p c L S (stateView z v m q) h) (sym (w z v m) ∙ f) i);
+          (ap (run L (P.programView s p c) (bound (P.programView s p c))) (sym k)
+          ∙ at-refused L (S .room .classes) (P.programView s p c) (S .finished) (h .from) (stateView z v m q) n
+          (at-of s p c L S (stateView z v m q) h) (sym (w z v m) ∙ f) i);
       ok = tt;
     }
 
@@ -104,13 +108,18 @@ module _ {s p : List ℕ} {c : Counts} {z : Sizes} {m : List ℕ} {q : Regs} (g 
         let h = g .reaching .at L S v a in
         let k : h .from ≡ t₀ = same (sym (h .starts) ∙ b) in
         sym
-        (ap (run L (P.programView s p c) (bound (P.programView s p c))) (sym k) ∙ at-rest L (S .room .classes) (P.programView s p c) (S .finished) (h .from) (stateView z v m q) (at-of s p c L S (stateView z v m q) h) (sym (w z v m) ∙ f));
+        (ap (run L (P.programView s p c) (bound (P.programView s p c))) (sym k)
+        ∙ at-rest L (S .room .classes) (P.programView s p c) (S .finished) (h .from) (stateView z v m q) (at-of s p c L S (stateView z v m q) h)
+        (sym (w z v m) ∙ f));
     ok = record {
       ready = g .ready;
       rest =
           eqb-true (q .insns .len + q .blocks .len) 0
           (rest-told z (attrs s p c (A .indexed .limits) (A .indexed .suited)) m q ∙ sym (w z (attrs s p c (A .indexed .limits) (A .indexed .suited)) m) ∙ f);
-      count = let S = A .indexed .suited in let y = at-of s p c (A .indexed .limits) S (stateView z (attrs s p c (A .indexed .limits) S) m q) (at-once (A .indexed .limits) S) .going .spent in omega (arith, y);
+      count = let S = A .indexed .suited in
+          let y = at-of s p c (A .indexed .limits) S (stateView z (attrs s p c (A .indexed .limits) S) m q)
+          (at-once (A .indexed .limits) S) .going .spent in
+          omega (arith, y);
     };
   }
 

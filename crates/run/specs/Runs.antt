@@ -1,53 +1,26 @@
--- What a step and a run promise of the memory that they change. Assumes nothing.
-use mathlib.Core.Bool.{Bool as 𝔹, true, false, not, _&&_, _||_}
+-- What a run promises of the memory that it changes, and where it stands. Assumes nothing.
+use mathlib.Core.Bool.{false, not}
 use mathlib.Core.Path.{_≡_}
-use mathlib.Core.List.{List, _∷_}
-use Prim.Native.Nat.{ℕ, _+_, _-_, _^_, _≤_, _<_}
-use lib.Dec.{eqb}
+use mathlib.Core.List.{List}
+use Prim.Native.Nat.{ℕ, _+_, _-_, _≤_, _<_}
 use Rattle.rules.specs.Actions.{answered}
 use Rattle.rules.specs.Program.{Limits}
 use Rattle.rules.specs.Bound.{bound}
 use Rattle.rules.specs.Machine.{State, atRest, stateOf, start, run}
 use Rattle.program.specs.View as P
 use Rattle.program.specs.declared.Counts.{Counts}
-use Rattle.records.specs.Records.{recordAt}
-use Rattle.records.specs.declared.Record.{Record}
 use Rattle.state.specs.declared.Sizes.{Sizes}
 use Rattle.state.specs.declared.Regs.{Regs}
 use Rattle.state.specs.declared.Acted.{Acted}
 use Rattle.state.specs.declared.Acted.the-variants.{On, Refused}
-use Rattle.state.specs.View.{Attrs, insnsOf, stateView, StateReady}
+use Rattle.state.specs.View.{Attrs, stateView, StateReady}
 use Rattle.state.specs.Changes.{went}
-use Rattle.machine.specs.Analysed.{Suited, Analysed, MachineFits, MachineReached, Steady}
-use Rattle.run.specs.Stamps.{tablesOf, Fronts, Stamped}
+use Rattle.machine.specs.Analysed.{Suited, MachineFits, MachineReached}
+use Rattle.steps.specs.Stamps.{Stamped}
+use Rattle.steps.specs.Steps.{Front}
+use Rattle.memory.specs.Layout.{instructionsMost}
 use Rattle.run.specs.declared.Turn.{Turn}
-
-abbrev pub insnsIn : State → List ℕ
-insnsIn s = s .insnWorklist
-
--- whether the next entry is a block: while blocks are being taken and any waits, or where no instruction waits
-abbrev pub blockNext : Regs → 𝔹
-blockNext q = (q .draining && not (eqb (q .blocks .len) 0)) || eqb (q .insns .len) 0
-
--- x is the record of the instruction in front
-abbrev pub RecordOf : List ℕ → List ℕ → Regs → Record → Type 0
-RecordOf p m q x = (i : ℕ) (l : List ℕ) → insnsOf m q ≡ i ∷ l → x ≡ recordAt p i
-
--- what a visit of the instruction i in front, with record x, relies on
-pub record Facing (s p : List ℕ) (c : Counts) (y u : List ℕ) (z : Sizes) (m : List ℕ) (q : Regs) (i : ℕ) (x : Record) : Type 0 where
-  pub analysed : Analysed s p c y u z
-  pub steady : Steady s p c z m
-  pub ready : StateReady z m q
-  pub some : 0 < q .insns .len
-  pub small : q .count < 2 ^ 63
-  pub record-of : RecordOf p m q x
-  pub front : Fronts z m q i
-
--- where an instruction is next, r is the one in front
-pub record Front (z : Sizes) (m : List ℕ) (q : Regs) (r : ℕ) : Type 0 where
-  pub below : r < 2048
-  pub inside : blockNext q ≡ false → r < z .insns
-  pub is : blockNext q ≡ false → (i : ℕ) (l : List ℕ) → insnsOf m q ≡ i ∷ l → i ≡ r
+pub use Rattle.steps.specs.Stamps.{tablesOf, StampsFresh}
 
 -- under all limits that suit, the steps so far have led to the state of the memory and the registers
 pub record Reaching (s p : List ℕ) (c : Counts) (z : Sizes) (m : List ℕ) (q : Regs) : Type 0 where
@@ -90,7 +63,7 @@ TurnOutcome s p c z m a (Refused n) = (a .going ≡ false) × RunRan s p c z (ta
 
 -- before and after each turn
 pub record Under (s p : List ℕ) (c : Counts) (z : Sizes) (m : List ℕ) (a : Turn) : Type 0 where
-  pub below : a .insn < 2048
+  pub below : a .insn < instructionsMost
   pub outcome : TurnOutcome s p c z m a (a .went)
 
 -- the steps that are left of a bound; none after a refusal

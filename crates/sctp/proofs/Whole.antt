@@ -23,15 +23,16 @@ use Rattle.state.specs.declared.Acted.{Acted}
 use Rattle.state.specs.declared.Acted.the-variants.{On, Refused}
 use Rattle.state.specs.View.{Attrs, stateView, StateReady}
 use Rattle.state.specs.Changes.{went}
-use Rattle.answer.specs.Layout.{startsAt, usersAt, usesMost, callersAt, answerLen}
+use Rattle.answer.specs.Layout.{startsAt, usersAt, callersAt, answerLen}
 use Rattle.machine.specs.Analysed.{sizesOf, MachineSized, Users, Suited, Indexed, Analysed, MachineFits, MachineReached}
 use Rattle.machine.proofs.Storing.{start-few}
+use Rattle.memory.specs.Layout.{instructionsMost}
+use Rattle.state.specs.Layout.{stateSize, stateLen}
 use Rattle.sctp.specs.starts.Starts.{Started}
 use Rattle.chains.specs.Chains.{ChainsFilled}
-use Rattle.run.specs.Stamps.{tablesOf as wordsOf, StampsFresh}
-use Rattle.run.specs.Runs.{Reaching, RunRan}
+use Rattle.run.specs.Runs.{tablesOf as wordsOf, StampsFresh, Reaching, RunRan}
 use Rattle.settled.proofs.Stamps.{tables-long}
-use Rattle.run.proofs.Stamps.{back-long}
+use Rattle.steps.proofs.Stamps.{back-long}
 use Rattle.sctp.specs.Sctp.{tablesOf, chainsOf, Given, SctpChained, SctpAside, Begins, SctpOutcome, Ends, SctpLeft, Analyses}
 
 -- ---- the start, then the run
@@ -74,8 +75,8 @@ start-ended {s} {p} {c} {z} {u} {u'} {m} {b} {n} d e =
     }
 
 -- the state's tables were lent and came back as w, and n stamps behind them were cleared
-module _ {n : ℕ} (m w m' : List ℕ) (long : length m ≡ 54272) (same : length w ≡ length (take 52224 m)) (f : ChainsFilled 52224 n 0 (w ++ drop 52224 m) m') where
-  cleared-long : length m' ≡ 54272
+module _ {n : ℕ} (m w m' : List ℕ) (long : length m ≡ stateLen) (same : length w ≡ length (take stateSize m)) (f : ChainsFilled stateSize n 0 (w ++ drop stateSize m) m') where
+  cleared-long : length m' ≡ stateLen
   cleared-long = f .only .len-same ∙ back-long m w long same
 
   pub cleared-same : length m' ≡ length m
@@ -84,14 +85,14 @@ module _ {n : ℕ} (m w m' : List ℕ) (long : length m ≡ 54272) (same : lengt
   cleared-tables : w ≡ wordsOf m'
   cleared-tables =
       ext-getD 0 w (wordsOf m') (same ∙ tables-long m long ∙ sym (tables-long m' cleared-long))
-      (λ k h. let l = same ∙ tables-long m long in sym (getD-take 52224 m' k 0 (omega arith) ∙ f .only .others k (λ a b. omega arith) ∙ List·getD-append w (drop 52224 m) 0 k h))
+      (λ k h. let l = same ∙ tables-long m long in sym (getD-take stateSize m' k 0 (omega arith) ∙ f .only .others k (λ a b. omega arith) ∙ List·getD-append w (drop stateSize m) 0 k h))
 
   pub begun-tables : {s p : List ℕ} {c : Counts} {z : Sizes} {u u' : List ℕ} {b : Acted} → Begins s p c z u u' w b → Begins s p c z u u' (wordsOf m') b
   begun-tables {s} {p} {c} {z} {u} {u'} {b} d = subst (λ (l : List ℕ). Begins s p c z u u' l b) cleared-tables d
 
 -- no instruction is stamped
-pub begun-fresh : {s p : List ℕ} {c : Counts} {z : Sizes} {u u' : List ℕ} {b : Acted} {q : Regs} (m w m' : List ℕ) → length m ≡ 54272 → length w ≡ length (take 52224 m)
-    → ChainsFilled 52224 (z .insns) 0 (w ++ drop 52224 m) m'
+pub begun-fresh : {s p : List ℕ} {c : Counts} {z : Sizes} {u u' : List ℕ} {b : Acted} {q : Regs} (m w m' : List ℕ) → length m ≡ stateLen → length w ≡ length (take stateSize m)
+    → ChainsFilled stateSize (z .insns) 0 (w ++ drop stateSize m) m'
     → Begins s p c z u u' w b → b ≡ On q → StampsFresh z m' q
 begun-fresh m w m' long same f d e = record { long = cleared-long m w m' long same f; ready = begun-ready (begun-tables m w m' long same f d) e; none = λ i h. f .here i h }
 
@@ -101,7 +102,7 @@ pub sized-self : (c : Counts) → MachineSized c (sizesOf c)
 sized-self c = record { functions = refl; classes = refl; blocks = refl; insns = refl }
 
 -- users whose places stay
-pub users-kept : {p : List ℕ} {c : Counts} {u u' : List ℕ} → c .insns ≤ 2048 → length u' ≡ length u → SctpAside u u' → Users p c u → Users p c u'
+pub users-kept : {p : List ℕ} {c : Counts} {u u' : List ℕ} → c .insns ≤ instructionsMost → length u' ≡ length u → SctpAside u u' → Users p c u → Users p c u'
 users-kept {p} {c} {u} {u'} few len a g = record {
   long = omega (arith, g .long);
   begins = at 0 (omega arith) ∙ g .begins;
@@ -115,7 +116,7 @@ users-kept {p} {c} {u} {u'} few len a g = record {
       ∙ g .part s j h;
 }
   where
-    at : (j : ℕ) → j ≤ 2048 → getD u' (startsAt + j) 0 ≡ getD u (startsAt + j) 0
+    at : (j : ℕ) → j ≤ instructionsMost → getD u' (startsAt + j) 0 ≡ getD u (startsAt + j) 0
     at j h = a .same (startsAt + j) (omega arith)
 
 pub users-laid : {p : List ℕ} {c : Counts} {u u' : List ℕ} → length u ≡ answerLen → Uses p c startsAt usersAt u u' → Users p c u'

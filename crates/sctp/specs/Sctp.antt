@@ -18,24 +18,27 @@ use Rattle.state.specs.View.{Attrs, StateReady}
 use Rattle.state.specs.Changes.{went}
 use Rattle.answer.specs.Layout.{startsAt, usersAt, callersAt, answerLen}
 use Rattle.machine.specs.Analysed.{sizesOf, Users, Suited, MachineFits}
+use Rattle.program.specs.Layout.{programSize}
+use Rattle.state.specs.Layout.{stateLen}
+use Rattle.chains.specs.Layout.{programLen}
 use Rattle.sctp.specs.starts.Starts.{Started}
 use Rattle.run.specs.Runs.{RestedIf}
 
 -- the program part: its tables, then room for the chains of the index
 abbrev pub tablesOf : List ℕ → List ℕ
-tablesOf p = take 47872 p
+tablesOf p = take programSize p
 
 abbrev pub chainsOf : List ℕ → List ℕ
-chainsOf p = drop 47872 p
+chainsOf p = drop programSize p
 
 -- the lent parts, and a program that was read
 pub record Given (s p : List ℕ) (c : Counts) (u m : List ℕ) : Type 0 where
   pub limits : Limits
   pub suited : Suited s (tablesOf p) c limits
   pub ready : P.ProgramReady (tablesOf p) c
-  pub program : length p ≡ 57088
+  pub program : length p ≡ programLen
   pub answer : length u ≡ answerLen
-  pub state : length m ≡ 54272
+  pub state : length m ≡ stateLen
 
 -- the chains stand behind the tables
 pub record SctpChained (c : Counts) (p p' : List ℕ) : Type 0 where

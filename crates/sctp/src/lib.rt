@@ -11,20 +11,21 @@ ghost use Rattle.program.specs.View.{ProgramReady};
 ghost use Rattle.state.specs.View.{StateHeld, StateCleared};
 ghost use Rattle.answer.specs.Layout.{answerLen};
 ghost use Rattle.machine.specs.Analysed.{Indexed, Analysed};
-ghost use Rattle.run.specs.Stamps.{tablesOf as wordsOf, StampsFresh};
-ghost use Rattle.run.specs.Runs.{Reaching, RunRan};
+ghost use Rattle.run.specs.Runs.{tablesOf as wordsOf, StampsFresh, Reaching, RunRan};
+ghost use Rattle.state.specs.Layout.{stateSize, stateLen};
+ghost use Rattle.chains.specs.Layout.{programLen};
 ghost use Rattle.sctp.specs.Sctp.{tablesOf, chainsOf, Given, SctpChained, SctpAside, StartsAside, Begins, Ends, Analyses};
 
 // The words of the program part that its tables take, and those of the index.
-const TABLES: usize = 47872;
+const TABLES: usize = program::SIZE;
 
-const CHAINS: usize = 9216;
+const CHAINS: usize = chains::SIZE;
 
 // The chains of the index are made in the state's memory, and what is in use of them goes behind the program's tables.
 fn lay_index(program: &mut [usize], counts: Counts, state: &mut [usize])
     requires { ⌜ ProgramReady (tablesOf (now program)) counts ⌝ }
-    requires { ⌜ length (now program) ≡ 57088 ⌝ }
-    requires { ⌜ length (now state) ≡ 54272 ⌝ }
+    requires { ⌜ length (now program) ≡ programLen ⌝ }
+    requires { ⌜ length (now state) ≡ stateLen ⌝ }
     ensures { λ _. ⌜ SctpChained counts (now (program .entry)) (now (program .exit)) ⌝ }
 {
     chains::build_index(&program[..TABLES], counts, &mut state[..CHAINS]);
@@ -38,8 +39,13 @@ fn clear_tables(state: &mut [usize], sizes: Sizes)
 {
     chains::fill(state, 0, sizes.insns, 0);
     chains::fill(state, state::LIVE, sizes.blocks, 0);
-    chains::fill(state, state::CALLERS, 32 * sizes.functions, 0);
-    chains::fill(state, state::READS, 32 * sizes.classes, 0);
+    chains::fill(
+        state,
+        state::CALLERS,
+        memory::ROW_WORDS * sizes.functions,
+        0,
+    );
+    chains::fill(state, state::READS, memory::ROW_WORDS * sizes.classes, 0);
 }
 
 // The answer's callers are cleared.
@@ -87,7 +93,7 @@ fn begin(
 ) -> Acted
     requires { ⌜ Indexed (now script) (now program) counts (now chains) sizes ⌝ }
     requires { ⌜ length (now users) ≡ answerLen ⌝ }
-    requires { ⌜ length (now state) ≡ 52224 ⌝ }
+    requires { ⌜ length (now state) ≡ stateSize ⌝ }
     ensures { λ r. ⌜ Begins (now (script .entry)) (now (program .entry)) counts sizes (now (users .entry)) (now (users .exit)) (now (state .exit)) r ⌝ }
 {
     clear_tables(state, sizes);
@@ -107,7 +113,8 @@ fn run_lent(
     sizes: Sizes,
     regs: Regs,
 ) -> Acted
-    requires { ⌜ Analysed (now script) (now program) counts (now chains) (now users) sizes × StampsFresh sizes (now state) regs × Reaching (now script) (now program) counts sizes (wordsOf (now state)) regs ⌝ }
+    requires { ⌜ Analysed (now script) (now program) counts (now chains) (now users) sizes × StampsFresh sizes (now state) regs
+        × Reaching (now script) (now program) counts sizes (wordsOf (now state)) regs ⌝ }
     ensures { λ r. ⌜ RunRan (now (script .entry)) (now (program .entry)) counts sizes (wordsOf (now (state .exit))) r ⌝ }
 {
     let mut t = records::empty();
@@ -137,7 +144,7 @@ fn analyse(
 ) -> Acted
     requires { ⌜ Analysed (now script) (now program) counts (now chains) (now users) sizes ⌝ }
     requires { ⌜ length (now users) ≡ answerLen ⌝ }
-    requires { ⌜ length (now state) ≡ 54272 ⌝ }
+    requires { ⌜ length (now state) ≡ stateLen ⌝ }
     ensures { λ r. ⌜ Ends (now (script .entry)) (now (program .entry)) counts sizes (now (users .entry)) (now (users .exit)) (wordsOf (now (state .exit))) r ⌝ }
 {
     let b = begin(
@@ -166,9 +173,9 @@ fn analyse_parts(
     sizes: Sizes,
 ) -> Acted
     requires { ⌜ Analysed (now script) (tablesOf (now program)) counts (chainsOf (now program)) (now users) sizes ⌝ }
-    requires { ⌜ length (now program) ≡ 57088 ⌝ }
+    requires { ⌜ length (now program) ≡ programLen ⌝ }
     requires { ⌜ length (now users) ≡ answerLen ⌝ }
-    requires { ⌜ length (now state) ≡ 54272 ⌝ }
+    requires { ⌜ length (now state) ≡ stateLen ⌝ }
     ensures { λ r. ⌜ Ends (now (script .entry)) (tablesOf (now (program .entry))) counts sizes (now (users .entry)) (now (users .exit)) (wordsOf (now (state .exit))) r ⌝ }
 {
     analyse(

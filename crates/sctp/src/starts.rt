@@ -5,15 +5,15 @@ use state::Acted;
 use state::Sizes;
 ghost use Prim.Native.Nat.{_≤_, _<_};
 ghost use lib.ListN.{length};
-ghost use Rattle.constructors.specs.Walks.{work};
 ghost use Rattle.machine.specs.Analysed.{Indexed};
 ghost use Rattle.state.specs.View.{StateCleared};
+ghost use Rattle.constructors.specs.Layout.{walkSize};
 ghost use Rattle.sctp.specs.starts.Starts.{Mains, Started};
 
 // Where the state has the attributes' kinds: the bytes, and the payloads.
-const TAGS: usize = 5120;
+const TAGS: usize = state::IVARS;
 
-const PAYLOADS: usize = 9216;
+const PAYLOADS: usize = state::IVAR_BITS;
 
 // The block that the main function begins with.
 fn main_entry(
@@ -43,7 +43,7 @@ pub fn start(
     sizes: Sizes,
 ) -> Acted
     requires { ⌜ Indexed (now script) (now program) counts (now chains) sizes ⌝ }
-    requires { ⌜ work ≤ length (now y) ⌝ }
+    requires { ⌜ walkSize ≤ length (now y) ⌝ }
     requires { ⌜ StateCleared sizes (now state) ⌝ }
     ensures { λ r. ⌜ Started (now (script .entry)) (now (program .entry)) counts sizes (now (state .exit)) r ⌝ }
 {

@@ -12,7 +12,7 @@ use Rattle.ids.proofs.Members.{members-below}
 use Rattle.rules.specs.Actions.{refused, _>>_, ask}
 use Rattle.rules.specs.Lists.{same, has, isJust}
 use Rattle.rules.specs.Program as P
-use Rattle.rules.specs.Program.{Limits, Program, about, opOf, function, entry, parameters, methodNamed}
+use Rattle.rules.specs.Program.{Program, about, opOf, function, entry, parameters, methodNamed}
 use Rattle.rules.specs.Machine.{State, Acts, marked, addCall, passArguments}
 use Rattle.rules.proofs.Exactness.Sums.{places-∈}
 use Rattle.rules.proofs.Exactness.Promise.{first-in}
@@ -35,17 +35,14 @@ use Rattle.state.specs.View.{Attrs, calledOf, stateView, StateReady}
 use Rattle.state.specs.Changes.{StateDid}
 use Rattle.machine.proofs.opnds.Acting.{did-then, did-stop}
 use Rattle.chains.specs.Chains.{ChainIs}
+use Rattle.memory.specs.Layout.{blocksRoom}
 use Rattle.sends.specs.calls.Calls.{CallIs}
 use Rattle.sends.proofs.calls.Adding.{old-is}
 use Rattle.sends.specs.passing.Passing.{HasParams, PassIn, PassIdle}
 use Rattle.sends.proofs.passing.Given.{has-params, pass-in}
 use Rattle.machine.proofs.receivers.Walk.{Walking}
+use Rattle.machine.proofs.Fitting.{did-fits}
 use Rattle.sends.specs.Sends.{callTo, callStatic, sendTo, Calling, CallsIn}
-
--- what holds of the programs that fit holds of fewer
-did-for : {z : Sizes} {fits fewer : Program → Attrs → Type 0} {f : Limits → Program → Acts (Unit {0})} {m : List ℕ} {q : Regs} {w : List ℕ} {r : Acted}
-    → ((p : Program) (v : Attrs) → fewer p v → fits p v) → StateDid z fits f m q w r → StateDid z fewer f m q w r
-did-for g d = record { is = λ L room p v h. d .is L room p v (g p v h); ok = d .ok }
 
 -- ---- a function in memory
 
@@ -56,7 +53,7 @@ module _ {z : Sizes} {m : List ℕ} {c : Counts} {x : List ℕ} {i : ℕ} (h : C
   inside : r .entry .0 < c .blocks
   inside = rw (d .row) (h .entries f lt)
 
-  low : r .entry .0 < 1024
+  low : r .entry .0 < blocksRoom
   low = let a = inside in let b = h .caller .ready .blocks in omega arith
 
   pub entry-below : r .entry .0 < z .blocks
@@ -86,12 +83,12 @@ module _ {z : Sizes} {m : List ℕ} {c : Counts} {x : List ℕ} {i : ℕ} (h : C
 
     pub call-entered : {w : List ℕ} {q : Regs} {w' : List ℕ} {a : Acted} → StateDid z (CallIs i f (r .entry .0) n k) (λ L p. addCall L p i f) w q w' a
         → (s : List ℕ) → StateDid z (CallsIn s m c i k) (λ L p. addCall L p i f) w q w' a
-    call-entered g s = did-for (λ p v b. calls s b) g
+    call-entered g s = did-fits (λ p v b. calls s b) g
 
   pub args-passed : {w : List ℕ} {q : Regs} {w' : List ℕ} {a : Acted}
       → ((y : ℕ) → StateDid z (PassIn m c z x i y (r .entry .0)) (λ L p. passArguments L p i y) w q w' a)
       → (s : List ℕ) (k : ℕ) → StateDid z (CallsIn s m c i k) (λ L p. passArguments L p i f) w q w' a
-  args-passed g s k = did-for (λ p v b. passes s b) (g f)
+  args-passed g s k = did-fits (λ p v b. passes s b) (g f)
 
 -- ---- one call
 
@@ -161,7 +158,8 @@ module _ (s m : List ℕ) (c : Counts) (k : ℕ) (n : P.Name) {r : FoundFun} (e 
   pub method-below : {f : FunId} → r ≡ At f → f .0 < c .functions
   unfolding methodNamed
   method-below {f} h =
-      let a = places-∈ (record { name = []; class = none; entry = 0 }) (λ (y : P.Function). isJust (y .class) k && same (y .name) n) (Prog.programView s m c .functions) (f .0) (first-in _ (method-at h)) in
+      let a = places-∈ (record { name = []; class = none; entry = 0 }) (λ (y : P.Function). isJust (y .class) k && same (y .name) n)
+      (Prog.programView s m c .functions) (f .0) (first-in _ (method-at h)) in
       let b = functions-length s m (c .functions) in
       omega (arith, a .0)
 

@@ -43,7 +43,8 @@ fn enter_call(
     requires { ⌜ StateReady sizes (now state) regs ⌝ }
     requires { ⌜ Calling sizes (now program) counts (now chains) (i .0) ⌝ }
     requires { ⌜ f .0 < counts .functions ⌝ }
-    ensures { λ r. ⌜ ((s : List ℕ) → StateDid sizes (CallsIn s (now (program .entry)) counts (i .0) args) (λ L program. addCall L program (i .0) (f .0)) (now (state .entry)) regs (now (state .exit)) r) ⌝ }
+    ensures { λ r. ⌜ ((s : List ℕ) → StateDid sizes (CallsIn s (now (program .entry)) counts (i .0) args)
+        (λ L program. addCall L program (i .0) (f .0)) (now (state .entry)) regs (now (state .exit)) r) ⌝ }
 {
     if state::has_called(state, sizes, f, i) {
         return Acted::On(regs);
@@ -68,7 +69,8 @@ fn pass(
     requires { ⌜ StateReady sizes (now state) regs ⌝ }
     requires { ⌜ Calling sizes (now program) counts (now chains) (i .0) ⌝ }
     requires { ⌜ f .0 < counts .functions ⌝ }
-    ensures { λ r. ⌜ ((s : List ℕ) (k : ℕ) → StateDid sizes (CallsIn s (now (program .entry)) counts (i .0) k) (λ L program. passArguments L program (i .0) (f .0)) (now (state .entry)) regs (now (state .exit)) r) ⌝ }
+    ensures { λ r. ⌜ ((s : List ℕ) (k : ℕ) → StateDid sizes (CallsIn s (now (program .entry)) counts (i .0) k)
+        (λ L program. passArguments L program (i .0) (f .0)) (now (state .entry)) regs (now (state .exit)) r) ⌝ }
 {
     let row = program::read_fun(program, counts, f);
     let entry = row.entry;
@@ -89,7 +91,8 @@ fn call_to(
     requires { ⌜ StateReady sizes (now state) regs ⌝ }
     requires { ⌜ Calling sizes (now program) counts (now chains) (i .0) ⌝ }
     requires { ⌜ f .0 < counts .functions ⌝ }
-    ensures { λ r. ⌜ ((s : List ℕ) → StateDid sizes (CallsIn s (now (program .entry)) counts (i .0) args) (λ L program. callTo L program (i .0) (f .0)) (now (state .entry)) regs (now (state .exit)) r) ⌝ }
+    ensures { λ r. ⌜ ((s : List ℕ) → StateDid sizes (CallsIn s (now (program .entry)) counts (i .0) args)
+        (λ L program. callTo L program (i .0) (f .0)) (now (state .entry)) regs (now (state .exit)) r) ⌝ }
 {
     match enter_call(program, counts, chains, state, sizes, regs, i, args, f) {
         Acted::On(next) => pass(program, counts, chains, state, sizes, next, i, f),
@@ -112,7 +115,8 @@ pub fn send_static(
     requires { ⌜ StateReady sizes (now state) regs ⌝ }
     requires { ⌜ Calling sizes (now program) counts (now chains) (i .0) ⌝ }
     requires { ⌜ f .0 < counts .functions ⌝ }
-    ensures { λ r. ⌜ ((s : List ℕ) → StateDid sizes (CallsIn s (now (program .entry)) counts (i .0) args) (λ L program. callStatic L program (i .0) (f .0)) (now (state .entry)) regs (now (state .exit)) r) ⌝ }
+    ensures { λ r. ⌜ ((s : List ℕ) → StateDid sizes (CallsIn s (now (program .entry)) counts (i .0) args)
+        (λ L program. callStatic L program (i .0) (f .0)) (now (state .entry)) regs (now (state .exit)) r) ⌝ }
 {
     let row = program::read_fun(program, counts, f);
     let class = row.class;
@@ -164,7 +168,9 @@ fn send_each(
 ) -> Acted
     requires { ⌜ StateReady sizes (now state) regs ⌝ }
     requires { ⌜ Calling sizes (now program) counts (now chains) (i .0) ⌝ }
-    ensures { λ r. ⌜ StateDid sizes (CallsIn (now (script .entry)) (now (program .entry)) counts (i .0) args) (λ L program. each (membersOf set) (sendTo L program (i .0) (nameIn (now (script .entry)) n))) (now (state .entry)) regs (now (state .exit)) r ⌝ }
+    ensures { λ r. ⌜ StateDid sizes (CallsIn (now (script .entry)) (now (program .entry)) counts (i .0) args)
+        (λ L program. each (membersOf set) (sendTo L program (i .0) (nameIn (now (script .entry)) n))) (now (state .entry)) regs
+        (now (state .exit)) r ⌝ }
 {
     let mut at = regs;
     let mut left = set;
@@ -218,7 +224,8 @@ pub fn send_dynamic(
     requires { ⌜ StateReady sizes (now state) regs ⌝ }
     requires { ⌜ Calling sizes (now program) counts (now chains) (i .0) ⌝ }
     requires { ⌜ OperandInside sizes o ⌝ }
-    ensures { λ r. ⌜ StateDid sizes (CallsIn (now (script .entry)) (now (program .entry)) counts (i .0) args) (λ L program. sendAll L program (i .0) (nameIn (now (script .entry)) n) (opndOf o)) (now (state .entry)) regs (now (state .exit)) r ⌝ }
+    ensures { λ r. ⌜ StateDid sizes (CallsIn (now (script .entry)) (now (program .entry)) counts (i .0) args)
+        (λ L program. sendAll L program (i .0) (nameIn (now (script .entry)) n) (opndOf o)) (now (state .entry)) regs (now (state .exit)) r ⌝ }
 {
     match machine::receivers::classes_of(state, sizes, o) {
         ReceiverClasses::Classes(set) => send_each(

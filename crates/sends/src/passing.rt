@@ -35,7 +35,7 @@ fn place_of(program: &[usize], counts: Counts, j: InsnId) -> usize
     requires { ⌜ j .0 < counts .insns ⌝ }
     ensures { λ r. ⌜ ParamPlaced (now (program .entry)) counts (j .0) r ⌝ }
 {
-    let at = program::INSNS + 6 * (j.0 as usize);
+    let at = program::INSNS + program::INSN_WORDS * (j.0 as usize);
     if program[at] == 10 {
         return program[at + 2];
     }
@@ -143,7 +143,8 @@ pub fn pass_arguments(
     requires { ⌜ StateReady sizes (now state) regs ⌝ }
     requires { ⌜ Caller (now program) counts sizes (i .0) ⌝ }
     requires { ⌜ HasParams (sizes .insns) (now chains) (entry .0) ⌝ }
-    ensures { λ r. ⌜ ((f : ℕ) → StateDid sizes (PassIn (now (program .entry)) counts sizes (now (chains .entry)) (i .0) f (entry .0)) (λ L program. passArguments L program (i .0) f) (now (state .entry)) regs (now (state .exit)) r) ⌝ }
+    ensures { λ r. ⌜ ((f : ℕ) → StateDid sizes (PassIn (now (program .entry)) counts sizes (now (chains .entry)) (i .0) f (entry .0))
+        (λ L program. passArguments L program (i .0) f) (now (state .entry)) regs (now (state .exit)) r) ⌝ }
 {
     let n = sizes.insns;
     let mut at = regs;
@@ -192,7 +193,8 @@ pub fn surely_keeps_all(
     requires { ⌜ StateHeld sizes (now state) ⌝ }
     requires { ⌜ Caller (now program) counts sizes (i .0) ⌝ }
     requires { ⌜ HasParams (sizes .insns) (now chains) (entry .0) ⌝ }
-    ensures { λ r. ⌜ (r ≡ true → (f : ℕ) → PassIdle sizes (PassIn (now (program .entry)) counts sizes (now (chains .entry)) (i .0) f (entry .0)) (λ L program. passArguments L program (i .0) f) (now (state .entry))) ⌝ }
+    ensures { λ r. ⌜ (r ≡ true → (f : ℕ) → PassIdle sizes (PassIn (now (program .entry)) counts sizes (now (chains .entry)) (i .0) f (entry .0))
+        (λ L program. passArguments L program (i .0) f) (now (state .entry))) ⌝ }
 {
     let n = sizes.insns;
     let mut j = chains::first_param(chains, entry);

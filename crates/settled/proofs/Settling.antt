@@ -1,5 +1,5 @@
 -- What the quick tests say, and the walk through a set of classes. Assumes nothing.
-use mathlib.Core.Bool.{Bool as 𝔹, true, false, not, _||_}
+use mathlib.Core.Bool.{Bool as 𝔹, false, not, _||_}
 use mathlib.Core.Logic.{_⊎_, inl, inr}
 use mathlib.Core.Path.{_≡_, refl, sym, _∙_, subst}
 use mathlib.Core.List.{List, [], List·Memᴰ, List·Memᴰ·cases-cons, List·Memᴰ·not-nil}
@@ -17,6 +17,7 @@ use Rattle.kinds.specs.Union.{unionOf}
 use Rattle.kinds.proofs.Laws.{union-above}
 use Rattle.rules.specs.Machine.{marked}
 use Rattle.rules.specs.Program.{Program, ivarNamed}
+use Rattle.rules.proofs.Wellformed.Tests.{or-false as or-parts}
 use Rattle.idle.specs.Settled.{Covered, SettledIn}
 use Rattle.program.specs.declared.Counts.{Counts}
 use Rattle.program.specs.declared.Name.{Name}
@@ -30,26 +31,18 @@ use Rattle.state.specs.View.{Attrs, kindsOf, ivarsOf, readsOf}
 use Rattle.machine.specs.receivers.Receivers.{StateMatches}
 use Rattle.machine.proofs.receivers.Walk.{Walking, walk-on}
 use Rattle.sends.proofs.passing.Passes.{no-name-from}
-use Rattle.attributes.specs.Attributes.{ProgramIs}
-use Rattle.attributes.proofs.Found.{at-place, at-counted}
+use Rattle.attributes.proofs.Found.{at-place, at-counted, program-is}
 use Rattle.machine.specs.Analysed.{MachineFits}
 use Rattle.settled.specs.Reads.{SettledAt, SettledFor}
 
 -- ---- covers
 
-neither : (a b : 𝔹) → (a || b) ≡ false → (a ≡ false) × (b ≡ false)
-neither true b h = (cc, cc)
-neither false b h = (refl, h)
-
 pub covers-plain : (s x t y : ℕ) → (eqb t 4 || eqb t 5) ≡ false → unionOf (kindFrom s x) (kindFrom t y) ≡ Of (kindFrom s x) → Covered (kindFrom s x) (kindFrom t y)
 covers-plain s x t y h e =
-    let n = neither (eqb t 4) (eqb t 5) h in
+    let n = or-parts (eqb t 4) (eqb t 5) h in
     record { plain = no-name-from t y (eqb-false t 4 (n .0)) (eqb-false t 5 (n .1)); below = union-above (kindFrom s x) (kindFrom t y) (kindFrom s x) e .1 }
 
 -- ---- one class
-
-pub program-is : {s p : List ℕ} {c : Counts} {P : Program} {v : Attrs} → MachineFits s p c P v → ProgramIs s p c P v
-program-is f = record { program = f .is; attrs = λ k _. f .attrs k }
 
 module _ {z : Sizes} {s p : List ℕ} {c : Counts} {m : List ℕ} {i x : ℕ} {n : Name} {k j : Kind} {r : FoundIvar} {a : ℕ} where
   pub settled-at : StateMatches z p c → x < z .classes → {t : 𝔹} → t ≡ marked (readsOf z m) x i → not t ≡ false → ivarFound r ≡ ivarNamed (Prog.programView s p c) x (nameIn s n) → r ≡ At a
@@ -57,9 +50,9 @@ module _ {z : Sizes} {s p : List ℕ} {c : Counts} {m : List ℕ} {i x : ℕ} {n
   settled-at M below {t} met so found e kind covered = record {
     is = λ P v f. record {
       place = a;
-      named = at-place s p c x n found (program-is f) e;
+      named = at-place s p c x n found (program-is _ _ f) e;
       met = sym met ∙ not-false t so;
-      covered = subst (Covered k) (kind v (at-counted s p c x n found (program-is f) M below e)) covered;
+      covered = subst (Covered k) (kind v (at-counted s p c x n found (program-is _ _ f) M below e)) covered;
     };
   }
 

@@ -39,6 +39,7 @@ use Rattle.sends.proofs.passing.Passes.{objects-from}
 use Rattle.machine.specs.Analysed.{MachineFits}
 use Rattle.visits.specs.Visits.{operandsOf, Visiting}
 use Rattle.visits.proofs.Given.{first-good, second-good, opnd-inside, opnd-within}
+use Rattle.program.specs.Layout.{opndsAt}
 use Rattle.settled.specs.Reads.{nameOf, SettledFor}
 
 -- ---- the tags
@@ -115,7 +116,8 @@ back-is (R.Insn j) = refl
 classes-of : (o : Words) → o .tag ≡ 8 → classesIn (wordsOf o) ≡ some (o .bits)
 classes-of o e = ap classesIn (objects-from (o .bits) e)
 
-module _ {s p : List ℕ} {c : Counts} {x : List ℕ} {z : Sizes} {m : List ℕ} {q : Regs} {i : ℕ} (n : Record) (g : Visiting s p c x z m q i (rowOf n)) {v : Attrs} (f : MachineFits s p c (programView s p c) v) where
+module _ {s p : List ℕ} {c : Counts} {x : List ℕ} {z : Sizes} {m : List ℕ} {q : Regs} {i : ℕ} (n : Record) (g : Visiting s p c x z m q i (rowOf n))
+    {v : Attrs} (f : MachineFits s p c (programView s p c) v) where
   pub range : n .first + n .count ≤ c .opnds
   unfolding rowOf
   range = g .read .range
@@ -124,9 +126,9 @@ module _ {s p : List ℕ} {c : Counts} {x : List ℕ} {z : Sizes} {m : List ℕ}
     receiver-good : goodOpnd (programView s p c) i (nth (operandsOf p (rowOf n)) 0) ≡ true
     receiver-good = first-good g (read-op n (g .read) f e) refl
 
-    pub read-inside : 0 < n .count → OperandInside z (opndAt p (12288 + 2 * n .first + 2 * 0))
+    pub read-inside : 0 < n .count → OperandInside z (opndAt p (opndsAt + 2 * n .first + 2 * 0))
     unfolding rowOf
-    read-inside h = opnd-inside g (opndAt p (12288 + 2 * n .first + 2 * 0)) (operand-read p (12288 + 2 * n .first) (n .count) 0 h refl) receiver-good
+    read-inside h = opnd-inside g (opndAt p (opndsAt + 2 * n .first + 2 * 0)) (operand-read p (opndsAt + 2 * n .first) (n .count) 0 h refl) receiver-good
 
     -- the classes of its receiver are the program's
     pub read-below : (o : Words) → wordsOf o ≡ kindIn (kindsOf z m) (nth (operandsOf p (rowOf n)) 0) → o .tag ≡ 8 → ClassesBelow (z .classes) (o .bits)
@@ -134,9 +136,9 @@ module _ {s p : List ℕ} {c : Counts} {x : List ℕ} {z : Sizes} {m : List ℕ}
         let v = nth (operandsOf p (rowOf n)) 0 in
         opnd-within g (back v) (back-is v) receiver-good .classes (o .bits) (ap (λ (y : R.Opnd). classesIn (kindIn (kindsOf z m) y)) (back-is v) ∙ ap classesIn (sym k) ∙ classes-of o t)
 
-  pub set-inside : 13 < n .tag → 1 < n .count → OperandInside z (opndAt p (12288 + 2 * n .first + 2 * 1))
+  pub set-inside : 13 < n .tag → 1 < n .count → OperandInside z (opndAt p (opndsAt + 2 * n .first + 2 * 1))
   unfolding rowOf
-  set-inside l h = opnd-inside g (opndAt p (12288 + 2 * n .first + 2 * 1)) (operand-read p (12288 + 2 * n .first) (n .count) 1 h refl) (second-good g (set-op n (g .read) f l) refl)
+  set-inside l h = opnd-inside g (opndAt p (opndsAt + 2 * n .first + 2 * 1)) (operand-read p (opndsAt + 2 * n .first) (n .count) 1 h refl) (second-good g (set-op n (g .read) f l) refl)
 
 -- ---- a read whose stamp is its receiver's classes
 

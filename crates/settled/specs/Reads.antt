@@ -20,11 +20,10 @@ use Rattle.state.specs.View.{Attrs, kindsOf, ivarsOf, readsOf}
 use Rattle.machine.specs.opnds.Reads.{OperandInside, kindIn}
 use Rattle.machine.specs.Analysed.{MachineFits}
 use Rattle.visits.specs.Visits.{operandsOf}
+use Rattle.program.specs.Layout.{opndsAt}
+use Rattle.state.specs.Layout.{stampsAt}
 
--- the state's tables, and the place of the stamps behind them
-abbrev pub stampsAt : ℕ
-stampsAt = 52224
-
+-- the state's tables, and the stamps behind them
 abbrev pub tablesOf : List ℕ → List ℕ
 tablesOf m = take stampsAt m
 
@@ -47,8 +46,8 @@ pub record SettledFor (s p : List ℕ) (c : Counts) (z : Sizes) (m : List ℕ) (
 pub record Operands (p : List ℕ) (c : Counts) (z : Sizes) (x : Record) : Type 0 where
   pub ready : ProgramReady p c
   pub range : x .first + x .count ≤ c .opnds
-  pub receiver : x .tag ≡ 13 → 0 < x .count → OperandInside z (opndAt p (12288 + 2 * x .first + 2 * 0))
-  pub value : 13 < x .tag → 1 < x .count → OperandInside z (opndAt p (12288 + 2 * x .first + 2 * 1))
+  pub receiver : x .tag ≡ 13 → 0 < x .count → OperandInside z (opndAt p (opndsAt + 2 * x .first + 2 * 0))
+  pub value : 13 < x .tag → 1 < x .count → OperandInside z (opndAt p (opndsAt + 2 * x .first + 2 * 1))
 
 -- k is the kind of a read's receiver, or of a setting's value
 pub record Decides (p : List ℕ) (z : Sizes) (m : List ℕ) (x : Record) (k : Kind) : Type 0 where

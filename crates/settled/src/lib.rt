@@ -15,7 +15,7 @@ ghost use Prim.Native.Nat.{_+_, _*_, _≤_, _<_};
 ghost use lib.ListN.{length, getD};
 ghost use Rattle.kinds.specs.declared.Kind.{Kind};
 ghost use Rattle.idle.specs.Settled.{Covered};
-ghost use Rattle.program.specs.Rows.{size, opndAt, nth};
+ghost use Rattle.program.specs.Rows.{opndAt, nth};
 ghost use Rattle.program.specs.View.{ProgramReady};
 ghost use Rattle.records.specs.Records.{recordAt, rowOf};
 ghost use Rattle.state.specs.View.{Attrs, kindsOf, ivarsOf, StateHeld};
@@ -23,10 +23,13 @@ ghost use Rattle.machine.specs.opnds.Reads.{OperandInside, kindIn};
 ghost use Rattle.flows.specs.Flows.{wordsOf};
 ghost use Rattle.machine.specs.receivers.Receivers.{StateMatches, ClassesBelow};
 ghost use Rattle.visits.specs.Visits.{operandsOf};
+ghost use Rattle.memory.specs.Layout.{ivarsMost};
+ghost use Rattle.program.specs.Layout.{opndsAt, programSize};
+ghost use Rattle.state.specs.Layout.{stateLen};
 ghost use Rattle.settled.specs.Reads.{tablesOf, SettledAt, SettledFor, Operands, Decides, Touched, Unsettled};
 
 // The words of the state's tables; behind them stands a stamp for each instruction.
-pub const STAMPS: usize = 52224;
+pub const STAMPS: usize = state::SIZE;
 
 // A quick test that a covers k, which is no name.
 fn covers(a: Words, k: Words) -> bool
@@ -41,10 +44,10 @@ fn covers(a: Words, k: Words) -> bool
 // The kind of the attribute at place a of class x, in words.
 fn ivar_words(state: &[usize], sizes: Sizes, x: ClassId, a: usize) -> Words
     requires { ⌜ StateHeld sizes (now state) ⌝ }
-    requires { ⌜ (x .0 < sizes .classes) × (a < 64) ⌝ }
+    requires { ⌜ (x .0 < sizes .classes) × (a < ivarsMost) ⌝ }
     ensures { λ r. ⌜ ((v : Attrs) → a < v .count (x .0) → wordsOf r ≡ getD (getD (ivarsOf sizes v (now (state .entry))) (x .0) []) a Kind.Empty) ⌝ }
 {
-    let at = x.0 as usize * 64 + a;
+    let at = x.0 as usize * memory::IVARS_MOST + a;
     Words {
         tag: state[state::IVARS + at],
         bits: state[state::IVAR_BITS + at],
@@ -151,7 +154,7 @@ pub fn operand_words(
     requires { ⌜ ProgramReady (now program) counts ⌝ }
     requires { ⌜ insn .first + insn .count ≤ counts .opnds ⌝ }
     requires { ⌜ StateHeld sizes (now state) ⌝ }
-    requires { ⌜ (j < insn .count → OperandInside sizes (opndAt (now program) (12288 + 2 * insn .first + 2 * j))) ⌝ }
+    requires { ⌜ (j < insn .count → OperandInside sizes (opndAt (now program) (opndsAt + 2 * insn .first + 2 * j))) ⌝ }
     ensures { λ r. ⌜ wordsOf r ≡ kindIn (kindsOf sizes (now (state .entry))) (nth (operandsOf (now (program .entry)) (rowOf insn)) j) ⌝ }
 {
     if j < insn.count {
@@ -188,12 +191,12 @@ pub fn decisive_words(
 
 // Whether instruction j is a read whose kind may not cover k.
 fn touched(program: &[usize], state: &[usize], sizes: Sizes, j: usize, k: Words) -> bool
-    requires { ⌜ size ≤ length (now program) ⌝ }
+    requires { ⌜ programSize ≤ length (now program) ⌝ }
     requires { ⌜ StateHeld sizes (tablesOf (now state)) ⌝ }
     requires { ⌜ j < sizes .insns ⌝ }
     ensures { λ r. ⌜ Touched (now (program .entry)) sizes (tablesOf (now (state .entry))) j (wordsOf k) r ⌝ }
 {
-    if program[program::INSNS + 6 * j] == 13 {
+    if program[program::INSNS + program::INSN_WORDS * j] == 13 {
         return !covers(
             Words {
                 tag: state[j],
@@ -207,8 +210,8 @@ fn touched(program: &[usize], state: &[usize], sizes: Sizes, j: usize, k: Words)
 
 // Where kind k went into an attribute and reads were woken, a read whose kind may not cover k is settled in no class.
 pub fn unsettle(program: &[usize], state: &mut [usize], sizes: Sizes, k: Words)
-    requires { ⌜ size ≤ length (now program) ⌝ }
-    requires { ⌜ length (now state) ≡ 54272 ⌝ }
+    requires { ⌜ programSize ≤ length (now program) ⌝ }
+    requires { ⌜ length (now state) ≡ stateLen ⌝ }
     requires { ⌜ StateHeld sizes (tablesOf (now state)) ⌝ }
     ensures { λ _. ⌜ Unsettled (now (program .entry)) sizes (wordsOf k) (sizes .insns) (now (state .entry)) (now (state .exit)) ⌝ }
 {

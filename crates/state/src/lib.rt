@@ -5,6 +5,7 @@ use ids::FunId;
 use ids::InsnId;
 use kinds::Joined;
 use kinds::Kind;
+use memory::ROW_WORDS;
 use memory::tables::FoundBit;
 ghost use mathlib.Core.Bool.{false};
 ghost use mathlib.Core.Path.{_≡_};
@@ -13,6 +14,7 @@ ghost use Prim.Native.Nat.{ℕ, _≤_, _<_, _^_};
 ghost use lib.ListN.{getD};
 ghost use Rattle.rules.specs.Machine.{setKind, setLive, marked, addRead, setIvarKind, atRest, pushInsn, pushBlock, wakeIfWider};
 ghost use Rattle.memory.specs.tables.Bits.{RowWord};
+ghost use Rattle.memory.specs.Layout.{ivarsMost, worklistMost, rowWords};
 ghost use Rattle.state.specs.View.{Attrs, kindsOf, liveOf, ivarsOf, calledOf, readsOf, stateView, StateHeld, StateReady, noEntries};
 ghost use Rattle.state.specs.Changes.{StatePut, Added, Following, StateDid, Every, TookInsn, TookBlock, pushWhere, wakeCallers};
 
@@ -60,24 +62,30 @@ pub struct TakenBlock {
 }
 
 // Where the tables start; kind bytes stand at 0.
-pub const BITS: usize = 2048;
+pub const BITS: usize = memory::INSTRUCTIONS_MOST;
 
-pub const LIVE: usize = 4096;
+pub const LIVE: usize = BITS + memory::INSTRUCTIONS_MOST;
 
-pub const IVARS: usize = 5120;
+pub const IVARS: usize = LIVE + memory::BLOCKS_ROOM;
 
-pub const IVAR_BITS: usize = 9216;
+pub const IVAR_BITS: usize = IVARS + memory::CLASSES_MOST * memory::IVARS_MOST;
 
-pub const CALLERS: usize = 13312;
+pub const CALLERS: usize = IVAR_BITS + memory::CLASSES_MOST * memory::IVARS_MOST;
 
-pub const READS: usize = 17408;
+pub const READS: usize = CALLERS + memory::FUNCTIONS_MOST * ROW_WORDS;
 
-const INSNS: usize = 19456;
+const INSNS: usize = READS + memory::CLASSES_MOST * ROW_WORDS;
 
-const BLOCKS: usize = 35840;
+const BLOCKS: usize = INSNS + memory::WORKLIST_MOST;
 
 // The most entries of a worklist.
-const ROOM: usize = 16384;
+const ROOM: usize = memory::WORKLIST_MOST;
+
+// The words of the tables; a run has a stamp for each instruction behind them.
+pub const SIZE: usize = BLOCKS + memory::WORKLIST_MOST;
+
+// The published length of the state part.
+pub const STATE_LEN: usize = SIZE + memory::INSTRUCTIONS_MOST;
 
 pub fn kind_at(state: &[usize], sizes: Sizes, i: InsnId) -> Kind
     requires { ⌜ StateHeld sizes (now state) ⌝ }
@@ -121,19 +129,19 @@ pub fn set_live(state: &mut [usize], sizes: Sizes, b: BlockId)
 // The kind of the attribute at place a of class c.
 pub fn ivar_at(state: &[usize], sizes: Sizes, c: ClassId, a: usize) -> Kind
     requires { ⌜ StateHeld sizes (now state) ⌝ }
-    requires { ⌜ (c .0 < sizes .classes) × (a < 64) ⌝ }
+    requires { ⌜ (c .0 < sizes .classes) × (a < ivarsMost) ⌝ }
     ensures { λ r. ⌜ ((v : Attrs) → a < v .count (c .0) → r ≡ getD (getD (ivarsOf sizes v (now (state .entry))) (c .0) []) a Kind.Empty) ⌝ }
 {
-    let at = c.0 as usize * 64 + a;
+    let at = c.0 as usize * memory::IVARS_MOST + a;
     kinds::kind_from(state[IVARS + at], state[IVAR_BITS + at])
 }
 
 pub fn set_ivar(state: &mut [usize], sizes: Sizes, c: ClassId, a: usize, k: Kind)
     requires { ⌜ StateHeld sizes (now state) ⌝ }
-    requires { ⌜ (c .0 < sizes .classes) × (a < 64) ⌝ }
+    requires { ⌜ (c .0 < sizes .classes) × (a < ivarsMost) ⌝ }
     ensures { λ _. ⌜ StatePut sizes (setIvarKind (c .0) a k) (now (state .entry)) (now (state .exit)) ⌝ }
 {
-    let at = c.0 as usize * 64 + a;
+    let at = c.0 as usize * memory::IVARS_MOST + a;
     let tag = k.tag();
     let bits = k.payload();
     state[IVARS + at] = tag;
@@ -146,7 +154,7 @@ pub fn has_called(state: &[usize], sizes: Sizes, f: FunId, i: InsnId) -> bool
     requires { ⌜ (f .0 < sizes .functions) × (i .0 < sizes .insns) ⌝ }
     ensures { λ r. ⌜ r ≡ marked (calledOf sizes (now (state .entry))) (f .0) (i .0) ⌝ }
 {
-    memory::tables::test_bit(state, CALLERS + f.0 as usize * 32, i.0 as usize)
+    memory::tables::test_bit(state, CALLERS + f.0 as usize * ROW_WORDS, i.0 as usize)
 }
 
 // Instruction i is a caller of f from now on; true where it is a new one.
@@ -158,7 +166,7 @@ pub fn add_caller(state: &mut [usize], sizes: Sizes, f: FunId, i: InsnId) -> boo
     if has_called(state, sizes, f, i) {
         return false;
     }
-    memory::tables::set_bit(state, CALLERS + f.0 as usize * 32, i.0 as usize);
+    memory::tables::set_bit(state, CALLERS + f.0 as usize * ROW_WORDS, i.0 as usize);
     true
 }
 
@@ -168,7 +176,7 @@ pub fn has_read(state: &[usize], sizes: Sizes, c: ClassId, i: InsnId) -> bool
     requires { ⌜ (c .0 < sizes .classes) × (i .0 < sizes .insns) ⌝ }
     ensures { λ r. ⌜ r ≡ marked (readsOf sizes (now (state .entry))) (c .0) (i .0) ⌝ }
 {
-    memory::tables::test_bit(state, READS + c.0 as usize * 32, i.0 as usize)
+    memory::tables::test_bit(state, READS + c.0 as usize * ROW_WORDS, i.0 as usize)
 }
 
 pub fn add_read(state: &mut [usize], sizes: Sizes, c: ClassId, i: InsnId)
@@ -176,7 +184,7 @@ pub fn add_read(state: &mut [usize], sizes: Sizes, c: ClassId, i: InsnId)
     requires { ⌜ (c .0 < sizes .classes) × (i .0 < sizes .insns) ⌝ }
     ensures { λ _. ⌜ StatePut sizes (addRead (c .0) (i .0)) (now (state .entry)) (now (state .exit)) ⌝ }
 {
-    memory::tables::set_bit(state, READS + c.0 as usize * 32, i.0 as usize);
+    memory::tables::set_bit(state, READS + c.0 as usize * ROW_WORDS, i.0 as usize);
 }
 
 // The first caller of f that is not below `from`.
@@ -187,7 +195,7 @@ pub fn next_caller(state: &[usize], sizes: Sizes, f: FunId, from: InsnId) -> Nex
 {
     match memory::tables::next_bit(
         state,
-        CALLERS + f.0 as usize * 32,
+        CALLERS + f.0 as usize * ROW_WORDS,
         from.0 as usize,
         sizes.insns,
     ) {
@@ -199,10 +207,10 @@ pub fn next_caller(state: &[usize], sizes: Sizes, f: FunId, from: InsnId) -> Nex
 // Word k of the callers of f: a bit for each instruction.
 pub fn caller_word(state: &[usize], sizes: Sizes, f: FunId, k: usize) -> usize
     requires { ⌜ StateHeld sizes (now state) ⌝ }
-    requires { ⌜ (f .0 < sizes .functions) × (k < 32) ⌝ }
+    requires { ⌜ (f .0 < sizes .functions) × (k < rowWords) ⌝ }
     ensures { λ r. ⌜ RowWord (getD (calledOf sizes (now (state .entry))) (f .0) []) k r ⌝ }
 {
-    memory::tables::row_word(state, CALLERS + f.0 as usize * 32, sizes.insns, k)
+    memory::tables::row_word(state, CALLERS + f.0 as usize * ROW_WORDS, sizes.insns, k)
 }
 
 // The first read that met class c and is not below `from`.
@@ -213,7 +221,7 @@ pub fn next_read(state: &[usize], sizes: Sizes, c: ClassId, from: InsnId) -> Nex
 {
     match memory::tables::next_bit(
         state,
-        READS + c.0 as usize * 32,
+        READS + c.0 as usize * ROW_WORDS,
         from.0 as usize,
         sizes.insns,
     ) {
@@ -245,7 +253,7 @@ pub fn push_insn(state: &mut [usize], sizes: Sizes, regs: Regs, i: InsnId) -> Ac
     let head = regs.insns.head;
     let len = regs.insns.len;
     if len < ROOM {
-        let at = INSNS + (head + len) % 16384;
+        let at = INSNS + (head + len) % ROOM;
         state[at] = i.0 as usize;
         let insns = Ring { head, len: len + 1 };
         let blocks = regs.blocks;
@@ -269,7 +277,7 @@ pub fn push_block(state: &mut [usize], sizes: Sizes, regs: Regs, b: BlockId) -> 
     let head = regs.blocks.head;
     let len = regs.blocks.len;
     if len < ROOM {
-        let at = BLOCKS + (head + len) % 16384;
+        let at = BLOCKS + (head + len) % ROOM;
         state[at] = b.0 as usize;
         let blocks = Ring { head, len: len + 1 };
         let insns = regs.insns;
@@ -293,7 +301,7 @@ pub fn take_insn(state: &[usize], sizes: Sizes, regs: Regs) -> TakenInsn
     let head = regs.insns.head;
     let x = state[INSNS + head];
     let insns = Ring {
-        head: (head + 1) % 16384,
+        head: (head + 1) % ROOM,
         len: regs.insns.len - 1,
     };
     let blocks = regs.blocks;
@@ -316,7 +324,7 @@ pub fn take_block(state: &[usize], sizes: Sizes, regs: Regs) -> TakenBlock
     let head = regs.blocks.head;
     let x = state[BLOCKS + head];
     let blocks = Ring {
-        head: (head + 1) % 16384,
+        head: (head + 1) % ROOM,
         len: regs.blocks.len - 1,
     };
     let insns = regs.insns;
@@ -332,7 +340,7 @@ pub fn take_block(state: &[usize], sizes: Sizes, regs: Regs) -> TakenBlock
 
 // Nothing waits.
 pub fn at_rest(regs: Regs) -> bool
-    requires { ⌜ (regs .insns .len ≤ 16384) × (regs .blocks .len ≤ 16384) ⌝ }
+    requires { ⌜ (regs .insns .len ≤ worklistMost) × (regs .blocks .len ≤ worklistMost) ⌝ }
     ensures { λ r. ⌜ ((z : Sizes) (v : Attrs) (m : List ℕ) → r ≡ atRest (stateView z v m regs)) ⌝ }
 {
     regs.insns.len + regs.blocks.len == 0

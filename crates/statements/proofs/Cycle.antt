@@ -12,8 +12,8 @@ use Rattle.rules.specs.Words as Words
 use Rattle.rules.specs.Program as P
 use Rattle.rules.specs.Reading as R
 use Rattle.rules.specs.Reading.{Parser, Reads, newBlock, endBlock, parseExpr, parseNext, parseStatements, parseReturn, parseIf, statementBy, parseStatement}
-use Rattle.variables.specs.scopes.Made.{Bindings, over, envOf, env-sorted}
-use Rattle.variables.specs.scopes.Sorted.{Sorted}
+use Rattle.variables.specs.Scopes.{Bindings, over, envOf, Sorted}
+use Rattle.variables.proofs.scopes.Made.{env-sorted}
 use Rattle.variables.specs.Memory.{made, vars, row}
 use Rattle.variables.proofs.Entries.{row-move, vars-split}
 use Rattle.program.specs.Rows.{opndOf}
@@ -45,8 +45,24 @@ use Rattle.statements.specs.declared.Stops.the-variants as H
 use Rattle.statements.specs.Acts.{stopsAt, parseArm, openElse, finishIf, finishElse, parseElse, ifOf}
 use Rattle.statements.specs.Shape.{blockCur, openedOf, stopsOf, halts, Halts, Opens, EndsBlock, StatementInside, DidFrom, StatementAside, OpensElse, FinishesElse, Arm}
 use Rattle.statements.proofs.Ifs.{if-is}
-use Rattle.statements.proofs.Steps.{block-of, env-of, block-to, Keeps, keeps-step, keeps-low, keeps-then, keeps-later, keeps-vars, after-over, inside-step, inside-then, few-vars, arm-then}
+use Rattle.statements.proofs.Steps.{
+  block-of,
+  block-to,
+  Keeps,
+  keeps-step,
+  keeps-low,
+  keeps-then,
+  keeps-later,
+  keeps-vars,
+  after-over,
+  inside-step,
+  inside-then,
+  few-vars,
+  arm-then,
+  opened-there,
+}
 use Rattle.statements.proofs.Steps.{opens-did, in-block, step-block}
+use Rattle.statements.proofs.Paths.{expr-in}
 
 -- ---- parse_statements
 
@@ -78,7 +94,8 @@ pub going-start : (l : Limits) (s : List ℕ) (arm : 𝔹) (d : ℕ) (m w : List
 unfolding parseStatements
 going-start l s arm d m w c h = record { turns = suc (length s); same = refl; enough = omega arith; here = h; step = step-none c w; long-m = refl; long-w = refl }
 
-module _ {l : Limits} {s : List ℕ} {arm : 𝔹} {d : ℕ} {m₀ w₀ : List ℕ} {c₀ : Cursor} {m w : List ℕ} {c : Cursor} {v : Opnd} (i : Going l s arm d m₀ w₀ c₀ m w c v) {r : Stops} (a : Halts s arm c r) where
+module _ {l : Limits} {s : List ℕ} {arm : 𝔹} {d : ℕ} {m₀ w₀ : List ℕ} {c₀ : Cursor} {m w : List ℕ} {c : Cursor} {v : Opnd}
+    (i : Going l s arm d m₀ w₀ c₀ m w c v) {r : Stops} (a : Halts s arm c r) where
   abbrev L : P.Limits
   L = View.limitsOf l
 
@@ -236,7 +253,8 @@ module _ (l : Limits) {s : List ℕ} (d : ℕ) {m w : List ℕ} {c₀ c : Cursor
             else-row : row s w2 (c₀ .aside) (c3 .aside - c₀ .aside) ≡ envOf left
             else-row =
                 let z : c3 .aside - c₀ .aside ≡ c2 .aside - c₀ .aside = omega (arith, arm-went .step .aside) in
-                rw z (row-move s w1 w2 (c₀ .aside) (c₀ .aside) (c2 .aside - c₀ .aside) (λ n o. arm-went .step .rows (c₀ .aside + n) (omega (arith, else-aside .inside .low)) (omega (arith, else-aside .inside .above)))
+                rw z (row-move s w1 w2 (c₀ .aside) (c₀ .aside) (c2 .aside - c₀ .aside)
+                (λ n o. arm-went .step .rows (c₀ .aside + n) (omega (arith, else-aside .inside .low)) (omega (arith, else-aside .inside .above)))
                 ∙ else-aside .row)
 
             pub else-sorted : Sorted (row s w2 (c₀ .aside) (c3 .aside - c₀ .aside))
@@ -275,12 +293,9 @@ module _ (l : Limits) {s : List ℕ} (d : ℕ) {m w : List ℕ} {c : Cursor} {p 
     if-went : Acted (parseExpr (View.limitsOf l) s d 0) 1 s m w c m1 w1 (opndOf v) c1
     if-went = got a (ap parsedOf e)
 
-    pub if-in : In s m1 w1 c1
-    if-in = if-went .here
-
     module _ {m2 : List ℕ} {x : Opened} (b : Opens l m1 c1 m2 x) where
       first-opened : CursorDid (newBlock (View.limitsOf l)) 0 s m1 w1 c1 m2 w1 (openedOf x)
-      first-opened = opens-did b if-in
+      first-opened = opens-did b (expr-in l s d a e)
 
       pub if-no2 : {k : ℕ} → x ≡ O.Refused k → If l d s m w c m2 w1 (parsedOf (Refused k))
       unfolding ifOf parserOf
@@ -306,10 +321,7 @@ module _ (l : Limits) {s : List ℕ} (d : ℕ) {m w : List ℕ} {c : Cursor} {p 
             join-went = got join-opened (ap openedOf i)
 
             first-there : n .0 < c3 .counts .blocks
-            first-there = let z = rw f at (b .ok) in omega (arith, z .1, join-went .step .blocks)
-
-            join-there : j .0 < c3 .counts .blocks
-            join-there = let z = rw i at (g .ok) in z .1
+            first-there = omega (arith, opened-there b f, join-went .step .blocks)
 
             pub if-in3 : In s m3 w1 c4
             if-in3 = rw k (in-block (join-went .here) n first-there)
@@ -332,14 +344,16 @@ module _ (l : Limits) {s : List ℕ} (d : ℕ) {m w : List ℕ} {c : Cursor} {p 
                 pub if-arm : {q : Branch} → q .join ≡ j → Arm c1 c5 q
                 if-arm t =
                     record {
-                      inside = inside-step if-in since;
+                      inside = inside-step (expr-in l s d a e) since;
                       aside = since .aside;
-                      before = omega (arith, if-in .block, since .blocks);
-                      join = rw t (let y = rw k at (then-went .step) in omega (arith, join-there, y .blocks));
+                      before = omega (arith, expr-in l s d a e .block, since .blocks);
+                      join = rw t (let y = rw k at (then-went .step) in omega (arith, opened-there g i, y .blocks));
                     }
 
                 pub if-yes : {m' w' : List ℕ} {r : Out P.Opnd}
-                    → DidFrom (parseElse (View.limitsOf l) s (parseStatement (View.limitsOf l) s d) (c1 .block .0) (vars s w4 (c1 .vars)) (opndOf v) (n .0) (j .0) (c5 .block .0) (opndOf y1)) 1 s m4 w4 c1 c5 m' w' r
+                    → DidFrom (parseElse (View.limitsOf l) s (parseStatement (View.limitsOf l) s d) (c1 .block .0) (vars s w4 (c1 .vars)) (opndOf v)
+                    (n .0) (j .0) (c5 .block .0) (opndOf y1))
+                    1 s m4 w4 c1 c5 m' w' r
                     → If l d s m w c m' w' r
                 unfolding ifOf parserOf
                 if-yes {m'} {w'} {r} t =

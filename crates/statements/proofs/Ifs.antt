@@ -8,7 +8,7 @@ use Rattle.rules.specs.Program.{Limits, Opnd, Ends, Jump, IfTrue}
 use Rattle.rules.specs.Reading.{Env, Parser, Reads, withEnv, withBlock, nil, allKeys, pushInsn, newBlock, phi, joinVars, expect, matchToken, parseStatements, endBlock, parseBlock, parseIf}
 use Rattle.statements.specs.Acts.{addEnd, stopsAt, parseArm, openElse, joinArms, joinValue, finishIf, finishElse, parseElse, ifOf}
 
-then-same : {A B : Type 0} (a : Answer A) (f g : A → Answer B) → ((x : A) → f x ≡ g x) → ifAnswered a f ≡ ifAnswered a g
+pub then-same : {A B : Type 0} (a : Answer A) (f g : A → Answer B) → ((x : A) → f x ≡ g x) → ifAnswered a f ≡ ifAnswered a g
 then-same (answered x) f g h = h x
 then-same (refused n) f g h = refl
 

@@ -14,9 +14,9 @@ use Rattle.rules.specs.Program as P
 use Rattle.rules.specs.Program.{terminated, listedCount, about}
 use Rattle.rules.specs.Reading as R
 use Rattle.rules.specs.Reading.{Parser, Reads, pushInsn, push, newBlock, newBlockOf, endBlock, parseExpr, parseNext, parseStatements, parseReturn, parseIf, statementBy, parseStatement}
-use Rattle.variables.specs.scopes.Made.{Bindings, over, envOf, env-sorted}
-use Rattle.variables.specs.scopes.Sorted.{Sorted}
-use Rattle.variables.specs.Memory.{size, made, vars, row, Kept}
+use Rattle.variables.specs.Scopes.{Bindings, over, envOf, Sorted}
+use Rattle.variables.proofs.scopes.Made.{env-sorted}
+use Rattle.variables.specs.Memory.{made, vars, row, Kept}
 use Rattle.variables.specs.Promises.{Leaves}
 use Rattle.variables.proofs.Entries.{row-move, vars-split, vars-kept}
 use Rattle.lookups.specs.Look.{LookTells}
@@ -56,6 +56,7 @@ use Rattle.cursor.specs.declared.Parsed.{Parsed}
 use Rattle.cursor.specs.declared.Parsed.the-variants.{Done, Refused}
 use Rattle.cursor.proofs.Laws.{after-step, in-counted, Acted, got, gave, refuses, arrives, ends-as, moved-did, added-did, in-moved, step-moved, step-less, step-trans, step-none}
 use Rattle.cursor.proofs.Wording.{spelt-end, spelt-else, is-yes, is-no, word-read, peek-found, peek-none, pass-found}
+use Rattle.variables.specs.Layout.{entriesMost, variablesSize}
 use Rattle.statements.specs.declared.Branch.{Branch}
 use Rattle.statements.specs.declared.Opened.{Opened}
 use Rattle.statements.specs.declared.Opened.the-variants as O
@@ -65,7 +66,22 @@ use Rattle.statements.specs.Acts.{addEnd, stopsAt, parseArm, openElse, j
 use Rattle.statements.specs.Shape.{blockCur, varsCur, openedOf, stopsOf, halts, Halts, Wider, Widened, Opens, AddsEnd, EndsBlock, StatementInside, DidFrom, StatementAside, AsideIf, OpensElse}
 use Rattle.statements.specs.Shape.{JoinsArms, FinishesElse, Arm}
 use Rattle.statements.proofs.Ifs.{if-is}
-use Rattle.statements.proofs.Steps.{block-of, env-of, block-to, Keeps, keeps-step, keeps-low, keeps-then, keeps-later, keeps-vars, after-over, inside-step, inside-then, few-vars, arm-then}
+use Rattle.statements.proofs.Steps.{
+  block-of,
+  block-to,
+  Keeps,
+  keeps-step,
+  keeps-low,
+  keeps-then,
+  keeps-later,
+  keeps-vars,
+  after-over,
+  inside-step,
+  inside-then,
+  few-vars,
+  arm-then,
+  opened-there,
+}
 use Rattle.statements.proofs.Steps.{opens-did, in-block, step-block}
 
 -- ---- a cursor with several parts changed
@@ -108,7 +124,8 @@ abbrev unnumbered : Answer (ℕ × Parser) → Answer (Unit {0} × Parser)
 unnumbered a = ifAnswered a (λ i. answered (tt, i .1))
 
 module _ (l : Limits) (b : BlockId) (op : Op) (v : Given) (m : List ℕ) (c : Cursor) {m' : List ℕ} {r : NewInsn}
-    (g : View.ProgramDid (View.pushOf (View.limitsOf l) (b .0) op (given v)) View.unchanged (c .counts .insns) (View.moreInsns op (length (given v)) (c .counts)) m (c .counts) m' (View.insnOf r)) where
+    (g : View.ProgramDid (View.pushOf (View.limitsOf l) (b .0) op (given v)) View.unchanged (c .counts .insns)
+    (View.moreInsns op (length (given v)) (c .counts)) m (c .counts) m' (View.insnOf r)) where
   pub end-on : {i : InsnId} {d : Counts} {x : Cursor} → r ≡ I.Added i d → x ≡ countCur d c → AddsEnd l b op v m c m' (On.On x)
   unfolding addEnd parserOf
   end-on {i} {d} {x} o e =
@@ -181,12 +198,12 @@ module _ (l : Limits) (s : List ℕ) (d : ℕ) {m w : List ℕ} {c : Cursor} {p 
   return-no e = refuses (rw (← gave a (ap parsedOf e)))
 
   module _ {c1 : Cursor} {v : Opnd} (e : p ≡ Done c1 v) where
-    pub return-in : In s m1 w1 c1
-    return-in = got a (ap parsedOf e) .here
+    pub expr-in : In s m1 w1 c1
+    expr-in = got a (ap parsedOf e) .here
 
     module _ {m2 : List ℕ} {x : Moved} (b : AddsEnd l (c1 .block) Return (One v) m1 c1 m2 x) where
       added : CursorDid (addEnd (View.limitsOf l) (c1 .block .0) (P.Ends (P.Return (opndOf v)))) 0 s m1 w1 c1 m2 w1 (movedOf x)
-      added = added-did (b .adds s w1) return-in
+      added = added-did (b .adds s w1) expr-in
 
       pub return-no2 : {k : ℕ} → x ≡ On.Refused k → CursorDid (parseReturn (View.limitsOf l) s (parseExpr (View.limitsOf l) s d)) 1 s m w c m2 w1 (parsedOf (Refused k))
       unfolding parseReturn parserOf
@@ -214,11 +231,17 @@ module _ {s : List ℕ} {c : Cursor} {r : Lexed} (v : Sees s c r) where
 
     pub halts-else : {arm : 𝔹} → (x .kind ≡ 5 → ⊥) → arm ≡ true → x .kind ≡ 8 → Halts s arm c H.Here
     unfolding halts
-    halts-else k a j = record { is = λ m w. rw (a, ← peek-found v m w f, is-no x (word-read v f) "end" spelt-end k, is-yes x (word-read v f) "else" spelt-else j); next = λ y g. let z : _≡_ {A = ℕ} 0 1 = cc in absurd (omega arith) }
+    halts-else k a j = record {
+      is = λ m w. rw (a, ← peek-found v m w f, is-no x (word-read v f) "end" spelt-end k, is-yes x (word-read v f) "else" spelt-else j);
+      next = λ y g. let z : _≡_ {A = ℕ} 0 1 = cc in absurd (omega arith);
+    }
 
     pub halts-not : {arm : 𝔹} → (x .kind ≡ 5 → ⊥) → arm ≡ true → (x .kind ≡ 8 → ⊥) → Halts s arm c (H.Not x)
     unfolding halts
-    halts-not k a j = record { is = λ m w. rw (a, ← peek-found v m w f, is-no x (word-read v f) "end" spelt-end k, is-no x (word-read v f) "else" spelt-else j); next = λ y g. let z : x ≡ y = cc in rw (f, z) at v }
+    halts-not k a j = record {
+      is = λ m w. rw (a, ← peek-found v m w f, is-no x (word-read v f) "end" spelt-end k, is-no x (word-read v f) "else" spelt-else j);
+      next = λ y g. let z : x ≡ y = cc in rw (f, z) at v;
+    }
 
     pub halts-on : {arm : 𝔹} → (x .kind ≡ 5 → ⊥) → arm ≡ false → Halts s arm c (H.Not x)
     unfolding halts
@@ -328,9 +351,6 @@ module _ (l : Limits) {s m w : List ℕ} {c₀ c : Cursor} (q : Branch) (h : In 
     open-vars : c1 .vars ≡ c .vars
     open-vars = let k = rw e at (b .ok) in ap (λ (z : Cursor). z .vars) (k .0 .cur)
 
-    open-block : f .0 < c1 .counts .blocks
-    open-block = let k = rw e at (b .ok) in k .1
-
     module _ {m2 : List ℕ} {y : Moved} (g : AddsEnd l (c₀ .block) (IfTrue (q .first) f) (One (q .cond)) m1 c1 m2 y) where
       else-chosen : CursorDid (addEnd (View.limitsOf l) (c₀ .block .0) (P.Ends (P.IfTrue (opndOf (q .cond)) (q .first .0) (f .0)))) 0 s m1 w c1 m2 w (movedOf y)
       else-chosen = added-did (g .adds s w) open-in
@@ -355,7 +375,7 @@ module _ (l : Limits) {s m w : List ℕ} {c₀ c : Cursor} (q : Branch) (h : In 
         pub open-in2 : In s m2 w c2
         open-in2 = chosen .here
 
-        pub open-part : (size ≤ length w) × ((c₀ .vars + (c2 .vars - c₀ .vars) ≤ c₀ .aside) × (c₀ .aside + (c2 .vars - c₀ .vars) ≤ 16384))
+        pub open-part : (variablesSize ≤ length w) × ((c₀ .vars + (c2 .vars - c₀ .vars) ≤ c₀ .aside) × (c₀ .aside + (c2 .vars - c₀ .vars) ≤ entriesMost))
         open-part =
             let k = chosen .here .ready in
             let z : c2 .aside ≡ c₀ .aside = steps .aside ∙ a .aside in
@@ -384,7 +404,7 @@ module _ (l : Limits) {s m w : List ℕ} {c₀ c : Cursor} (q : Branch) (h : In 
                     room = record { script = k .room .script; aside = omega (arith, a .inside .low); law = omega (arith, k .room .law, v .less) };
                     args = k .args;
                   };
-                  block = omega (arith, open-block, chosen .step .blocks);
+                  block = omega (arith, opened-there b e, chosen .step .blocks);
                 };
                 inside = record {
                   on = i2 .on;

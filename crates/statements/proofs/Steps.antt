@@ -7,22 +7,25 @@ use lib.ListN.{length, getD}
 use Rattle.ids.specs.declared.BlockId.{BlockId}
 use Rattle.rules.specs.Actions.{answered, refused}
 use Rattle.rules.specs.Reading.{Reads, withBlock, newBlock}
-use Rattle.variables.specs.scopes.Made.{envOf}
+use Rattle.variables.specs.Scopes.{envOf}
 use Rattle.variables.specs.Memory.{entry, made, vars, row, Kept}
 use Rattle.variables.specs.Rooms.{VariablesRoom}
 use Rattle.variables.proofs.Entries.{made-move, row-move}
 use Rattle.program.specs.View as View
 use Rattle.program.specs.declared.Counts.{Counts}
 use Rattle.program.specs.declared.Limits.{Limits}
-use Rattle.cursor.specs.Cursor.{parserOf, countCur, stackAt, CursorReady, In, CursorStep}
+use Rattle.cursor.specs.Cursor.{parserOf, countCur, CursorReady, In, CursorStep}
 use Rattle.cursor.specs.Promises.{Out, done, stop, outcome, CursorAfter, CursorDid, Moves, CursorMatches, matchedOf}
 use Rattle.cursor.specs.declared.Cursor.{Cursor}
 use Rattle.cursor.specs.declared.Matched.{Matched}
 use Rattle.cursor.specs.declared.Matched.the-variants as Matched
 use Rattle.cursor.proofs.Laws.{in-counted, Acted, got, moved-did, step-less, step-trans, step-none}
 use Rattle.cursor.proofs.Wording.{spelt-else}
+use Rattle.variables.specs.Layout.{bindingsMost}
+use Rattle.cursor.specs.Layout.{stackAt}
 use Rattle.statements.specs.declared.Branch.{Branch}
 use Rattle.statements.specs.declared.Opened.{Opened}
+use Rattle.statements.specs.declared.Opened.the-variants as O
 use Rattle.statements.specs.Shape.{blockCur, varsCur, openedOf, Wider, Widened, Opens, StatementInside, Arm, StatementAside}
 
 -- ---- the parser's state
@@ -32,10 +35,6 @@ module _ (s m w : List ℕ) (c : Cursor) where
   unfolding parserOf
   block-of = refl
 
-  pub env-of : parserOf s m w c .env ≡ vars s w (c .vars)
-  unfolding parserOf
-  env-of = refl
-
   pub block-to : (b : BlockId) → withBlock (b .0) (parserOf s m w c) ≡ parserOf s m w (blockCur b c)
   unfolding parserOf
   block-to b = refl
@@ -44,7 +43,7 @@ module _ (s m w : List ℕ) (c : Cursor) where
 
 pub record Keeps (c₀ : Cursor) (w w' : List ℕ) : Type 0 where
   pub old : (i : ℕ) → i < c₀ .vars → entry w' i ≡ entry w i
-  pub rows : (i : ℕ) → 8192 ≤ i → i < c₀ .aside → entry w' i ≡ entry w i
+  pub rows : (i : ℕ) → bindingsMost ≤ i → i < c₀ .aside → entry w' i ≡ entry w i
   pub stack : (i : ℕ) → stackAt ≤ i → i < stackAt + 2 * c₀ .args → getD w' i 0 ≡ getD w i 0
 
 pub keeps-step : {k : ℕ} {c₀ c : Cursor} {w w' : List ℕ} → CursorStep k c₀ w c w' → Keeps c₀ w w'
@@ -143,6 +142,9 @@ arm-then a b =
 opened-after : {s m w : List ℕ} (m' : List ℕ) {c : Cursor} (o : Out ℕ) → Widened m' c o → In s m w c → CursorAfter 0 s c w m' w o
 opened-after m' (done b c') v h = rw (v .0 .cur) (in-counted h (c' .counts) (v .0 .ready) (v .0 .functions) (v .0 .classes) (v .0 .blocks))
 opened-after m' (stop e) v h = tt
+
+pub opened-there : {l : Limits} {m m' : List ℕ} {c c1 : Cursor} {r : Opened} {b : BlockId} → Opens l m c m' r → r ≡ O.On c1 b → b .0 < c1 .counts .blocks
+opened-there d e = let k = rw e at (d .ok) in k .1
 
 pub opens-did : {l : Limits} {s m w m' : List ℕ} {c : Cursor} {r : Opened} → Opens l m c m' r → In s m w c → CursorDid (newBlock (View.limitsOf l)) 0 s m w c m' w (openedOf r)
 opens-did {s = s} {w = w} {m' = m'} {r = r} v h = record { is = v .is s w; ok = opened-after m' (openedOf r) (v .ok) h }

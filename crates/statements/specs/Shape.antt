@@ -8,7 +8,7 @@ use Rattle.rules.specs.Actions.{Answer, answered, refused, _>>=_, give}
 use Rattle.rules.specs.Program as P
 use Rattle.rules.specs.Reading.{Reads, newBlock, endBlock}
 use Rattle.rules.specs.Reading as R
-use Rattle.variables.specs.scopes.Made.{Bindings, over, envOf}
+use Rattle.variables.specs.Scopes.{Bindings, over, envOf}
 use Rattle.variables.specs.Memory.{made, vars, row, Kept}
 use Rattle.program.specs.Rows.{opndOf, given, opIn}
 use Rattle.program.specs.View as View
@@ -25,6 +25,7 @@ use Rattle.cursor.specs.Promises.{Out, done, stop, outcome, CursorAfter, Cursor
 use Rattle.cursor.specs.declared.Cursor.{Cursor}
 use Rattle.cursor.specs.declared.Moved.{Moved}
 use Rattle.cursor.specs.declared.Parsed.{Parsed}
+use Rattle.variables.specs.Layout.{bindingsMost}
 use Rattle.statements.specs.declared.Opened.{Opened}
 use Rattle.statements.specs.declared.Opened.the-variants as O
 use Rattle.statements.specs.declared.Stops.{Stops}
@@ -91,7 +92,7 @@ pub record EndsBlock (l : Limits) (op : Op) (g : Given) (m : List ℕ) (c : Curs
 pub record StatementInside (c₀ c : Cursor) : Type 0 where
   pub on : c₀ .at ≤ c .at
   pub old : c₀ .vars ≤ c .vars
-  pub low : 8192 ≤ c₀ .aside
+  pub low : bindingsMost ≤ c₀ .aside
   pub above : c₀ .aside ≤ c .aside
   pub paid : 2 * (c .vars + c .aside) + c₀ .at ≤ 2 * (c₀ .vars + c₀ .aside) + c .at
   pub args : c .args ≡ c₀ .args

@@ -19,7 +19,7 @@ use program::Opnd;
 ghost use mathlib.Core.Path.{_≡_};
 ghost use Prim.Native.Nat.{_-_, _<_};
 ghost use Rattle.rules.specs.Reading.{parseExpr, parseReturn, parseIf, parseStatements, parseStatement};
-ghost use Rattle.variables.specs.scopes.Sorted.{Sorted};
+ghost use Rattle.variables.specs.Scopes.{Sorted};
 ghost use Rattle.variables.specs.Memory.{row, vars};
 ghost use Rattle.lexer.specs.declared.Lexed.the-variants.{Found};
 ghost use Rattle.program.specs.Rows.{opndOf};
@@ -153,7 +153,8 @@ fn parse_return(
 ) -> Parsed
     requires { ⌜ In (now script) (now program) (now scratch) cursor ⌝ }
     requires { ⌜ Small limits ⌝ }
-    ensures { λ r. ⌜ CursorDid (parseReturn (limitsOf limits) (now (script .entry)) (parseExpr (limitsOf limits) (now (script .entry)) depth)) 1 (now (script .entry)) (now (program .entry)) (now (scratch .entry)) cursor (now (program .exit)) (now (scratch .exit)) (parsedOf r) ⌝ }
+    ensures { λ r. ⌜ CursorDid (parseReturn (limitsOf limits) (now (script .entry)) (parseExpr (limitsOf limits) (now (script .entry)) depth)) 1
+        (now (script .entry)) (now (program .entry)) (now (scratch .entry)) cursor (now (program .exit)) (now (scratch .exit)) (parsedOf r) ⌝ }
 {
     match expressions::parse_expr(script, program, scratch, cursor, limits, 0, depth) {
         Parsed::Done(c1, v) => {
@@ -264,7 +265,8 @@ fn join_value(
 ) -> Parsed
     requires { ⌜ In (now script) (now program) (now scratch) cursor ⌝ }
     requires { ⌜ Small limits ⌝ }
-    ensures { λ r. ⌜ CursorDid (joinValue (limitsOf limits) (now (script .entry)) (left .0) (opndOf v) (right .0) (opndOf x)) 1 (now (script .entry)) (now (program .entry)) (now (scratch .entry)) cursor (now (program .exit)) (now (scratch .entry)) (parsedOf r) ⌝ }
+    ensures { λ r. ⌜ CursorDid (joinValue (limitsOf limits) (now (script .entry)) (left .0) (opndOf v) (right .0) (opndOf x)) 1 (now (script .entry))
+        (now (program .entry)) (now (scratch .entry)) cursor (now (program .exit)) (now (scratch .entry)) (parsedOf r) ⌝ }
 {
     match cursor::expect(script, cursor, lexer::END) {
         Moved::On(c1) => {
@@ -292,7 +294,12 @@ fn finish_if(
     requires { ⌜ In (now script) (now program) (now scratch) cursor ⌝ }
     requires { ⌜ Small limits ⌝ }
     requires { ⌜ Arm c0 cursor q ⌝ }
-    ensures { λ r. ⌜ DidFrom (finishIf (limitsOf limits) (now (script .entry)) (c0 .block .0) (vars (now (script .entry)) (now (scratch .entry)) (c0 .vars)) (opndOf (q .cond)) (q .first .0) (q .join .0) (q .last .0) (opndOf (q .value)) (vars (now (script .entry)) (now (scratch .entry)) (cursor .vars))) 1 (now (script .entry)) (now (program .entry)) (now (scratch .entry)) c0 cursor (now (program .exit)) (now (scratch .exit)) (parsedOf r) ⌝ }
+    ensures { λ r. ⌜ DidFrom
+        (finishIf (limitsOf limits) (now (script .entry)) (c0 .block .0) (vars (now (script .entry)) (now (scratch .entry)) (c0 .vars))
+        (opndOf (q .cond)) (q .first .0) (q .join .0) (q .last .0) (opndOf (q .value))
+        (vars (now (script .entry)) (now (scratch .entry)) (cursor .vars)))
+        1
+        (now (script .entry)) (now (program .entry)) (now (scratch .entry)) c0 cursor (now (program .exit)) (now (scratch .exit)) (parsedOf r) ⌝ }
 {
     let before = c0.block;
     let v = q.cond;
@@ -419,7 +426,9 @@ pub fn parse_statements(
 ) -> Parsed
     requires { ⌜ In (now script) (now program) (now scratch) cursor ⌝ }
     requires { ⌜ Small limits ⌝ }
-    ensures { λ r. ⌜ CursorDid (parseStatements (limitsOf limits) (now (script .entry)) (stopsAt arm) (parseStatement (limitsOf limits) (now (script .entry)) depth)) 0 (now (script .entry)) (now (program .entry)) (now (scratch .entry)) cursor (now (program .exit)) (now (scratch .exit)) (parsedOf r) ⌝ }
+    ensures { λ r. ⌜ CursorDid
+        (parseStatements (limitsOf limits) (now (script .entry)) (stopsAt arm) (parseStatement (limitsOf limits) (now (script .entry)) depth)) 0
+        (now (script .entry)) (now (program .entry)) (now (scratch .entry)) cursor (now (program .exit)) (now (scratch .exit)) (parsedOf r) ⌝ }
 {
     let mut cur = cursor;
     let mut v = Opnd::Const(Kind::Nil);
@@ -464,7 +473,9 @@ fn parse_block(
 ) -> Parsed
     requires { ⌜ In (now script) (now program) (now scratch) cursor ⌝ }
     requires { ⌜ Small limits ⌝ }
-    ensures { λ r. ⌜ CursorDid (parseArm (limitsOf limits) (now (script .entry)) (parseStatement (limitsOf limits) (now (script .entry)) depth) (join .0)) 0 (now (script .entry)) (now (program .entry)) (now (scratch .entry)) cursor (now (program .exit)) (now (scratch .exit)) (parsedOf r) ⌝ }
+    ensures { λ r. ⌜ CursorDid
+        (parseArm (limitsOf limits) (now (script .entry)) (parseStatement (limitsOf limits) (now (script .entry)) depth) (join .0)) 0
+        (now (script .entry)) (now (program .entry)) (now (scratch .entry)) cursor (now (program .exit)) (now (scratch .exit)) (parsedOf r) ⌝ }
 {
     match parse_statements(script, program, scratch, cursor, limits, true, depth) {
         Parsed::Refused(e) => Parsed::Refused(e),
@@ -489,7 +500,11 @@ fn parse_else(
     requires { ⌜ In (now script) (now program) (now scratch) cursor ⌝ }
     requires { ⌜ Small limits ⌝ }
     requires { ⌜ Arm c0 cursor q ⌝ }
-    ensures { λ r. ⌜ DidFrom (parseElse (limitsOf limits) (now (script .entry)) (parseStatement (limitsOf limits) (now (script .entry)) depth) (c0 .block .0) (vars (now (script .entry)) (now (scratch .entry)) (c0 .vars)) (opndOf (q .cond)) (q .first .0) (q .join .0) (q .last .0) (opndOf (q .value))) 1 (now (script .entry)) (now (program .entry)) (now (scratch .entry)) c0 cursor (now (program .exit)) (now (scratch .exit)) (parsedOf r) ⌝ }
+    ensures { λ r. ⌜ DidFrom
+        (parseElse (limitsOf limits) (now (script .entry)) (parseStatement (limitsOf limits) (now (script .entry)) depth) (c0 .block .0)
+        (vars (now (script .entry)) (now (scratch .entry)) (c0 .vars)) (opndOf (q .cond)) (q .first .0) (q .join .0) (q .last .0) (opndOf (q .value)))
+        1
+        (now (script .entry)) (now (program .entry)) (now (scratch .entry)) c0 cursor (now (program .exit)) (now (scratch .exit)) (parsedOf r) ⌝ }
 {
     match cursor::match_token(script, cursor, lexer::ELSE) {
         Matched::Refused(e) => Parsed::Refused(e),
@@ -528,7 +543,11 @@ fn parse_if(
 ) -> Parsed
     requires { ⌜ In (now script) (now program) (now scratch) cursor ⌝ }
     requires { ⌜ Small limits ⌝ }
-    ensures { λ r. ⌜ CursorDid (parseIf (limitsOf limits) (now (script .entry)) (parseExpr (limitsOf limits) (now (script .entry)) depth) (parseStatement (limitsOf limits) (now (script .entry)) depth)) 1 (now (script .entry)) (now (program .entry)) (now (scratch .entry)) cursor (now (program .exit)) (now (scratch .exit)) (parsedOf r) ⌝ }
+    ensures { λ r. ⌜ CursorDid
+        (parseIf (limitsOf limits) (now (script .entry)) (parseExpr (limitsOf limits) (now (script .entry)) depth)
+        (parseStatement (limitsOf limits) (now (script .entry)) depth))
+        1
+        (now (script .entry)) (now (program .entry)) (now (scratch .entry)) cursor (now (program .exit)) (now (scratch .exit)) (parsedOf r) ⌝ }
 {
     match expressions::parse_expr(script, program, scratch, cursor, limits, 0, depth) {
         Parsed::Refused(e) => Parsed::Refused(e),
@@ -584,7 +603,8 @@ fn parse_statement(
     requires { ⌜ In (now script) (now program) (now scratch) cursor ⌝ }
     requires { ⌜ Small limits ⌝ }
     requires { ⌜ Sees (now script) cursor (Found x) ⌝ }
-    ensures { λ r. ⌜ CursorDid (parseStatement (limitsOf limits) (now (script .entry)) depth) 1 (now (script .entry)) (now (program .entry)) (now (scratch .entry)) cursor (now (program .exit)) (now (scratch .exit)) (parsedOf r) ⌝ }
+    ensures { λ r. ⌜ CursorDid (parseStatement (limitsOf limits) (now (script .entry)) depth) 1 (now (script .entry)) (now (program .entry))
+        (now (scratch .entry)) cursor (now (program .exit)) (now (scratch .exit)) (parsedOf r) ⌝ }
 {
     if x.kind == lexer::RETURN {
         return parse_return(

@@ -14,7 +14,9 @@ use Rattle.program.specs.declared.Counts.{Counts}
 use Rattle.program.proofs.Tables.{tab-ext, tab-more}
 use Rattle.chains.specs.Chains.{pick, ChainsChained, at}
 use Rattle.chains.proofs.Lists.{Starts, chained-below, chained-none, chained-some, chained-low}
-use Rattle.uses.specs.Users.{work, sumTo, usesAt, usersOf, usersTo, Cells, Linked, words, Uses}
+use Rattle.memory.specs.Layout.{instructionsMost, usesMost}
+use Rattle.uses.specs.Layout.{itemsAt, linksAt}
+use Rattle.uses.specs.Users.{sumTo, usesAt, usersOf, usersTo, Cells, Linked, words, Uses}
 use Rattle.uses.proofs.Totals.{uses-is, users-room, sum-more, sum-mono}
 
 -- the users of the instructions before j stand in their place
@@ -52,7 +54,7 @@ words-same u a n k v h = tab-ext (λ q. getD (set u k v) (a + q) 0) (λ q. getD 
     apart (mathlib.Core.Logic.inl x) q g z = omega arith
     apart (mathlib.Core.Logic.inr x) q g z = omega arith
 
-module _ {m : List ℕ} {c : Counts} (ok : ProgramReady m c) (a b : ℕ) (u₀ : List ℕ) (order : a + 2049 ≤ b) (room : b + 12288 ≤ length u₀) where
+module _ {m : List ℕ} {c : Counts} (ok : ProgramReady m c) (a b : ℕ) (u₀ : List ℕ) (order : a + (instructionsMost + 1) ≤ b) (room : b + usesMost ≤ length u₀) where
   abbrev N : ℕ
   N = c .insns
 
@@ -97,7 +99,7 @@ module _ {m : List ℕ} {c : Counts} (ok : ProgramReady m c) (a b : ℕ) (u₀ :
           front = [];
           rest = usersOf m N j;
           whole = refl;
-          cells = chained-below (at w 2048) (at w 14336) 12288 e 0 (getD w j 0) (usersOf m N j) (omega arith) (rw y at (l .cells j h));
+          cells = chained-below (at w itemsAt) (at w linksAt) usesMost e 0 (getD w j 0) (usersOf m N j) (omega arith) (rw y at (l .cells j h));
           pos-is = omega (arith, z .pos-is);
           starts = starts-on;
           parts = parts-on;
@@ -105,12 +107,12 @@ module _ {m : List ℕ} {c : Counts} (ok : ProgramReady m c) (a b : ℕ) (u₀ :
           others = λ k h. refl;
         }
 
-    pub on-room : b + 12288 ≤ length (set u (a + j) pos)
+    pub on-room : b + usesMost ≤ length (set u (a + j) pos)
     on-room = omega (arith, length-set u (a + j) pos, z .len-same)
 
-    pub copy-done : {w u' : List ℕ} {pos' h : ℕ} → Copying m (c .insns) a b w (set u (a + j) pos) u' j pos' h → 12288 ≤ h → Laying m (c .insns) a b u₀ u' pos' (j + 1)
+    pub copy-done : {w u' : List ℕ} {pos' h : ℕ} → Copying m (c .insns) a b w (set u (a + j) pos) u' j pos' h → usesMost ≤ h → Laying m (c .insns) a b u₀ u' pos' (j + 1)
     copy-done {w} {u'} {pos'} {h} y g =
-        let e : y .rest ≡ [] = chained-none (at w 2048) (at w 14336) 12288 0 h (y .rest) (y .cells) g in
+        let e : y .rest ≡ [] = chained-none (at w itemsAt) (at w linksAt) usesMost 0 h (y .rest) (y .cells) g in
         let f : y .front ≡ usersOf m N j = sym (append-nil (y .front)) ∙ (sym (ap (λ l. y .front ++ l) e) ∙ y .whole) in
         record {
           len-same = y .len-same ∙ (length-set u (a + j) pos ∙ z .len-same);
@@ -144,31 +146,40 @@ module _ {m : List ℕ} {c : Counts} (ok : ProgramReady m c) (a b : ℕ) (u₀ :
               rw e at (others-on k (λ x l. g x (omega arith)) (λ x l. h x (omega (arith, p))));
         }
 
-module _ {m : List ℕ} {c : Counts} (ok : ProgramReady m c) (a b : ℕ) (order : a + 2049 ≤ b) {w v u : List ℕ} {j pos h : ℕ} (z : Copying m (c .insns) a b w v u j pos h) (g : h < 12288) where
+module _ {m : List ℕ} {c : Counts} (ok : ProgramReady m c) (a b : ℕ) (order : a + (instructionsMost + 1) ≤ b) {w v u : List ℕ} {j pos h : ℕ}
+    (z : Copying m (c .insns) a b w v u j pos h) (g : h < usesMost) where
   abbrev M : ℕ
   M = c .insns
 
-  more : Starts (at w 2048) (at w 14336) 12288 h (z .rest)
-  more = chained-some (at w 2048) (at w 14336) 12288 0 h (z .rest) (z .cells) g
+  more : Starts (at w itemsAt) (at w linksAt) usesMost h (z .rest)
+  more = chained-some (at w itemsAt) (at w linksAt) usesMost 0 h (z .rest) (z .cells) g
 
-  pub copy-rises : h < getD w (14336 + h) 0
-  copy-rises = omega (arith, chained-low (at w 2048) (at w 14336) 12288 (suc h) (getD w (14336 + h) 0) (more .rest) (more .onward) (omega arith))
+  pub copy-rises : h < getD w (linksAt + h) 0
+  copy-rises = omega (arith, chained-low (at w itemsAt) (at w linksAt) usesMost (suc h) (getD w (linksAt + h) 0) (more .rest) (more .onward) (omega arith))
 
   abbrev x : ℕ
-  x = getD w (2048 + h) 0
+  x = getD w (itemsAt + h) 0
 
   whole : (z .front ++ x ∷ []) ++ more .rest ≡ usersOf m M j
   whole = append-assoc (z .front) (x ∷ []) (more .rest) ∙ (sym (ap (λ l. z .front ++ l) (more .is)) ∙ z .whole)
 
-  pub copy-room : pos < 12288
+  pub copy-room : pos < usesMost
   copy-room =
-      omega
-      (arith, z .pos-is, z .high, ap length whole, length-append (z .front ++ x ∷ []) (more .rest), length-append (z .front) (x ∷ []), sum-mono (λ k. length (usersOf m M k)) j M (z .high), users-room ok M)
+      omega (
+        arith,
+        z .pos-is,
+        z .high,
+        ap length whole,
+        length-append (z .front ++ x ∷ []) (more .rest),
+        length-append (z .front) (x ∷ []),
+        sum-mono (λ k. length (usersOf m M k)) j M (z .high),
+        users-room ok M,
+      )
 
-  pub copy-inside : b + 12288 ≤ length v → b + pos < length u
+  pub copy-inside : b + usesMost ≤ length v → b + pos < length u
   copy-inside room = omega (arith, z .len-same, copy-room)
 
-  pub copy-more : b + 12288 ≤ length v → Copying m (c .insns) a b w v (set u (b + pos) (getD w (2048 + h) 0)) j (pos + 1) (getD w (14336 + h) 0)
+  pub copy-more : b + usesMost ≤ length v → Copying m (c .insns) a b w v (set u (b + pos) (getD w (itemsAt + h) 0)) j (pos + 1) (getD w (linksAt + h) 0)
   copy-more room =
       let here : b + usersTo m M j + length (z .front) ≡ b + pos = omega (arith, z .pos-is) in
       let size : length (z .front ++ x ∷ []) ≡ length (z .front) + 1 = length-append (z .front) (x ∷ []) in
@@ -178,7 +189,7 @@ module _ {m : List ℕ} {c : Counts} (ok : ProgramReady m c) (a b : ℕ) (order 
         front = z .front ++ x ∷ [];
         rest = more .rest;
         whole = whole;
-        cells = chained-below (at w 2048) (at w 14336) 12288 (suc h) 0 (getD w (14336 + h) 0) (more .rest) (omega arith) (more .onward);
+        cells = chained-below (at w itemsAt) (at w linksAt) usesMost (suc h) 0 (getD w (linksAt + h) 0) (more .rest) (omega arith) (more .onward);
         pos-is = omega (arith, z .pos-is, size);
         starts = λ k l. getD-set-other u (b + pos) (a + k) x 0 (λ y. omega (arith, ok .insns, z .high)) ∙ z .starts k l;
         parts = λ k l.

@@ -1,7 +1,7 @@
 -- What each way through the linking shows, on plain values. Assumes nothing.
-use mathlib.Core.Bool.{Bool as 𝔹, true, false, cond, _||_}
+use mathlib.Core.Bool.{Bool as 𝔹, true, false, cond, _||_, or-true, or-false}
 use mathlib.Core.Path.{_≡_, refl, sym, ap, ap₂, _∙_, subst}
-use mathlib.Core.List.{List, [], _∷_, _++_}
+use mathlib.Core.List.{List, [], _∷_}
 use Prim.Native.Nat.{ℕ, zero, suc, _+_, _-_, _*_, _≤_, _<_, min}
 use native.Mathlib.Decide.{ℕ-discrete}
 use native.Mathlib.Numerals.{add-one}
@@ -12,7 +12,7 @@ use lib.ListN.{length, getD, set, length-set}
 use lib.Seq.{getD-set-same, getD-set-other}
 use Rattle.rules.specs.Lists.{any, consIf}
 use Rattle.program.specs.Tab.{tab}
-use Rattle.program.specs.Rows.{opndsAt, opndsIn, opndAt, insnAt}
+use Rattle.program.specs.Rows.{opndsIn, opndAt, insnAt}
 use Rattle.program.specs.View.{ProgramReady}
 use Rattle.program.specs.declared.Counts.{Counts}
 use Rattle.program.specs.declared.Row.{Row}
@@ -21,32 +21,36 @@ use Rattle.program.specs.declared.Opnd.the-variants.{Const, Insn}
 use Rattle.kinds.specs.declared.Kind.{Kind}
 use Rattle.ids.specs.declared.InsnId.{InsnId}
 use Rattle.program.proofs.Tables.{tab-more}
+use Rattle.program.proofs.Committing.{any-snoc}
 use Rattle.chains.specs.Chains.{pick, ChainsChained, at, ChainsFilled}
 use Rattle.chains.proofs.Lists.{pick-suc, pick-end, chained-below, chained-end, chained-more, chained-same}
-use Rattle.uses.specs.Users.{work, mostOf, usedAt, sumTo, usedTo, names, namesTo, usesAt, firstOf, Cells, front, UsersPut, Linked}
+use Rattle.memory.specs.Layout.{instructionsMost, usesMost}
+use Rattle.program.specs.Layout.{opndsAt}
+use Rattle.uses.specs.Layout.{itemsAt, linksAt, usesSize}
+use Rattle.uses.specs.Users.{mostOf, usedAt, sumTo, usedTo, names, namesTo, usesAt, firstOf, Cells, front, UsersPut, Linked}
 use Rattle.uses.proofs.Totals.{used-room, sum-more}
 
 -- ---- a cell
 
-pub first-some : (w : List ℕ) (h : ℕ) → h < 12288 → getD w (2048 + h) 0 ≡ firstOf w h
+pub first-some : (w : List ℕ) (h : ℕ) → h < usesMost → getD w (itemsAt + h) 0 ≡ firstOf w h
 unfolding firstOf
-first-some w h g = rw (lt-ltb h 12288 g)
+first-some w h g = rw (lt-ltb h usesMost g)
 
-pub first-none : (w : List ℕ) (h : ℕ) → 12288 ≤ h → 12288 ≡ firstOf w h
+pub first-none : (w : List ℕ) (h : ℕ) → usesMost ≤ h → usesMost ≡ firstOf w h
 unfolding firstOf
-first-none w h g = rw (le-ltb h 12288 g)
+first-none w h g = rw (le-ltb h usesMost g)
 
 front-new : (w : List ℕ) (e i h : ℕ) (l : List ℕ) → Cells w e h l → (firstOf w h ≡ i → ⊥) → front i l ≡ i ∷ l
 unfolding ChainsChained
 front-new w e i h [] d ne = refl
 front-new w e i h (x ∷ l) d ne = rw (ne-eqb x i (λ q. ne (sym (first-some w h (d .1)) ∙ (sym (d .2) ∙ q))))
 
-front-old : (w : List ℕ) (e i h : ℕ) (l : List ℕ) → Cells w e h l → firstOf w h ≡ i → i < 2048 → front i l ≡ l
+front-old : (w : List ℕ) (e i h : ℕ) (l : List ℕ) → Cells w e h l → firstOf w h ≡ i → i < instructionsMost → front i l ≡ l
 unfolding ChainsChained
 front-old w e i h [] d q g = absurd (omega (arith, first-none w h (omega arith)))
 front-old w e i h (x ∷ l) d q g = rw (eq-eqb x i (d .2 ∙ (first-some w h (d .1) ∙ q)))
 
-module _ (w : List ℕ) (e i j : ℕ) {x : ℕ} (q : x ≡ firstOf w (getD w j 0)) (fits : i < 2048) where
+module _ (w : List ℕ) (e i j : ℕ) {x : ℕ} (q : x ≡ firstOf w (getD w j 0)) (fits : i < instructionsMost) where
   pub link-old : x ≡ i → UsersPut e i j w w e
   link-old y =
       record {
@@ -57,52 +61,52 @@ module _ (w : List ℕ) (e i j : ℕ) {x : ℕ} (q : x ≡ firstOf w (getD w j 0
         others = λ k l h ne d. d;
       }
 
-  module _ (ne : x ≡ i → ⊥) (room : work ≤ length w) (some : 0 < e) (high : e ≤ 12288) (inside : j < 2048) where
+  module _ (ne : x ≡ i → ⊥) (room : usesSize ≤ length w) (some : 0 < e) (high : e ≤ usesMost) (inside : j < instructionsMost) where
     abbrev d : ℕ
     d = e - 1
 
     abbrev w1 : List ℕ
-    w1 = set w (2048 + d) i
+    w1 = set w (itemsAt + d) i
 
     abbrev w2 : List ℕ
-    w2 = set w1 (14336 + d) (getD w j 0)
+    w2 = set w1 (linksAt + d) (getD w j 0)
 
     abbrev w3 : List ℕ
     w3 = set w2 j d
 
-    low-word : (k : ℕ) → k < 2048 → (k ≡ j → ⊥) → getD w3 k 0 ≡ getD w k 0
+    low-word : (k : ℕ) → k < instructionsMost → (k ≡ j → ⊥) → getD w3 k 0 ≡ getD w k 0
     low-word k h n =
         getD-set-other w2 j k d 0 n
-        ∙ (getD-set-other w1 (14336 + d) k (getD w j 0) 0 (λ z. omega arith) ∙ getD-set-other w (2048 + d) k i 0 (λ z. omega arith))
+        ∙ (getD-set-other w1 (linksAt + d) k (getD w j 0) 0 (λ z. omega arith) ∙ getD-set-other w (itemsAt + d) k i 0 (λ z. omega arith))
 
-    item-word : (y : ℕ) → y < 12288 → (y ≡ d → ⊥) → getD w3 (2048 + y) 0 ≡ getD w (2048 + y) 0
+    item-word : (y : ℕ) → y < usesMost → (y ≡ d → ⊥) → getD w3 (itemsAt + y) 0 ≡ getD w (itemsAt + y) 0
     item-word y h n =
-        getD-set-other w2 j (2048 + y) d 0 (λ z. omega arith)
-        ∙ (getD-set-other w1 (14336 + d) (2048 + y) (getD w j 0) 0 (λ z. omega arith) ∙ getD-set-other w (2048 + d) (2048 + y) i 0 (λ z. n (omega arith)))
+        getD-set-other w2 j (itemsAt + y) d 0 (λ z. omega arith)
+        ∙ (getD-set-other w1 (linksAt + d) (itemsAt + y) (getD w j 0) 0 (λ z. omega arith) ∙ getD-set-other w (itemsAt + d) (itemsAt + y) i 0 (λ z. n (omega arith)))
 
-    link-word : (y : ℕ) → y < 12288 → (y ≡ d → ⊥) → getD w3 (14336 + y) 0 ≡ getD w (14336 + y) 0
+    link-word : (y : ℕ) → y < usesMost → (y ≡ d → ⊥) → getD w3 (linksAt + y) 0 ≡ getD w (linksAt + y) 0
     link-word y h n =
-        getD-set-other w2 j (14336 + y) d 0 (λ z. omega arith)
-        ∙ (getD-set-other w1 (14336 + d) (14336 + y) (getD w j 0) 0 (λ z. n (omega arith)) ∙ getD-set-other w (2048 + d) (14336 + y) i 0 (λ z. omega arith))
+        getD-set-other w2 j (linksAt + y) d 0 (λ z. omega arith)
+        ∙ (getD-set-other w1 (linksAt + d) (linksAt + y) (getD w j 0) 0 (λ z. n (omega arith)) ∙ getD-set-other w (itemsAt + d) (linksAt + y) i 0 (λ z. omega arith))
 
     len1 : length w1 ≡ length w
-    len1 = length-set w (2048 + d) i
+    len1 = length-set w (itemsAt + d) i
 
     len2 : length w2 ≡ length w
-    len2 = length-set w1 (14336 + d) (getD w j 0) ∙ len1
+    len2 = length-set w1 (linksAt + d) (getD w j 0) ∙ len1
 
-    item-new : getD w3 (2048 + d) 0 ≡ i
+    item-new : getD w3 (itemsAt + d) 0 ≡ i
     item-new =
-        getD-set-other w2 j (2048 + d) d 0 (λ z. omega arith)
-        ∙ (getD-set-other w1 (14336 + d) (2048 + d) (getD w j 0) 0 (λ z. omega arith) ∙ getD-set-same w (2048 + d) i 0 (omega arith))
+        getD-set-other w2 j (itemsAt + d) d 0 (λ z. omega arith)
+        ∙ (getD-set-other w1 (linksAt + d) (itemsAt + d) (getD w j 0) 0 (λ z. omega arith) ∙ getD-set-same w (itemsAt + d) i 0 (omega arith))
 
-    link-new-word : getD w3 (14336 + d) 0 ≡ getD w j 0
+    link-new-word : getD w3 (linksAt + d) 0 ≡ getD w j 0
     link-new-word =
-        getD-set-other w2 j (14336 + d) d 0 (λ z. omega arith) ∙ getD-set-same w1 (14336 + d) (getD w j 0) 0 (omega (arith, len1))
+        getD-set-other w2 j (linksAt + d) d 0 (λ z. omega arith) ∙ getD-set-same w1 (linksAt + d) (getD w j 0) 0 (omega (arith, len1))
 
     stays : (h : ℕ) (l : List ℕ) → Cells w e h l → Cells w3 e h l
     stays h l c =
-        chained-same (at w 2048) (at w 14336) (at w3 2048) (at w3 14336) 12288 e e h l (omega arith)
+        chained-same (at w itemsAt) (at w linksAt) (at w3 itemsAt) (at w3 linksAt) usesMost e e h l (omega arith)
         (λ y p g. (item-word y g (λ z. omega arith), link-word y g (λ z. omega arith))) c
 
     pub link-new : UsersPut e i j w w3 (e - 1)
@@ -114,23 +118,11 @@ module _ (w : List ℕ) (e i j : ℕ) {x : ℕ} (q : x ≡ firstOf w (getD w j 0
           own = λ l c.
               let s : suc d ≡ e = omega arith in
               rw (front-new w e i (getD w j 0) l c (λ z. ne (q ∙ z)), getD-set-same w2 j d 0 (omega (arith, len2)))
-              (chained-more (at w3 2048) (at w3 14336) 12288 d i l (omega arith) (sym item-new) (rw (s, link-new-word) (stays (getD w j 0) l c)));
-          others = λ k l h n c. rw (low-word k h n) (chained-below (at w3 2048) (at w3 14336) 12288 e d _ l (omega arith) (stays _ l c));
+              (chained-more (at w3 itemsAt) (at w3 linksAt) usesMost d i l (omega arith) (sym item-new) (rw (s, link-new-word) (stays (getD w j 0) l c)));
+          others = λ k l h n c. rw (low-word k h n) (chained-below (at w3 itemsAt) (at w3 linksAt) usesMost e d _ l (omega arith) (stays _ l c));
         }
 
 -- ---- an instruction's operands
-
-any-snoc : {A : Type 0} (f : A → 𝔹) (l : List A) (x : A) → any f (l ++ x ∷ []) ≡ (any f l || f x)
-any-snoc f [] x = or-none (f x)
-  where
-    or-none : (t : 𝔹) → (t || false) ≡ t
-    or-none true = refl
-    or-none false = refl
-any-snoc f (y ∷ l) x = go (f y) (any-snoc f l x)
-  where
-    go : (t : 𝔹) → any f (l ++ x ∷ []) ≡ (any f l || f x) → (t || any f (l ++ x ∷ [])) ≡ ((t || any f l) || f x)
-    go true e = refl
-    go false e = e
 
 module _ (m : List ℕ) (i : ℕ) where
   names-none : (j : ℕ) → namesTo m i 0 j ≡ false
@@ -142,14 +134,6 @@ module _ (m : List ℕ) (i : ℕ) where
   names-more q j =
       ap (any (names j)) (tab-more (λ k. opndAt m (opndsAt + 2 * insnAt m i .first + 2 * k)) q)
       ∙ any-snoc (names j) (tab (λ k. opndAt m (opndsAt + 2 * insnAt m i .first + 2 * k)) q) (opndAt m (opndsAt + 2 * insnAt m i .first + 2 * q))
-
-or-false : (t : 𝔹) → (t || false) ≡ t
-or-false true = refl
-or-false false = refl
-
-or-true : (t : 𝔹) → (t || true) ≡ true
-or-true true = refl
-or-true false = refl
 
 front-pick : (i : ℕ) (u : ℕ → 𝔹) (k f : ℕ) → i < k → front i (pick u k f) ≡ i ∷ pick u k f
 unfolding pick
@@ -167,16 +151,16 @@ front-more false i u k f h = front-pick i u k f h
 -- the users from instruction i + 1 on, and i where it is among the first q operands
 pub record Turning (m : List ℕ) (n i used a : ℕ) (w₀ w : List ℕ) (e q : ℕ) : Type 0 where
   pub len-same : length w ≡ length w₀
-  pub len : work ≤ length w
+  pub len : usesSize ≤ length w
   pub cells : (j : ℕ) → j < n → Cells w e (getD w j 0) (consIf (namesTo m i q j) i (pick (usesAt m j) (i + 1) (n - (i + 1))))
   pub room : usedTo m i + used ≤ e + q
-  pub few : e ≤ 12288
+  pub few : e ≤ usesMost
   pub high : q ≤ used
   pub used-is : used ≡ usedAt m i
   pub place : a ≡ opndsAt + 2 * insnAt m i .first
 
 pub turn-start : {m : List ℕ} {n i e : ℕ} {w : List ℕ} {r : Row} {k u : ℕ} → r ≡ insnAt m i → k ≡ mostOf (r .op) → u ≡ min (r .count) k → Linked m n (i + 1) e w
-    → Turning m n i u (12288 + 2 * r .first) w w e 0
+    → Turning m n i u (opndsAt + 2 * r .first) w w e 0
 unfolding usedAt
 turn-start {m} {n} {i} {e} {w} {r} {k} {u} p y z l =
     let is : u ≡ usedAt m i = z ∙ rw (y, p) in
@@ -188,7 +172,7 @@ turn-start {m} {n} {i} {e} {w} {r} {k} {u} p y z l =
       few = l .few;
       high = omega arith;
       used-is = is;
-      place = ap (λ (x : Row). 12288 + 2 * x .first) p;
+      place = ap (λ (x : Row). opndsAt + 2 * x .first) p;
     }
 
 module _ {m : List ℕ} {n i used a : ℕ} {w₀ w : List ℕ} {e q : ℕ} (z : Turning m n i used a w₀ w e q) where
@@ -227,7 +211,7 @@ module _ {m : List ℕ} {n i used a : ℕ} {w₀ w : List ℕ} {e q : ℕ} (z : 
         (rw (front-more (namesTo m i q (t .0)) i (usesAt m (t .0)) (i + 1) (n - (i + 1)) (omega arith)) at
         (p .own (consIf (namesTo m i q (t .0)) i (pick (usesAt m (t .0)) (i + 1) (n - (i + 1)))) (z .cells (t .0) f)))
 
-    pub turn-link : {t : InsnId} {w' : List ℕ} {r : ℕ} → o ≡ Insn t → t .0 < n → n ≤ 2048 → UsersPut e i (t .0) w w' r → Turning m n i used a w₀ w' r (q + 1)
+    pub turn-link : {t : InsnId} {w' : List ℕ} {r : ℕ} → o ≡ Insn t → t .0 < n → n ≤ instructionsMost → UsersPut e i (t .0) w w' r → Turning m n i used a w₀ w' r (q + 1)
     turn-link {t} {w'} {r} y f b p =
         record {
           len-same = p .len-same ∙ z .len-same;
@@ -269,7 +253,7 @@ pub record Linking (m : List ℕ) (n : ℕ) (w₀ w : List ℕ) (e i : ℕ) : Ty
   pub high : i ≤ n
   pub linked : Linked m n i e w
 
-pub all-start : {m v w : List ℕ} {c : Counts} → ProgramReady m c → work ≤ length v → ChainsFilled 0 2048 12288 v w → Linking m (c .insns) w w 12288 (c .insns)
+pub all-start : {m v w : List ℕ} {c : Counts} → ProgramReady m c → usesSize ≤ length v → ChainsFilled 0 instructionsMost usesMost v w → Linking m (c .insns) w w usesMost (c .insns)
 all-start {m} {v} {w} {c} ok room f =
     record {
       len-same = refl;
@@ -278,7 +262,7 @@ all-start {m} {v} {w} {c} ok room f =
         len = omega (arith, f .only .len-same);
         cells = λ j h.
             let a : 0 + j ≡ j = omega arith in
-            rw (sym (ap (λ k. getD w k 0) a) ∙ f .here j (omega (arith, ok .insns)), pick-end (usesAt m j) (c .insns)) (chained-end (at w 2048) (at w 14336) 12288 12288);
+            rw (sym (ap (λ k. getD w k 0) a) ∙ f .here j (omega (arith, ok .insns)), pick-end (usesAt m j) (c .insns)) (chained-end (at w itemsAt) (at w linksAt) usesMost usesMost);
         room = used-room ok;
         few = omega arith;
       };
@@ -294,5 +278,5 @@ module _ {m : List ℕ} {n : ℕ} {w₀ w : List ℕ} {e i : ℕ} (z : Linking m
   pub all-done : i ≤ 0 → Linked m n 0 e w
   all-done h = let a : i ≡ 0 = omega arith in rw a at (z .linked)
 
-pub insn-room : {m : List ℕ} {c : Counts} {i : ℕ} {r : Row} → ProgramReady m c → i < c .insns → r ≡ insnAt m i → r .first ≤ 12288
+pub insn-room : {m : List ℕ} {c : Counts} {i : ℕ} {r : Row} → ProgramReady m c → i < c .insns → r ≡ insnAt m i → r .first ≤ usesMost
 insn-room {m} {c} {i} {r} ok h e = let f : r .first ≡ insnAt m i .first = ap (λ (x : Row). x .first) e in omega (arith, ok .ranges i h, ok .opnds, ok .listed, ok .insns)

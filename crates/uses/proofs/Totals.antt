@@ -1,7 +1,7 @@
 -- The users by the rules, and how many there are. Assumes nothing.
 use mathlib.Core.Bool.{Bool as 𝔹, true, false, cond, _||_}
 use mathlib.Core.Path.{_≡_, refl, sym, ap, ap₂, _∙_}
-use mathlib.Core.List.{List, [], _∷_, _++_, map}
+use mathlib.Core.List.{List, [], _∷_, map}
 use mathlib.Core.Logic.{_⊎_, inl, inr}
 use Prim.Native.Nat.{ℕ, zero, suc, _+_, _-_, _*_, _≤_, _<_, min}
 use native.Mathlib.Decide.{ℕ-discrete}
@@ -16,8 +16,9 @@ use Rattle.rules.specs.Lists.{any, consIf, sum}
 use Rattle.rules.specs.Program as P
 use Rattle.rules.specs.Program.{listedCount}
 use Rattle.rules.specs.Uses.{uses}
+use Rattle.rules.proofs.Wellformed.Tables.{sum-snoc}
 use Rattle.program.specs.Tab.{tab}
-use Rattle.program.specs.Rows.{opndsAt, opndsIn, opndAt, opndOf, opIn, insnAt, instructionAt}
+use Rattle.program.specs.Rows.{opndsIn, opndAt, opndOf, opIn, insnAt, instructionAt}
 use Rattle.program.specs.View.{programView, ProgramReady, instructionsOf}
 use Rattle.program.specs.declared.Counts.{Counts}
 use Rattle.program.specs.declared.Op.{Op}
@@ -25,8 +26,11 @@ use Rattle.program.specs.declared.Op.the-variants.{Jump, IfTrue, Return, SendSt
 use Rattle.program.specs.declared.Opnd.{Opnd}
 use Rattle.program.specs.declared.Opnd.the-variants.{Const, Insn}
 use Rattle.program.proofs.Tables.{tab-length, tab-more, tab-take}
+use Rattle.program.proofs.Areas.{opnds-length}
 use Rattle.chains.specs.Chains.{pick}
 use Rattle.chains.proofs.Lists.{pick-ext, places-tab}
+use Rattle.memory.specs.Layout.{usesMost}
+use Rattle.program.specs.Layout.{opndsAt}
 use Rattle.uses.specs.Users.{mostOf, usedAt, sumTo, usedTo, names, namesTo, usesAt, usersOf, usersTo}
 
 -- ---- the operands of an instruction
@@ -48,15 +52,15 @@ two-names j [] = refl
 two-names j (o ∷ []) = rw (same-names j o)
 two-names j (o ∷ p ∷ l) = rw (same-names j o, same-names j p)
 
-all-names : (j : ℕ) (l : List Opnd) → length l ≤ 12288 → any (P.sameOpnd (P.Insn j)) (map opndOf l) ≡ any (names j) (take 12288 l)
-all-names j l h = any-names j l ∙ ap (any (names j)) (sym (take-all 12288 l h))
+all-names : (j : ℕ) (l : List Opnd) → length l ≤ usesMost → any (P.sameOpnd (P.Insn j)) (map opndOf l) ≡ any (names j) (take usesMost l)
+all-names j l h = any-names j l ∙ ap (any (names j)) (sym (take-all usesMost l h))
 
-call-names : (j : ℕ) (l : List Opnd) → length l ≤ 12288
-    → (P.sameOpnd (P.Insn j) (getD (map opndOf l) 0 (P.Const Nil)) || any (P.sameOpnd (P.Insn j)) (drop 1 (map opndOf l))) ≡ any (names j) (take 12288 l)
+call-names : (j : ℕ) (l : List Opnd) → length l ≤ usesMost
+    → (P.sameOpnd (P.Insn j) (getD (map opndOf l) 0 (P.Const Nil)) || any (P.sameOpnd (P.Insn j)) (drop 1 (map opndOf l))) ≡ any (names j) (take usesMost l)
 call-names j [] h = refl
 call-names j (o ∷ l) h = all-names j (o ∷ l) h
 
-used-names : (s : List ℕ) (j : ℕ) (o : Op) (l : List Opnd) → length l ≤ 12288 → any (P.sameOpnd (P.Insn j)) (P.about (opIn s o (map opndOf l)) .operands) ≡ any (names j) (take (mostOf o) l)
+used-names : (s : List ℕ) (j : ℕ) (o : Op) (l : List Opnd) → length l ≤ usesMost → any (P.sameOpnd (P.Insn j)) (P.about (opIn s o (map opndOf l)) .operands) ≡ any (names j) (take (mostOf o) l)
 used-names s j (Jump b) l h = refl
 used-names s j (IfTrue b e) l h = one-name j l
 used-names s j Return l h = one-name j l
@@ -81,12 +85,8 @@ opnds-take m a n k = go (less k n)
     go (inl h) = let e : min n k ≡ k = omega arith in rw e (tab-take (λ j. opndAt m (a + 2 * j)) n k h)
     go (inr h) = let e : min n k ≡ n = omega arith in rw e (take-all k _ (omega (arith, tab-length (λ j. opndAt m (a + 2 * j)) n)))
 
-opnds-length : (m : List ℕ) (a n : ℕ) → length (opndsIn m a n) ≡ n
-unfolding opndsIn
-opnds-length m a n = tab-length (λ j. opndAt m (a + 2 * j)) n
-
 module _ {m : List ℕ} {c : Counts} (ok : ProgramReady m c) where
-  few-opnds : (i : ℕ) → i < c .insns → insnAt m i .count ≤ 12288
+  few-opnds : (i : ℕ) → i < c .insns → insnAt m i .count ≤ usesMost
   few-opnds i h = omega (arith, ok .ranges i h, ok .opnds, ok .listed, ok .insns)
 
   test-is : (s : List ℕ) (i j : ℕ) → i < c .insns → any (P.sameOpnd (P.Insn j)) (P.about (instructionAt s m i .op) .operands) ≡ usesAt m j i
@@ -118,10 +118,6 @@ listed-all s (New c) l = omega arith
 listed-all s (GetIvar n) l = omega arith
 listed-all s (SetIvar n) l = omega arith
 
-sum-snoc : {A : Type 0} (f : A → ℕ) (l : List A) (x : A) → sum f (l ++ x ∷ []) ≡ sum f l + f x
-sum-snoc f [] x = omega arith
-sum-snoc f (y ∷ l) x = omega (arith, sum-snoc f l x)
-
 abbrev listed : P.Instruction → ℕ
 listed x = length (P.about (x .op) .listed)
 
@@ -137,7 +133,7 @@ unfolding sumTo instructionsOf tab
 used-few s m zero = omega arith
 used-few s m (suc n) = omega (arith, used-few s m n, used-listed s m n, sum-snoc listed (tab (instructionAt s m) n) (instructionAt s m n))
 
-pub used-room : {m : List ℕ} {c : Counts} → ProgramReady m c → usedTo m (c .insns) ≤ 12288
+pub used-room : {m : List ℕ} {c : Counts} → ProgramReady m c → usedTo m (c .insns) ≤ usesMost
 unfolding listedCount
 used-room {m} {c} ok = omega (arith, used-few [] m (c .insns), ok .listing [], ok .listed, ok .insns)
 
@@ -195,8 +191,13 @@ name-once (Insn i) k = once (i .0) k .0
 names-few : (l : List Opnd) (k : ℕ) → sumTo (λ j. cond (any (names j) l) 1 0) k ≤ length l
 names-few [] k = omega (arith, sum-zero k)
 names-few (o ∷ l) k =
-    omega
-    (arith, sum-both (λ j. cond (names j o || any (names j) l) 1 0) (λ j. cond (names j o) 1 0) (λ j. cond (any (names j) l) 1 0) k (λ j. either (names j o) (any (names j) l)), name-once o k, names-few l k)
+    omega (
+      arith,
+      sum-both (λ j. cond (names j o || any (names j) l) 1 0) (λ j. cond (names j o) 1 0) (λ j. cond (any (names j) l) 1 0) k
+          (λ j. either (names j o) (any (names j) l)),
+      name-once o k,
+      names-few l k,
+    )
 
 uses-few : (m : List ℕ) (i k : ℕ) → sumTo (λ j. cond (usesAt m j i) 1 0) k ≤ usedAt m i
 unfolding usesAt namesTo
@@ -210,10 +211,11 @@ users-few : (m : List ℕ) (n k : ℕ) → usersTo m n k ≤ usedTo m n
 users-few m zero k = omega (arith, users-none m k)
 users-few m (suc n) k =
     let z : 0 + n ≡ n = omega arith in
-    let a = sum-both (λ j. length (usersOf m (suc n) j)) (λ j. length (usersOf m n j)) (λ j. cond (usesAt m j n) 1 0) k (λ j. omega (arith, count-more (usesAt m j) 0 n, ap {B = ℕ} (λ x. cond (usesAt m j x) 1 0) z)) in
+    let a = sum-both (λ j. length (usersOf m (suc n) j)) (λ j. length (usersOf m n j)) (λ j. cond (usesAt m j n) 1 0) k
+    (λ j. omega (arith, count-more (usesAt m j) 0 n, ap {B = ℕ} (λ x. cond (usesAt m j x) 1 0) z)) in
     omega (arith, a, users-few m n k, uses-few m n k, sum-suc (usedAt m) n)
 
-pub users-room : {m : List ℕ} {c : Counts} → ProgramReady m c → (k : ℕ) → usersTo m (c .insns) k ≤ 12288
+pub users-room : {m : List ℕ} {c : Counts} → ProgramReady m c → (k : ℕ) → usersTo m (c .insns) k ≤ usesMost
 users-room {m} {c} ok k = omega (arith, users-few m (c .insns) k, used-room ok)
 
 pub sum-mono : (g : ℕ → ℕ) (j k : ℕ) → j < k → sumTo g j + g j ≤ sumTo g k

@@ -8,7 +8,7 @@ use lib.ListN.{length, getD}
 use Rattle.rules.specs.Lists.{any}
 use Rattle.rules.specs.Uses.{uses}
 use Rattle.program.specs.Tab.{tab}
-use Rattle.program.specs.Rows.{opndsAt, opndsIn, insnAt}
+use Rattle.program.specs.Rows.{opndsIn, insnAt}
 use Rattle.program.specs.View.{programView}
 use Rattle.program.specs.declared.Counts.{Counts}
 use Rattle.program.specs.declared.Op.{Op}
@@ -16,17 +16,17 @@ use Rattle.program.specs.declared.Op.the-variants.{Jump, IfTrue, Return, SendSt
 use Rattle.program.specs.declared.Opnd.{Opnd}
 use Rattle.program.specs.declared.Opnd.the-variants.{Const, Insn}
 use Rattle.chains.specs.Chains.{pick, ChainsChained, at}
-
-abbrev pub work : ℕ
-work = 26624
+use Rattle.memory.specs.Layout.{instructionsMost, usesMost}
+use Rattle.program.specs.Layout.{opndsAt}
+use Rattle.uses.specs.Layout.{itemsAt, linksAt, usesSize}
 
 -- how many operands a sort can have; a call no more than all calls and joins together
 abbrev pub mostOf : Op → ℕ
 mostOf (Jump b) = 0
 mostOf (IfTrue b e) = 1
 mostOf Return = 1
-mostOf (SendStatic f) = 12288
-mostOf (SendDynamic m) = 12288
+mostOf (SendStatic f) = usesMost
+mostOf (SendDynamic m) = usesMost
 mostOf (Compute o) = 2
 mostOf (Phi b e) = 2
 mostOf (Param k) = 0
@@ -61,13 +61,13 @@ usesAt m j i = namesTo m i (usedAt m i) j
 abbrev pub usersOf : List ℕ → ℕ → ℕ → List ℕ
 usersOf m n j = pick (usesAt m j) 0 n
 
--- the user in a cell; 12288 where there is none
+-- the user in a cell; usesMost where there is none
 unfoldable pub firstOf : List ℕ → ℕ → ℕ
-firstOf w h = cond (ltb h 12288) (getD w (2048 + h) 0) 12288
+firstOf w h = cond (ltb h usesMost) (getD w (itemsAt + h) 0) usesMost
 
 -- a list as a chain of cells, none below e
 abbrev pub Cells : List ℕ → ℕ → ℕ → List ℕ → Type 0
-Cells w e h l = ChainsChained (at w 2048) (at w 14336) 12288 e h l
+Cells w e h l = ChainsChained (at w itemsAt) (at w linksAt) usesMost e h l
 
 -- i in front of a list, unless it is there
 abbrev pub front : ℕ → List ℕ → List ℕ
@@ -79,14 +79,14 @@ pub record UsersPut (e i j : ℕ) (w w' : List ℕ) (r : ℕ) : Type 0 where
   pub low : e ≤ r + 1
   pub high : r ≤ e
   pub own : (l : List ℕ) → Cells w e (getD w j 0) l → Cells w' r (getD w' j 0) (front i l)
-  pub others : (k : ℕ) (l : List ℕ) → k < 2048 → (k ≡ j → ⊥) → Cells w e (getD w k 0) l → Cells w' r (getD w' k 0) l
+  pub others : (k : ℕ) (l : List ℕ) → k < instructionsMost → (k ≡ j → ⊥) → Cells w e (getD w k 0) l → Cells w' r (getD w' k 0) l
 
 -- the users from instruction i on are linked; there is room for those before it
 pub record Linked (m : List ℕ) (n i e : ℕ) (w : List ℕ) : Type 0 where
-  pub len : work ≤ length w
+  pub len : usesSize ≤ length w
   pub cells : (j : ℕ) → j < n → Cells w e (getD w j 0) (pick (usesAt m j) i (n - i))
   pub room : usedTo m i ≤ e
-  pub few : e ≤ 12288
+  pub few : e ≤ usesMost
 
 -- the users of the instructions before j, together
 abbrev pub usersTo : List ℕ → ℕ → ℕ → ℕ
@@ -100,7 +100,7 @@ pub record Uses (m : List ℕ) (c : Counts) (starts users : ℕ) (u u' : List �
   pub len-same : length u' ≡ length u
   pub begins : getD u' (starts + 0) 0 ≡ 0
   pub rises : (j : ℕ) → j < c .insns → getD u' (starts + j) 0 ≤ getD u' (starts + (j + 1)) 0
-  pub total : getD u' (starts + c .insns) 0 ≤ 12288
+  pub total : getD u' (starts + c .insns) 0 ≤ usesMost
   pub part : (s : List ℕ) (j : ℕ) → j < c .insns
       → words u' (users + getD u' (starts + j) 0) (getD u' (starts + (j + 1)) 0 - getD u' (starts + j) 0) ≡ uses (programView s m c) j
   pub others : (k : ℕ) → (starts ≤ k → k < starts + (c .insns + 1) → ⊥) → (users ≤ k → k < users + getD u' (starts + c .insns) 0 → ⊥) → getD u' k 0 ≡ getD u k 0

@@ -7,16 +7,16 @@ ghost use mathlib.Core.Path.{_≡_};
 ghost use Prim.Native.Nat.{ℕ, _+_, _*_, _≤_, _<_, min};
 ghost use lib.ListN.{length, getD};
 ghost use Rattle.program.specs.View.{ProgramReady};
-ghost use Rattle.uses.specs.Users.{work, mostOf, usedAt, firstOf, UsersPut, Linked, Uses};
+ghost use Rattle.memory.specs.Layout.{instructionsMost, usesMost};
+ghost use Rattle.uses.specs.Layout.{usesSize};
+ghost use Rattle.uses.specs.Users.{mostOf, usedAt, firstOf, UsersPut, Linked, Uses};
 
 // The work memory: the first cell of each instruction, then each cell's user and next cell.
-const ITEMS: usize = 2048;
+const ITEMS: usize = memory::INSTRUCTIONS_MOST;
 
-const LINKS: usize = 14336;
+const LINKS: usize = ITEMS + memory::USES_MOST;
 
-const CELLS: usize = 12288;
-
-pub const WORK: usize = 26624;
+pub const WORK: usize = LINKS + memory::USES_MOST;
 
 // How many operands a sort can have.
 fn most(op: Op) -> usize
@@ -26,8 +26,8 @@ fn most(op: Op) -> usize
         Op::Jump(_) => 0,
         Op::IfTrue(_, _) => 1,
         Op::Return => 1,
-        Op::SendStatic(_) => 12288,
-        Op::SendDynamic(_) => 12288,
+        Op::SendStatic(_) => memory::USES_MOST,
+        Op::SendDynamic(_) => memory::USES_MOST,
         Op::Compute(_) => 2,
         Op::Phi(_, _) => 2,
         Op::Param(_) => 0,
@@ -44,22 +44,22 @@ fn smaller(a: usize, b: usize) -> usize
     if a < b { a } else { b }
 }
 
-// The user in a cell; 12,288 where there is none.
+// The user in a cell; USES_MOST where there is none.
 fn first_of(scratch: &[usize], h: usize) -> usize
-    requires { ⌜ work ≤ length (now scratch) ⌝ }
+    requires { ⌜ usesSize ≤ length (now scratch) ⌝ }
     ensures { λ r. ⌜ r ≡ firstOf (now (scratch .entry)) h ⌝ }
 {
-    if h < CELLS {
+    if h < memory::USES_MOST {
         return scratch[ITEMS + h];
     }
-    CELLS
+    memory::USES_MOST
 }
 
 // Instruction i goes in front of the users of j, unless it is there.
 fn link(scratch: &mut [usize], e: usize, i: usize, j: usize) -> usize
-    requires { ⌜ work ≤ length (now scratch) ⌝ }
-    requires { ⌜ (0 < e) × (e ≤ 12288) ⌝ }
-    requires { ⌜ (i < 2048) × (j < 2048) ⌝ }
+    requires { ⌜ usesSize ≤ length (now scratch) ⌝ }
+    requires { ⌜ (0 < e) × (e ≤ usesMost) ⌝ }
+    requires { ⌜ (i < instructionsMost) × (j < instructionsMost) ⌝ }
     ensures { λ r. ⌜ UsersPut e i j (now (scratch .entry)) (now (scratch .exit)) r ⌝ }
 {
     let h = scratch[j];
@@ -114,11 +114,11 @@ fn link_insn(
 
 fn link_all(program: &[usize], counts: Counts, scratch: &mut [usize]) -> usize
     requires { ⌜ ProgramReady (now program) counts ⌝ }
-    requires { ⌜ work ≤ length (now scratch) ⌝ }
+    requires { ⌜ usesSize ≤ length (now scratch) ⌝ }
     ensures { λ r. ⌜ Linked (now (program .entry)) (counts .insns) 0 r (now (scratch .exit)) ⌝ }
 {
-    chains::fill(scratch, 0, ITEMS, CELLS);
-    let mut e = CELLS;
+    chains::fill(scratch, 0, ITEMS, memory::USES_MOST);
+    let mut e = memory::USES_MOST;
     let mut i = counts.insns;
     while 0 < i {
         i -= 1;
@@ -137,8 +137,8 @@ pub fn compute_uses(
     users: usize,
 )
     requires { ⌜ ProgramReady (now program) counts ⌝ }
-    requires { ⌜ work ≤ length (now scratch) ⌝ }
-    requires { ⌜ (starts + 2049 ≤ users) × (users + 12288 ≤ length (now u)) ⌝ }
+    requires { ⌜ usesSize ≤ length (now scratch) ⌝ }
+    requires { ⌜ (starts + (instructionsMost + 1) ≤ users) × (users + usesMost ≤ length (now u)) ⌝ }
     ensures { λ _. ⌜ Uses (now (program .entry)) counts starts users (now (u .entry)) (now (u .exit)) ⌝ }
 {
     link_all(program, counts, scratch);
@@ -148,7 +148,7 @@ pub fn compute_uses(
     while j < n {
         u[starts + j] = pos;
         let mut h = scratch[j];
-        while h < CELLS {
+        while h < memory::USES_MOST {
             let x = scratch[ITEMS + h];
             u[users + pos] = x;
             h = scratch[LINKS + h];

@@ -5,13 +5,15 @@ use mathlib.Core.List.{List, [], _∷_, _++_}
 use native.Mathlib.Omega.{arith}
 use lib.ListN.{length, getD, set, length-set}
 use lib.Seq.{getD-set-same, getD-set-other}
-use Rattle.variables.specs.Memory.{size, entryOf, entry, put, bindingIn, made, vars, row, Kept}
-use Rattle.variables.specs.scopes.Made.{over, envOf, over-append}
+use Rattle.variables.specs.Layout.{entriesMost, variablesSize}
+use Rattle.variables.specs.Memory.{entryOf, entry, put, bindingIn, made, vars, row, Kept}
+use Rattle.variables.specs.Scopes.{over, envOf}
+use Rattle.variables.proofs.scopes.Made.{over-append}
 
 -- ---- a store
 
 module _ (m : List ℕ) (i w x : ℕ) where
-  pub put-is : (m' : List ℕ) → m' ≡ set (set m i w) (16384 + i) x → m' ≡ put m i w x
+  pub put-is : (m' : List ℕ) → m' ≡ set (set m i w) (entriesMost + i) x → m' ≡ put m i w x
   unfolding put
   put-is m' e = e
 
@@ -19,25 +21,25 @@ module _ (m : List ℕ) (i w x : ℕ) where
   unfolding put
   put-length = simp length-set
 
-  pub put-this : size ≤ length m → i < 16384 → entry (put m i w x) i ≡ entryOf w x
+  pub put-this : variablesSize ≤ length m → i < entriesMost → entry (put m i w x) i ≡ entryOf w x
   unfolding entry put
   put-this h l =
-      let a : getD (set (set m i w) (16384 + i) x) i 0 ≡ w = getD-set-other (set m i w) (16384 + i) i x 0 (λ z. omega arith) ∙ getD-set-same m i w 0 (omega arith) in
-      let b : getD (set (set m i w) (16384 + i) x) (16384 + i) 0 ≡ x = getD-set-same (set m i w) (16384 + i) x 0 (omega (arith, length-set m i w)) in
+      let a : getD (set (set m i w) (entriesMost + i) x) i 0 ≡ w = getD-set-other (set m i w) (entriesMost + i) i x 0 (λ z. omega arith) ∙ getD-set-same m i w 0 (omega arith) in
+      let b : getD (set (set m i w) (entriesMost + i) x) (entriesMost + i) 0 ≡ x = getD-set-same (set m i w) (entriesMost + i) x 0 (omega (arith, length-set m i w)) in
       rw (a, b)
 
-  pub put-other : (j : ℕ) → i < 16384 → j < 16384 → (j ≡ i → ⊥) → entry (put m i w x) j ≡ entry m j
+  pub put-other : (j : ℕ) → i < entriesMost → j < entriesMost → (j ≡ i → ⊥) → entry (put m i w x) j ≡ entry m j
   unfolding entry put
   put-other j l g n =
-      let a : getD (set (set m i w) (16384 + i) x) j 0 ≡ getD m j 0
-      = getD-set-other (set m i w) (16384 + i) j x 0 (λ z. omega arith) ∙ getD-set-other m i j w 0 n in
-      let b : getD (set (set m i w) (16384 + i) x) (16384 + j) 0 ≡ getD m (16384 + j) 0
-      = getD-set-other (set m i w) (16384 + i) (16384 + j) x 0 (λ z. n (omega arith)) ∙ getD-set-other m i (16384 + j) w 0 (λ z. omega arith) in
+      let a : getD (set (set m i w) (entriesMost + i) x) j 0 ≡ getD m j 0
+      = getD-set-other (set m i w) (entriesMost + i) j x 0 (λ z. omega arith) ∙ getD-set-other m i j w 0 n in
+      let b : getD (set (set m i w) (entriesMost + i) x) (entriesMost + j) 0 ≡ getD m (entriesMost + j) 0
+      = getD-set-other (set m i w) (entriesMost + i) (entriesMost + j) x 0 (λ z. n (omega arith)) ∙ getD-set-other m i (entriesMost + j) w 0 (λ z. omega arith) in
       rw (a, b)
 
-  pub put-beyond : i < 16384 → (k : ℕ) → size ≤ k → getD (put m i w x) k 0 ≡ getD m k 0
+  pub put-beyond : i < entriesMost → (k : ℕ) → variablesSize ≤ k → getD (put m i w x) k 0 ≡ getD m k 0
   unfolding put
-  put-beyond l k h = getD-set-other (set m i w) (16384 + i) k x 0 (λ z. omega arith) ∙ getD-set-other m i k w 0 (λ z. omega arith)
+  put-beyond l k h = getD-set-other (set m i w) (entriesMost + i) k x 0 (λ z. omega arith) ∙ getD-set-other m i k w 0 (λ z. omega arith)
 
 -- ---- what is kept
 
@@ -51,7 +53,7 @@ pub kept-part : (lo hi lo' hi' : ℕ) (m m' : List ℕ) → lo ≤ lo' → hi' �
 kept-part lo hi lo' hi' m m' a b f = record { same = λ i p q. f .same i (omega arith) (omega arith); beyond = f .beyond }
 
 -- a store outside
-pub kept-put : (lo hi : ℕ) (m : List ℕ) (i w x : ℕ) → i < 16384 → hi ≤ 16384 → ((j : ℕ) → lo ≤ j → j < hi → j ≡ i → ⊥) → Kept lo hi m (put m i w x)
+pub kept-put : (lo hi : ℕ) (m : List ℕ) (i w x : ℕ) → i < entriesMost → hi ≤ entriesMost → ((j : ℕ) → lo ≤ j → j < hi → j ≡ i → ⊥) → Kept lo hi m (put m i w x)
 kept-put lo hi m i w x l g n = record { same = λ j p q. put-other m i w x j l (omega arith) (n j p q); beyond = put-beyond m i w x l }
 
 -- ---- bindings and rows of equal entries

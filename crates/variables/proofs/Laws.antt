@@ -16,13 +16,17 @@ use Rattle.rules.specs.Lists.{same, precedes}
 use Rattle.rules.specs.Program.{Name, Opnd}
 use Rattle.rules.specs.Reading.{Env, lookup, bind}
 use Rattle.lexer.specs.Names.{name}
-use Rattle.variables.specs.scopes.Order as Order
-use Rattle.variables.specs.scopes.Order.{impossible, same-eq, same-self, below-differ, below-same, stands}
-use Rattle.variables.specs.scopes.Sorted.{Above, Sorted, above-trans, lookup-here, lookup-on}
-use Rattle.variables.specs.scopes.Made.{over, envOf, env-sorted, lookup-env}
-use Rattle.variables.specs.scopes.Joins.{rows-done, rows-left, rows-right, rows-both}
-use Rattle.variables.specs.scopes.Rows.{RowBelow, below-trans, sorted-below, sorted-rest, bind-at, bind-between}
-use Rattle.variables.specs.Memory.{size, startIn, lengthIn, tagIn, nameIn, opndFrom, Entry, entryOf, entry, put, bindingIn, made, vars, row, Kept}
+use Rattle.lexer.proofs.Texts.{same-eq}
+use Rattle.memory.specs.Layout.{scriptMost}
+use Rattle.variables.specs.Layout.{bindingsMost, entriesMost, variablesSize, tagRoom}
+use Rattle.variables.specs.Scopes.{Above, Sorted, over, envOf}
+use Rattle.variables.proofs.scopes.Order as Order
+use Rattle.variables.proofs.scopes.Order.{impossible, same-self, below-differ, below-same, stands}
+use Rattle.variables.proofs.scopes.Sorted.{above-trans, lookup-here, lookup-on}
+use Rattle.variables.proofs.scopes.Made.{env-sorted, lookup-env}
+use Rattle.variables.proofs.scopes.Joins.{rows-done, rows-left, rows-right, rows-both}
+use Rattle.variables.proofs.scopes.Rows.{RowBelow, below-trans, sorted-below, sorted-rest, bind-at, bind-between}
+use Rattle.variables.specs.Memory.{startIn, lengthIn, tagIn, nameIn, opndFrom, Entry, entryOf, entry, put, bindingIn, made, vars, row, Kept}
 use Rattle.variables.specs.Promises.{Packed, Tagged, VariableBinds, BindsAgain, IsAt, VariableFinds, Values, VariableStands, Belongs, Sought, Lifted, Inserts, Leaves, VariablesTurned, latest}
 use Rattle.variables.specs.Promises.{VariablesBlank, Noted, Fills, Since, Notes, Full, VariablePasses, NotesRow, NotesBoth, VariableJoins, Nexts}
 use Rattle.variables.specs.declared.Stored.{Stored}
@@ -39,11 +43,11 @@ use Rattle.variables.proofs.Entries.{put-length, put-this, put-other, k
 
 -- ---- names
 
-pub retagged : (w t : ℕ) → t < 16 → Tagged w t (w / 16 * 16 + t)
+pub retagged : (w t : ℕ) → t < tagRoom → Tagged w t (w / tagRoom * tagRoom + t)
 unfolding nameIn
 retagged w t h =
-    let a : startIn (w / 16 * 16 + t) ≡ startIn w = omega arith in
-    let b : lengthIn (w / 16 * 16 + t) ≡ lengthIn w = omega arith in
+    let a : startIn (w / tagRoom * tagRoom + t) ≡ startIn w = omega arith in
+    let b : lengthIn (w / tagRoom * tagRoom + t) ≡ lengthIn w = omega arith in
     record { name = λ s. rw (a, b); tag = omega arith }
 
 module _ (s : List ℕ) {r : Bool} where
@@ -62,7 +66,7 @@ module _ (s : List ℕ) {r : Bool} where
 
 -- ---- bindings
 
-module _ (m : List ℕ) (n w x : ℕ) (h : (size ≤ length m) × (n < 8192)) where
+module _ (m : List ℕ) (n w x : ℕ) (h : (variablesSize ≤ length m) × (n < bindingsMost)) where
   put-old : Kept 0 n m (put m n w x)
   put-old = kept-put 0 n m n w x (omega arith) (omega arith) (λ j c d z. omega arith)
 
@@ -72,10 +76,10 @@ module _ (m : List ℕ) (n w x : ℕ) (h : (size ≤ length m) × (n < 8192)) wh
       let z : 0 + n ≡ n = omega arith in
       rw (add-one, z, put-this m n w x (h .0) (omega arith), made-kept s m (put m n w x) 0 n 0 n put-old (omega arith) (omega arith))
 
-  put-aside : Kept 8192 16384 m (put m n w x)
-  put-aside = kept-put 8192 16384 m n w x (omega arith) (omega arith) (λ j c d z. omega arith)
+  put-aside : Kept bindingsMost entriesMost m (put m n w x)
+  put-aside = kept-put bindingsMost entriesMost m n w x (omega arith) (omega arith) (λ j c d z. omega arith)
 
-pub binds : (m : List ℕ) (n a k t x : ℕ) {m' : List ℕ} {w : ℕ} → (size ≤ length m) × (n < 8192) → Packed a k t w → m' ≡ put m n w x → VariableBinds n a k t x m m'
+pub binds : (m : List ℕ) (n a k t x : ℕ) {m' : List ℕ} {w : ℕ} → (variablesSize ≤ length m) × (n < bindingsMost) → Packed a k t w → m' ≡ put m n w x → VariableBinds n a k t x m m'
 unfolding nameIn
 binds m n a k t x {m'} {w} h p e = rw e (record {
   len-same = put-length m n w x;
@@ -84,10 +88,10 @@ binds m n a k t x {m'} {w} h p e = rw e (record {
   aside = put-aside m n w x h;
 })
 
-pub binds-again : (m : List ℕ) (n w t x : ℕ) {m' : List ℕ} {v : ℕ} → (size ≤ length m) × ((n < 8192) × (t < 16)) → Tagged w t v → m' ≡ put m n v x
+pub binds-again : (m : List ℕ) (n w t x : ℕ) {m' : List ℕ} {v : ℕ} → (variablesSize ≤ length m) × ((n < bindingsMost) × (t < tagRoom)) → Tagged w t v → m' ≡ put m n v x
     → BindsAgain n w t x m m'
 binds-again m n w t x {m'} {v} h p e =
-    let room : (size ≤ length m) × (n < 8192) = (h .0, h .1 .0) in
+    let room : (variablesSize ≤ length m) × (n < bindingsMost) = (h .0, h .1 .0) in
     rw e (record {
       len-same = put-length m n v x;
       is = λ s. rw (p .name s, p .tag) at (put-vars m n v x room s);
@@ -95,7 +99,7 @@ binds-again m n w t x {m'} {v} h p e =
       aside = put-aside m n v x room;
     })
 
-pub operand-is : (m : List ℕ) (i : ℕ) {t : ℕ} → (t ≡ tagIn (getD m i 0)) × (t < 16) → IsAt m i (record { tag = t; bits = getD m (16384 + i) 0 })
+pub operand-is : (m : List ℕ) (i : ℕ) {t : ℕ} → (t ≡ tagIn (getD m i 0)) × (t < tagRoom) → IsAt m i (record { tag = t; bits = getD m (entriesMost + i) 0 })
 unfolding entry
 operand-is m i h = record { tag = h .0; bits = refl; small = h .1 }
 
@@ -243,10 +247,10 @@ pub record Lifting (at k : ℕ) (m₀ m : List ℕ) (i : ℕ) : Type 0 where
   pub len-same : length m ≡ length m₀
   pub moved : (j : ℕ) → i ≤ j → j < k → entry m (at + 1 + j) ≡ entry m₀ (at + j)
   pub low : Kept 0 (at + i + 1) m₀ m
-  pub far : Kept (at + k + 1) 16384 m₀ m
+  pub far : Kept (at + k + 1) entriesMost m₀ m
 
 pub lift-start : (at k : ℕ) (m : List ℕ) → Lifting at k m m k
-lift-start at k m = record { high = omega arith; len-same = refl; moved = λ j a b. absurd (omega arith); low = kept-all 0 (at + k + 1) m; far = kept-all (at + k + 1) 16384 m }
+lift-start at k m = record { high = omega arith; len-same = refl; moved = λ j a b. absurd (omega arith); low = kept-all 0 (at + k + 1) m; far = kept-all (at + k + 1) entriesMost m }
 
 module _ {at k : ℕ} {m₀ m : List ℕ} {i : ℕ} (g : Lifting at k m₀ m i) where
   pub lift-done : i ≤ 0 → Lifted at k m₀ m
@@ -257,25 +261,25 @@ module _ {at k : ℕ} {m₀ m : List ℕ} {i : ℕ} (g : Lifting at k m₀ m i) 
     high = g .far;
   }
 
-  pub lift-more : {m' : List ℕ} → (size ≤ length m₀) × (at + k < 16384) → 0 < i
-      → m' ≡ put m ((at + (i - 1)) + 1) (getD m (at + (i - 1)) 0) (getD m (16384 + (at + (i - 1))) 0) → Lifting at k m₀ m' (i - 1)
+  pub lift-more : {m' : List ℕ} → (variablesSize ≤ length m₀) × (at + k < entriesMost) → 0 < i
+      → m' ≡ put m ((at + (i - 1)) + 1) (getD m (at + (i - 1)) 0) (getD m (entriesMost + (at + (i - 1))) 0) → Lifting at k m₀ m' (i - 1)
   unfolding entry
   lift-more {m'} c h e =
       let p = at + (i - 1) in
-      let room : p + 1 < 16384 = omega (arith, g .high) in
+      let room : p + 1 < entriesMost = omega (arith, g .high) in
       rw e (record {
         high = omega (arith, g .high);
-        len-same = put-length m (p + 1) (getD m p 0) (getD m (16384 + p) 0) ∙ g .len-same;
+        len-same = put-length m (p + 1) (getD m p 0) (getD m (entriesMost + p) 0) ∙ g .len-same;
         moved = λ j a b. elim (ℕ-discrete j (i - 1)) [
           | yes q ↦
               (let n : at + 1 + j ≡ p + 1 = omega arith in
               let n' : at + j ≡ p = omega arith in
-              rw (n, n') (put-this m (p + 1) (getD m p 0) (getD m (16384 + p) 0) (omega (arith, g .len-same)) room ∙ g .low .same p (omega arith) (omega arith)))
-          | no q ↦ put-other m (p + 1) (getD m p 0) (getD m (16384 + p) 0) (at + 1 + j) room (omega arith) (λ z. q (omega arith)) ∙ g .moved j (omega arith) b
+              rw (n, n') (put-this m (p + 1) (getD m p 0) (getD m (entriesMost + p) 0) (omega (arith, g .len-same)) room ∙ g .low .same p (omega arith) (omega arith)))
+          | no q ↦ put-other m (p + 1) (getD m p 0) (getD m (entriesMost + p) 0) (at + 1 + j) room (omega arith) (λ z. q (omega arith)) ∙ g .moved j (omega arith) b
         ];
         low = kept-trans (kept-part 0 (at + i + 1) 0 (at + (i - 1) + 1) m₀ m (omega arith) (omega arith) (g .low))
-            (kept-put 0 (at + (i - 1) + 1) m (p + 1) (getD m p 0) (getD m (16384 + p) 0) room (omega arith) (λ j a b z. omega arith));
-        far = kept-trans (g .far) (kept-put (at + k + 1) 16384 m (p + 1) (getD m p 0) (getD m (16384 + p) 0) room (omega arith) (λ j a b z. omega (arith, g .high)));
+            (kept-put 0 (at + (i - 1) + 1) m (p + 1) (getD m p 0) (getD m (entriesMost + p) 0) room (omega arith) (λ j a b z. omega arith));
+        far = kept-trans (g .far) (kept-put (at + k + 1) entriesMost m (p + 1) (getD m p 0) (getD m (entriesMost + p) 0) room (omega arith) (λ j a b z. omega (arith, g .high)));
       })
 
 -- ---- insert
@@ -302,7 +306,7 @@ below-row s m lo n w (suc i) sorted g =
     subst (λ l. RowBelow l (nameIn s w)) (sym (ap (row s m lo) z ∙ row-split s m lo i 1))
     (below-append (row s m lo i) y (nameIn s w) (below-trans (row s m lo i) (y .0) (nameIn s w) (sorted-below (row s m lo i) y (row s m (lo + i + 1) (n - i - 1)) t) up) up)
 
-module _ (s : List ℕ) (lo n w x : ℕ) (m : List ℕ) (room : (size ≤ length m) × (lo + n < 16384)) (sorted : Sorted (row s m lo n)) where
+module _ (s : List ℕ) (lo n w x : ℕ) (m : List ℕ) (room : (variablesSize ≤ length m) × (lo + n < entriesMost)) (sorted : Sorted (row s m lo n)) where
   pub insert-at : {r : Spot} (j : ℕ) (m' : List ℕ) → Sought s m lo n w r → r ≡ Spot.the-variants.At j → m' ≡ put m (lo + j) w x → Inserts s lo n w x m m' n
   insert-at j m' sought o e =
       let g = sought .at j o in
@@ -311,7 +315,8 @@ module _ (s : List ℕ) (lo n w x : ℕ) (m : List ℕ) (room : (size ≤ length
       let front : row s p lo j ≡ row s m lo j
       = row-kept s m p lo j 0 (lo + j) (kept-put 0 (lo + j) m (lo + j) w x (omega arith) (omega arith) (λ i a b z. omega arith)) (omega arith) (omega arith) in
       let back : row s p (lo + j + 1) (n - j - 1) ≡ row s m (lo + j + 1) (n - j - 1)
-      = row-kept s m p (lo + j + 1) (n - j - 1) (lo + j + 1) 16384 (kept-put (lo + j + 1) 16384 m (lo + j) w x (omega arith) (omega arith) (λ i a b z. omega arith)) (omega arith) (omega arith) in
+      = row-kept s m p (lo + j + 1) (n - j - 1) (lo + j + 1) entriesMost
+      (kept-put (lo + j + 1) entriesMost m (lo + j) w x (omega arith) (omega arith) (λ i a b z. omega arith)) (omega arith) (omega arith) in
       let this : entry p (lo + j) ≡ entryOf w x = put-this m (lo + j) w x (room .0) (omega arith) in
       let whole = around s m lo n j in-row in
       let t : Sorted (row s m lo j ++ bindingIn s (entry m (lo + j)) ∷ row s m (lo + j + 1) (n - j - 1)) = rw whole at sorted in
@@ -335,7 +340,8 @@ module _ (s : List ℕ) (lo n w x : ℕ) (m : List ℕ) (room : (size ≤ length
       = row-kept s m1 p lo i 0 (lo + i) (kept-put 0 (lo + i) m1 (lo + i) w x (omega arith) (omega arith) (λ j a b z. omega arith)) (omega arith) (omega arith)
       ∙ row-kept s m m1 lo i 0 (lo + i) (l .low) (omega arith) (omega arith) in
       let back : row s p (lo + i + 1) (n - i) ≡ row s m (lo + i) (n - i)
-      = row-kept s m1 p (lo + i + 1) (n - i) (lo + i + 1) 16384 (kept-put (lo + i + 1) 16384 m1 (lo + i) w x (omega arith) (omega arith) (λ j a b z. omega arith)) (omega arith) (omega arith)
+      = row-kept s m1 p (lo + i + 1) (n - i) (lo + i + 1) entriesMost
+      (kept-put (lo + i + 1) entriesMost m1 (lo + i) w x (omega arith) (omega arith) (λ j a b z. omega arith)) (omega arith) (omega arith)
       ∙ row-move s m m1 (lo + i) (lo + i + 1) (n - i) (l .moved) in
       let this : entry p (lo + i) ≡ entryOf w x = put-this m1 (lo + i) w x (omega arith) (omega arith) in
       let whole = cut s m lo n i in-row in
@@ -369,8 +375,8 @@ module _ {s : List ℕ} {mark k to : ℕ} {m₀ : List ℕ} {i n : ℕ} {m : Lis
   pub leave-sorted : Sorted (row s m to n)
   leave-sorted = rw (g .is) (env-sorted (made s m₀ mark i))
 
-  pub leave-more : {n' : ℕ} {m' : List ℕ} → (mark + k ≤ to) × (to + k ≤ 16384) → i < k
-      → Inserts s to n (getD m (mark + i) 0) (getD m (16384 + (mark + i)) 0) m m' n' → Leaving s mark k to m₀ (i + 1) n' m'
+  pub leave-more : {n' : ℕ} {m' : List ℕ} → (mark + k ≤ to) × (to + k ≤ scriptMost) → i < k
+      → Inserts s to n (getD m (mark + i) 0) (getD m (entriesMost + (mark + i)) 0) m m' n' → Leaving s mark k to m₀ (i + 1) n' m'
   unfolding made entry over
   leave-more {n'} {m'} c h f =
       let q : entry m (mark + i) ≡ entry m₀ (mark + i) = g .low .same (mark + i) (omega arith) (omega arith) in
@@ -427,7 +433,8 @@ latest-kept s m m' k (suc n) h = rw (h .same n (omega arith) (omega arith), late
 pub noted-part : {s m : List ℕ} {base lo n : ℕ} {g : List ℕ} (x : ℕ) → x ≤ n → Noted s m base lo n g → Noted s m base (lo + x) (n - x) g
 noted-part x h f = record { is = λ p a b. f .is p (omega arith) (omega arith) }
 
-pub noted-kept : {s m : List ℕ} {base lo n : ℕ} {g : List ℕ} (m' : List ℕ) → Kept 0 base m m' → Kept 8192 16384 m m' → 8192 ≤ lo → lo + n ≤ 16384 → Noted s m base lo n g → Noted s m' base lo n g
+pub noted-kept : {s m : List ℕ} {base lo n : ℕ} {g : List ℕ} (m' : List ℕ) → Kept 0 base m m' → Kept bindingsMost entriesMost m m' → bindingsMost ≤ lo
+    → lo + n ≤ entriesMost → Noted s m base lo n g → Noted s m' base lo n g
 noted-kept {s} {m} {base} m' old aside a b f = record {
   is = λ p c d e. rw (aside .same p (omega arith) (omega arith), latest-kept s m m' (nameIn s (entry m p .word)) base old) (f .is p c d e);
 }
@@ -445,7 +452,7 @@ zeros-blank n = record { is = at n }
 
 pub noted-blank : {g : List ℕ} (s m : List ℕ) (lo n : ℕ) → VariablesBlank g → Noted s m 0 lo n g
 unfolding latest
-noted-blank s m lo n f = record { is = λ p a b c. f .is (p - 8192) }
+noted-blank s m lo n f = record { is = λ p a b c. f .is (p - bindingsMost) }
 
 fills-none : (lo n : ℕ) (g : List ℕ) → Fills lo n g g
 fills-none lo n g = record { len-same = refl; more = λ i e. e; before = λ p a b. refl; behind = λ p a. refl }
@@ -461,11 +468,11 @@ fills-trans e f = record {
 abbrev name-at : List ℕ → List ℕ → ℕ → Name
 name-at s m p = nameIn s (entry m p .word)
 
-module _ {s m : List ℕ} {lo n i : ℕ} (g : List ℕ) (room : (size ≤ length m) × ((8192 ≤ length g) × (i < 16384))) (place : (8192 ≤ lo) × (lo + n ≤ 16384))
+module _ {s m : List ℕ} {lo n i : ℕ} (g : List ℕ) (room : (variablesSize ≤ length m) × ((bindingsMost ≤ length g) × (i < entriesMost))) (place : (bindingsMost ≤ lo) × (lo + n ≤ entriesMost))
     (sorted : Sorted (row s m lo n)) {r : Spot} (u : Sought s m lo n (getD m i 0) r) where
   -- an entry whose name binding i has not
   other : (base p : ℕ) → Since s m base (i + 1) lo n g → lo ≤ p → p < lo + n → same (nameIn s (getD m i 0)) (name-at s m p) ≡ false → i < latest s m (name-at s m p) base
-      → getD g (p - 8192) 0 ≡ latest s m (name-at s m p) base
+      → getD g (p - bindingsMost) 0 ≡ latest s m (name-at s m p) base
   other base p f a b e l = elim (ℕ-discrete (latest s m (name-at s m p) base) (i + 1)) [
     | yes z ↦ (let d : latest s m (name-at s m p) base - 1 ≡ i = omega arith in impossible (rw d at (latest-is s m (name-at s m p) base .same (omega arith))) e)
     | no z ↦ f .noted p a b (omega arith)
@@ -500,17 +507,17 @@ module _ {s m : List ℕ} {lo n i : ℕ} (g : List ℕ) (room : (size ≤ length
       | no y ↦ below-same (name-at s m (lo + j)) (name-at s m p) (rising s m lo n (lo + j) p sorted (omega arith) (omega arith) b)
     ])
 
-    place-of : (lo + j) - 8192 ≡ lo - 8192 + j
+    place-of : (lo + j) - bindingsMost ≡ lo - bindingsMost + j
     place-of = omega arith
 
-    pub note-other : (getD g (lo - 8192 + j) 0 ≡ 0 → ⊥) → Notes s m i lo n g g
+    pub note-other : (getD g (lo - bindingsMost + j) 0 ≡ 0 → ⊥) → Notes s m i lo n g g
     note-other v = record {
       fills = fills-none lo n g;
       is = λ base l f. record {
         noted = λ p a b h. elim (ℕ-discrete p (lo + j)) [
           | yes z ↦ elim (decLt (i + 1) (latest s m (name-at s m p) base)) [
             | yes y ↦ f .noted p a b y
-            | no y ↦ (let d : p - 8192 ≡ lo - 8192 + j = omega arith in absurd (v (rw d at (f .blank p a b (omega arith)))))
+            | no y ↦ (let d : p - bindingsMost ≡ lo - bindingsMost + j = omega arith in absurd (v (rw d at (f .blank p a b (omega arith)))))
           ]
           | no z ↦ other base p f a b (apart p a b z) h
         ];
@@ -518,12 +525,12 @@ module _ {s m : List ℕ} {lo n i : ℕ} (g : List ℕ) (room : (size ≤ length
       };
     }
 
-    module _ {g' : List ℕ} (v : getD g (lo - 8192 + j) 0 ≡ 0) (e : g' ≡ set g (lo - 8192 + j) (i + 1)) where
-      set-here : getD g' (lo - 8192 + j) 0 ≡ i + 1
-      set-here = rw e (getD-set-same g (lo - 8192 + j) (i + 1) 0 (omega (arith, at-in)))
+    module _ {g' : List ℕ} (v : getD g (lo - bindingsMost + j) 0 ≡ 0) (e : g' ≡ set g (lo - bindingsMost + j) (i + 1)) where
+      set-here : getD g' (lo - bindingsMost + j) 0 ≡ i + 1
+      set-here = rw e (getD-set-same g (lo - bindingsMost + j) (i + 1) 0 (omega (arith, at-in)))
 
-      set-there : (q : ℕ) → (q ≡ lo - 8192 + j → ⊥) → getD g' q 0 ≡ getD g q 0
-      set-there q z = rw e (getD-set-other g (lo - 8192 + j) q (i + 1) 0 z)
+      set-there : (q : ℕ) → (q ≡ lo - bindingsMost + j → ⊥) → getD g' q 0 ≡ getD g q 0
+      set-there q z = rw e (getD-set-other g (lo - bindingsMost + j) q (i + 1) 0 z)
 
       -- no later binding has the name
       alone : (base : ℕ) → i < base → Since s m base (i + 1) lo n g → latest s m (name-at s m (lo + j)) base ≡ i + 1
@@ -535,36 +542,36 @@ module _ {s m : List ℕ} {lo n i : ℕ} (g : List ℕ) (room : (size ≤ length
       pub note-first : Notes s m i lo n g g'
       note-first = record {
         fills = record {
-          len-same = rw e (length-set g (lo - 8192 + j) (i + 1));
-          more = λ q z. elim (ℕ-discrete q (lo - 8192 + j)) [
+          len-same = rw e (length-set g (lo - bindingsMost + j) (i + 1));
+          more = λ q z. elim (ℕ-discrete q (lo - bindingsMost + j)) [
             | yes y ↦ rw y v
             | no y ↦ sym (set-there q y) ∙ z
           ];
-          before = λ p a b. set-there (p - 8192) (λ y. omega arith);
-          behind = λ p a. set-there (p - 8192) (λ y. omega (arith, at-in));
+          before = λ p a b. set-there (p - bindingsMost) (λ y. omega arith);
+          behind = λ p a. set-there (p - bindingsMost) (λ y. omega (arith, at-in));
         };
         is = λ base l f. record {
           noted = λ p a b h. elim (ℕ-discrete p (lo + j)) [
             | yes z ↦ rw (z, place-of) (set-here ∙ sym (alone base l f))
-            | no z ↦ set-there (p - 8192) (λ y. z (omega arith)) ∙ other base p f a b (apart p a b z) h
+            | no z ↦ set-there (p - bindingsMost) (λ y. z (omega arith)) ∙ other base p f a b (apart p a b z) h
           ];
           blank = λ p a b h. elim (ℕ-discrete p (lo + j)) [
             | yes z ↦ absurd (omega (arith, this base l, rw z at h))
-            | no z ↦ set-there (p - 8192) (λ y. z (omega arith)) ∙ f .blank p a b (omega arith)
+            | no z ↦ set-there (p - bindingsMost) (λ y. z (omega arith)) ∙ f .blank p a b (omega arith)
           ];
         };
       }
 
-module _ (g : List ℕ) (lo n u : ℕ) (room : (8192 ≤ length g) × ((8192 ≤ lo) × ((lo + n ≤ 16384) × (u < n)))) where
+module _ (g : List ℕ) (lo n u : ℕ) (room : (bindingsMost ≤ length g) × ((bindingsMost ≤ lo) × ((lo + n ≤ entriesMost) × (u < n)))) where
   pub pass-none : VariablePasses g lo n u u
   pass-none = record { high = omega arith; full = λ f. f }
 
-  pub pass-one : (getD g (lo - 8192 + u) 0 ≡ 0 → ⊥) → VariablePasses g lo n u (u + 1)
+  pub pass-one : (getD g (lo - bindingsMost + u) 0 ≡ 0 → ⊥) → VariablePasses g lo n u (u + 1)
   pass-one v = record {
     high = omega arith;
     full = λ f. record {
       is = λ p a b z. elim (ℕ-discrete p (lo + u)) [
-        | yes y ↦ (let d : p - 8192 ≡ lo - 8192 + u = omega arith in v (rw d at z))
+        | yes y ↦ (let d : p - bindingsMost ≡ lo - bindingsMost + u = omega arith in v (rw d at z))
         | no y ↦ f .is p a (omega arith) z
       ];
     };
@@ -578,7 +585,7 @@ pub record Noting (s m : List ℕ) (base lo n : ℕ) (g₀ : List ℕ) (i u : �
   pub fills : Fills lo n g₀ g
   pub is : Since s m base i lo n g
 
-pub noting-start : {s m g : List ℕ} {lo n : ℕ} (base : ℕ) → (8192 ≤ lo) × (lo + n ≤ 16384) → 8192 ≤ length g → Noted s m 0 lo n g → Noting s m base lo n g base 0 g
+pub noting-start : {s m g : List ℕ} {lo n : ℕ} (base : ℕ) → (bindingsMost ≤ lo) × (lo + n ≤ entriesMost) → bindingsMost ≤ length g → Noted s m 0 lo n g → Noting s m base lo n g base 0 g
 unfolding latest
 noting-start {s} {m} {g} {lo} {n} base place room f = record {
   high = omega arith;
@@ -598,7 +605,7 @@ module _ {s m : List ℕ} {base lo n : ℕ} {g₀ : List ℕ} {i u : ℕ} {g : L
       record {
         high = omega (arith, h .high);
         up = e .high;
-        full = e .full (record { is = λ p a b z. h .full .is p a b (f .fills .more (p - 8192) z) });
+        full = e .full (record { is = λ p a b z. h .full .is p a b (f .fills .more (p - bindingsMost) z) });
         fills = fills-trans (h .fills) (f .fills);
         is = f .is base (omega (arith, h .high)) (rw d (h .is));
       }
@@ -625,10 +632,10 @@ module _ {s m : List ℕ} {base lo n : ℕ} {g₀ : List ℕ} {i u : ℕ} {g : L
     };
   }
 
-module _ {s m : List ℕ} {base lo n hi k : ℕ} {g g1 : List ℕ} (place : (8192 ≤ lo) × ((lo + n ≤ hi) × (hi + k ≤ 16384))) (blank : VariablesBlank g) (f : NotesRow s m base lo n g g1) where
+module _ {s m : List ℕ} {base lo n hi k : ℕ} {g g1 : List ℕ} (place : (bindingsMost ≤ lo) × ((lo + n ≤ hi) × (hi + k ≤ scriptMost))) (blank : VariablesBlank g) (f : NotesRow s m base lo n g g1) where
   pub note-second : Noted s m 0 hi k g1
   unfolding latest
-  note-second = record { is = λ p a b c. f .fills .behind p (omega arith) ∙ blank .is (p - 8192) }
+  note-second = record { is = λ p a b c. f .fills .behind p (omega arith) ∙ blank .is (p - bindingsMost) }
 
   pub note-both : {g2 : List ℕ} → NotesRow s m base hi k g1 g2 → NotesBoth s m base lo n hi k g2
   note-both e = record {
@@ -638,14 +645,14 @@ module _ {s m : List ℕ} {base lo n hi k : ℕ} {g g1 : List ℕ} (place : (819
 
 -- ---- value_at
 
-module _ {s m : List ℕ} {n p : ℕ} {g : List ℕ} (f : Noted s m n p 1 g) (h : p - 8192 < length g) {i : ℕ} (e : i ≡ getD g (p - 8192) 0) where
+module _ {s m : List ℕ} {n p : ℕ} {g : List ℕ} (f : Noted s m n p 1 g) (h : p - bindingsMost < length g) {i : ℕ} (e : i ≡ getD g (p - bindingsMost) 0) where
   noted-is : i ≡ latest s m (nameIn s (entry m p .word)) n
   noted-is = e ∙ f .is p (omega arith) (omega arith) h
 
   noted-latest : Latest s m (nameIn s (entry m p .word)) n i
   noted-latest = rw (noted-is) (latest-is s m (nameIn s (entry m p .word)) n)
 
-  pub noted-low : n ≤ 16384 → i - 1 < 16384
+  pub noted-low : n ≤ entriesMost → i - 1 < entriesMost
   noted-low h = omega (arith, noted-latest .finding .high)
 
   pub value-none : i ≡ 0 → Values s m n (entry m p .word) (record { tag = 1; bits = 0 })

@@ -1,2 +1,4 @@
+pub mod scopes
+pub mod Rooms
 pub mod Entries
 pub mod Laws

@@ -1,4 +1,5 @@
-pub mod scopes
+pub mod Layout
+pub mod Scopes
 pub mod Memory
 pub mod Rooms
 pub mod Promises

@@ -10,9 +10,8 @@ use Rattle.rules.specs.Program.{Limits, Name, Opnd}
 use Rattle.rules.specs.Actions.{answered, ifAnswered}
 use Rattle.rules.specs.Reading.{Parser, lookup, bind, valueOrNil}
 use Rattle.lexer.specs.Names.{name}
-use Rattle.variables.specs.scopes.Made.{envOf}
-use Rattle.variables.specs.scopes.Sorted.{Above}
-use Rattle.variables.specs.scopes.Joins.{joinOne, joinRows}
+use Rattle.variables.specs.Layout.{bindingsMost, entriesMost}
+use Rattle.variables.specs.Scopes.{envOf, Above, joinOne, joinRows}
 use Rattle.variables.specs.Memory.{startIn, lengthIn, tagIn, nameIn, opndFrom, entry, made, vars, row, Kept}
 use Rattle.variables.specs.declared.FoundVar.{FoundVar}
 use Rattle.variables.specs.declared.FoundVar.the-variants.{At, Nothing}
@@ -39,13 +38,13 @@ pub record VariableBinds (n a k t x : ℕ) (m m' : List ℕ) : Type 0 where
   pub len-same : length m' ≡ length m
   pub is : (s : List ℕ) → vars s m' (n + 1) ≡ bind (name s a k) (opndFrom t x) (vars s m n)
   pub old : Kept 0 n m m'
-  pub aside : Kept 8192 16384 m m'
+  pub aside : Kept bindingsMost entriesMost m m'
 
 pub record BindsAgain (n w t x : ℕ) (m m' : List ℕ) : Type 0 where
   pub len-same : length m' ≡ length m
   pub is : (s : List ℕ) → vars s m' (n + 1) ≡ bind (nameIn s w) (opndFrom t x) (vars s m n)
   pub old : Kept 0 n m m'
-  pub aside : Kept 8192 16384 m m'
+  pub aside : Kept bindingsMost entriesMost m m'
 
 -- the operand of entry i
 pub record IsAt (m : List ℕ) (i : ℕ) (r : Stored) : Type 0 where
@@ -91,7 +90,7 @@ pub record Lifted (at k : ℕ) (m m' : List ℕ) : Type 0 where
   pub len-same : length m' ≡ length m
   pub moved : (i : ℕ) → i < k → entry m' (at + 1 + i) ≡ entry m (at + i)
   pub low : Kept 0 at m m'
-  pub high : Kept (at + k + 1) 16384 m m'
+  pub high : Kept (at + k + 1) entriesMost m m'
 
 -- the rules' bind, on a row
 pub record Inserts (s : List ℕ) (lo n w x : ℕ) (m m' : List ℕ) (r : ℕ) : Type 0 where
@@ -126,19 +125,19 @@ pub record VariablesBlank (g : List ℕ) : Type 0 where
 
 -- g has the latest of base bindings for each of n entries from lo on, as far as it reaches
 pub record Noted (s m : List ℕ) (base lo n : ℕ) (g : List ℕ) : Type 0 where
-  pub is : (p : ℕ) → lo ≤ p → p < lo + n → p - 8192 < length g → getD g (p - 8192) 0 ≡ latest s m (nameIn s (entry m p .word)) base
+  pub is : (p : ℕ) → lo ≤ p → p < lo + n → p - bindingsMost < length g → getD g (p - bindingsMost) 0 ≡ latest s m (nameIn s (entry m p .word)) base
 
 -- g gets notes for n entries from lo on: none is taken back, and other entries' stay
 pub record Fills (lo n : ℕ) (g g' : List ℕ) : Type 0 where
   pub len-same : length g' ≡ length g
   pub more : (i : ℕ) → getD g' i 0 ≡ 0 → getD g i 0 ≡ 0
-  pub before : (p : ℕ) → 8192 ≤ p → p < lo → getD g' (p - 8192) 0 ≡ getD g (p - 8192) 0
-  pub behind : (p : ℕ) → lo + n ≤ p → getD g' (p - 8192) 0 ≡ getD g (p - 8192) 0
+  pub before : (p : ℕ) → bindingsMost ≤ p → p < lo → getD g' (p - bindingsMost) 0 ≡ getD g (p - bindingsMost) 0
+  pub behind : (p : ℕ) → lo + n ≤ p → getD g' (p - bindingsMost) 0 ≡ getD g (p - bindingsMost) 0
 
 -- of base bindings those from i on are noted for n entries from lo on
 pub record Since (s m : List ℕ) (base i lo n : ℕ) (g : List ℕ) : Type 0 where
-  pub noted : (p : ℕ) → lo ≤ p → p < lo + n → i < latest s m (nameIn s (entry m p .word)) base → getD g (p - 8192) 0 ≡ latest s m (nameIn s (entry m p .word)) base
-  pub blank : (p : ℕ) → lo ≤ p → p < lo + n → latest s m (nameIn s (entry m p .word)) base ≤ i → getD g (p - 8192) 0 ≡ 0
+  pub noted : (p : ℕ) → lo ≤ p → p < lo + n → i < latest s m (nameIn s (entry m p .word)) base → getD g (p - bindingsMost) 0 ≡ latest s m (nameIn s (entry m p .word)) base
+  pub blank : (p : ℕ) → lo ≤ p → p < lo + n → latest s m (nameIn s (entry m p .word)) base ≤ i → getD g (p - bindingsMost) 0 ≡ 0
 
 -- binding i is noted after those behind it
 pub record Notes (s m : List ℕ) (i lo n : ℕ) (g g' : List ℕ) : Type 0 where
@@ -147,7 +146,7 @@ pub record Notes (s m : List ℕ) (i lo n : ℕ) (g g' : List ℕ) : Type 0 wher
 
 -- the u entries from lo on have notes
 pub record Full (lo u : ℕ) (g : List ℕ) : Type 0 where
-  pub is : (p : ℕ) → lo ≤ p → p < lo + u → getD g (p - 8192) 0 ≡ 0 → ⊥
+  pub is : (p : ℕ) → lo ≤ p → p < lo + u → getD g (p - bindingsMost) 0 ≡ 0 → ⊥
 
 -- where the first u have notes, the first r have
 pub record VariablePasses (g : List ℕ) (lo n u r : ℕ) : Type 0 where

@@ -1,20 +1,48 @@
 // Variables in memory: the bindings in the order in which they are made, and the rows that the arms of an `if` leave.
-pub mod scopes;
-
 ghost use mathlib.Core.Path.{_≡_};
 ghost use Prim.Native.Nat.{_+_, _≤_, _<_};
 ghost use lib.ListN.{length};
 ghost use Rattle.rules.specs.Lists.{same as same_of, precedes as precedes_of};
 ghost use Rattle.lexer.specs.Names.{name};
-ghost use Rattle.variables.specs.scopes.Sorted.{Sorted};
-ghost use Rattle.variables.specs.Memory.{size, startIn, lengthIn, tagIn, nameIn, entry, put as put_of, row};
-ghost use Rattle.variables.specs.Promises.{Packed, Tagged, VariableBinds, BindsAgain, IsAt, VariableFinds, Values, Sought, Lifted, Inserts, Leaves, VariablesTurned, VariablesBlank, Noted, Notes, VariablePasses, NotesRow, NotesBoth, Nexts};
+ghost use Rattle.memory.specs.Layout.{scriptMost};
+ghost use Rattle.variables.specs.Layout.{bindingsMost, entriesMost, variablesSize, tagRoom};
+ghost use Rattle.variables.specs.Scopes.{Sorted};
+ghost use Rattle.variables.specs.Memory.{startIn, lengthIn, tagIn, nameIn, entry, put as put_of, row};
+ghost use Rattle.variables.specs.Promises.{
+  Packed,
+  Tagged,
+  VariableBinds,
+  BindsAgain,
+  IsAt,
+  VariableFinds,
+  Values,
+  Sought,
+  Lifted,
+  Inserts,
+  Leaves,
+  VariablesTurned,
+  VariablesBlank,
+  Noted,
+  Notes,
+  VariablePasses,
+  NotesRow,
+  NotesBoth,
+  Nexts,
+};
 
-// Where the second column begins.
-const OPERANDS: usize = 16384;
+// The bindings that there can be; the rows set aside begin behind them.
+pub const BINDINGS_MOST: usize = memory::SCRIPT_MOST / 2;
 
-// Where the rows begin.
-const ROWS: usize = 8192;
+// The entries of a column, where the second column begins.
+const ENTRIES_MOST: usize = 2 * BINDINGS_MOST;
+
+// The words of both columns.
+pub const SIZE: usize = 2 * ENTRIES_MOST;
+
+// A word holds a name's start, its length and an operand's tag; the last two are below these.
+const LENGTH_ROOM: usize = 2 * memory::SCRIPT_MOST;
+
+const TAG_ROOM: usize = 16;
 
 // An operand as it is stored.
 pub struct Stored {
@@ -60,34 +88,34 @@ pub enum NextJoin {
 fn start(w: usize) -> usize
     ensures { λ r. ⌜ r ≡ startIn w ⌝ }
 {
-    w / 524288
+    w / (TAG_ROOM * LENGTH_ROOM)
 }
 
 fn len(w: usize) -> usize
     ensures { λ r. ⌜ r ≡ lengthIn w ⌝ }
 {
-    w / 16 % 32768
+    w / TAG_ROOM % LENGTH_ROOM
 }
 
 fn tag(w: usize) -> usize
-    ensures { λ r. ⌜ (r ≡ tagIn w) × (r < 16) ⌝ }
+    ensures { λ r. ⌜ (r ≡ tagIn w) × (r < tagRoom) ⌝ }
 {
-    w % 16
+    w % TAG_ROOM
 }
 
 fn pack(a: usize, k: usize, t: usize) -> usize
-    requires { ⌜ (a ≤ 16384) × ((k ≤ 16384) × (t < 16)) ⌝ }
+    requires { ⌜ (a ≤ scriptMost) × ((k ≤ scriptMost) × (t < tagRoom)) ⌝ }
     ensures { λ r. ⌜ Packed a k t r ⌝ }
 {
-    (a * 32768 + k) * 16 + t
+    (a * LENGTH_ROOM + k) * TAG_ROOM + t
 }
 
 // The same name with another tag.
 fn retag(w: usize, t: usize) -> usize
-    requires { ⌜ t < 16 ⌝ }
+    requires { ⌜ t < tagRoom ⌝ }
     ensures { λ r. ⌜ Tagged w t r ⌝ }
 {
-    w / 16 * 16 + t
+    w / TAG_ROOM * TAG_ROOM + t
 }
 
 // Whether the name of w is that of k bytes at a.
@@ -113,17 +141,17 @@ fn precedes(script: &[u8], v: usize, w: usize) -> bool
 
 // Entry i is set.
 fn put(scratch: &mut [usize], i: usize, w: usize, x: usize)
-    requires { ⌜ (size ≤ length (now scratch)) × (i < 16384) ⌝ }
+    requires { ⌜ (variablesSize ≤ length (now scratch)) × (i < entriesMost) ⌝ }
     ensures { λ r. ⌜ now (scratch .exit) ≡ put_of (now (scratch .entry)) i w x ⌝ }
 {
     scratch[i] = w;
-    scratch[OPERANDS + i] = x;
+    scratch[ENTRIES_MOST + i] = x;
 }
 
 // The name of k bytes at a is bound to the operand x of tag t, as binding n.
 pub fn bind(scratch: &mut [usize], n: usize, a: usize, k: usize, t: usize, x: usize)
-    requires { ⌜ (size ≤ length (now scratch)) × (n < 8192) ⌝ }
-    requires { ⌜ (a ≤ 16384) × ((k ≤ 16384) × (t < 16)) ⌝ }
+    requires { ⌜ (variablesSize ≤ length (now scratch)) × (n < bindingsMost) ⌝ }
+    requires { ⌜ (a ≤ scriptMost) × ((k ≤ scriptMost) × (t < tagRoom)) ⌝ }
     ensures { λ r. ⌜ VariableBinds n a k t x (now (scratch .entry)) (now (scratch .exit)) ⌝ }
 {
     let w = pack(a, k, t);
@@ -132,7 +160,7 @@ pub fn bind(scratch: &mut [usize], n: usize, a: usize, k: usize, t: usize, x: us
 
 // The same, for the name of w.
 pub fn bind_again(scratch: &mut [usize], n: usize, w: usize, t: usize, x: usize)
-    requires { ⌜ (size ≤ length (now scratch)) × ((n < 8192) × (t < 16)) ⌝ }
+    requires { ⌜ (variablesSize ≤ length (now scratch)) × ((n < bindingsMost) × (t < tagRoom)) ⌝ }
     ensures { λ r. ⌜ BindsAgain n w t x (now (scratch .entry)) (now (scratch .exit)) ⌝ }
 {
     let v = retag(w, t);
@@ -140,19 +168,19 @@ pub fn bind_again(scratch: &mut [usize], n: usize, w: usize, t: usize, x: usize)
 }
 
 fn operand(scratch: &[usize], i: usize) -> Stored
-    requires { ⌜ (size ≤ length (now scratch)) × (i < 16384) ⌝ }
+    requires { ⌜ (variablesSize ≤ length (now scratch)) × (i < entriesMost) ⌝ }
     ensures { λ r. ⌜ IsAt (now (scratch .entry)) i r ⌝ }
 {
     let w = scratch[i];
     Stored {
         tag: tag(w),
-        bits: scratch[OPERANDS + i],
+        bits: scratch[ENTRIES_MOST + i],
     }
 }
 
 // The latest of n bindings that has the name of k bytes at a.
 pub fn find(script: &[u8], scratch: &[usize], n: usize, a: usize, k: usize) -> FoundVar
-    requires { ⌜ (size ≤ length (now scratch)) × (n ≤ 16384) ⌝ }
+    requires { ⌜ (variablesSize ≤ length (now scratch)) × (n ≤ entriesMost) ⌝ }
     ensures { λ r. ⌜ VariableFinds (now (script .entry)) (now (scratch .entry)) n (name (now (script .entry)) a k) r ⌝ }
 {
     let mut i = n;
@@ -169,7 +197,7 @@ pub fn find(script: &[u8], scratch: &[usize], n: usize, a: usize, k: usize) -> F
 
 // What the name of w is among n bindings; nil if it is unbound.
 fn value(script: &[u8], scratch: &[usize], n: usize, w: usize) -> Stored
-    requires { ⌜ (size ≤ length (now scratch)) × (n ≤ 16384) ⌝ }
+    requires { ⌜ (variablesSize ≤ length (now scratch)) × (n ≤ entriesMost) ⌝ }
     ensures { λ r. ⌜ Values (now (script .entry)) (now (scratch .entry)) n w r ⌝ }
 {
     match find(script, scratch, n, start(w), len(w)) {
@@ -182,7 +210,7 @@ fn value(script: &[u8], scratch: &[usize], n: usize, w: usize) -> Stored
 
 // Which of the entries from a up to b of a row of n is looked at next: first the row's last, since names often come in rising order.
 fn probe(a: usize, b: usize, n: usize) -> usize
-    requires { ⌜ (a < b) × (b ≤ 16384) ⌝ }
+    requires { ⌜ (a < b) × (b ≤ entriesMost) ⌝ }
     ensures { λ r. ⌜ (a ≤ r) × (r < b) ⌝ }
 {
     if b == n { b - 1 } else { (a + b) / 2 }
@@ -190,7 +218,7 @@ fn probe(a: usize, b: usize, n: usize) -> usize
 
 // Where the name of w stands, or belongs, in the row of n entries from lo on.
 fn seek(script: &[u8], scratch: &[usize], lo: usize, n: usize, w: usize) -> Spot
-    requires { ⌜ (size ≤ length (now scratch)) × (lo + n ≤ 16384) ⌝ }
+    requires { ⌜ (variablesSize ≤ length (now scratch)) × (lo + n ≤ entriesMost) ⌝ }
     requires { ⌜ Sorted (row (now script) (now scratch) lo n) ⌝ }
     ensures { λ r. ⌜ Sought (now (script .entry)) (now (scratch .entry)) lo n w r ⌝ }
 {
@@ -212,7 +240,7 @@ fn seek(script: &[u8], scratch: &[usize], lo: usize, n: usize, w: usize) -> Spot
 
 // k entries from at on move up by one.
 fn lift(scratch: &mut [usize], at: usize, k: usize)
-    requires { ⌜ (size ≤ length (now scratch)) × (at + k < 16384) ⌝ }
+    requires { ⌜ (variablesSize ≤ length (now scratch)) × (at + k < entriesMost) ⌝ }
     ensures { λ r. ⌜ Lifted at k (now (scratch .entry)) (now (scratch .exit)) ⌝ }
 {
     let mut i = k;
@@ -220,14 +248,14 @@ fn lift(scratch: &mut [usize], at: usize, k: usize)
         i -= 1;
         let p = at + i;
         let w = scratch[p];
-        let x = scratch[OPERANDS + p];
+        let x = scratch[ENTRIES_MOST + p];
         put(scratch, p + 1, w, x);
     }
 }
 
 // An entry bound in the row of n entries from lo on: how many these are then.
 fn insert(script: &[u8], scratch: &mut [usize], lo: usize, n: usize, w: usize, x: usize) -> usize
-    requires { ⌜ (size ≤ length (now scratch)) × (lo + n < 16384) ⌝ }
+    requires { ⌜ (variablesSize ≤ length (now scratch)) × (lo + n < entriesMost) ⌝ }
     requires { ⌜ Sorted (row (now script) (now scratch) lo n) ⌝ }
     ensures { λ r. ⌜ Inserts (now (script .entry)) lo n w x (now (scratch .entry)) (now (scratch .exit)) r ⌝ }
 {
@@ -246,8 +274,8 @@ fn insert(script: &[u8], scratch: &mut [usize], lo: usize, n: usize, w: usize, x
 
 // What the k bindings from mark on come to is set aside as a row at to: how many entries that are.
 pub fn set_aside(script: &[u8], scratch: &mut [usize], mark: usize, k: usize, to: usize) -> usize
-    requires { ⌜ size ≤ length (now scratch) ⌝ }
-    requires { ⌜ (mark + k ≤ to) × (to + k ≤ 16384) ⌝ }
+    requires { ⌜ variablesSize ≤ length (now scratch) ⌝ }
+    requires { ⌜ (mark + k ≤ to) × (to + k ≤ scriptMost) ⌝ }
     ensures { λ r. ⌜ Leaves (now (script .entry)) mark k to (now (scratch .entry)) (now (scratch .exit)) r ⌝ }
 {
     let mut n = 0;
@@ -255,7 +283,7 @@ pub fn set_aside(script: &[u8], scratch: &mut [usize], mark: usize, k: usize, to
     while i < k {
         let p = mark + i;
         let w = scratch[p];
-        let x = scratch[OPERANDS + p];
+        let x = scratch[ENTRIES_MOST + p];
         n = insert(script, scratch, to, n, w, x);
         i += 1;
     }
@@ -272,15 +300,15 @@ fn wide(x: u16) -> usize
 
 // Binding i is noted for the entry of its name, if the row of n entries from lo on has one and no other is noted for it.
 fn note(script: &[u8], scratch: &[usize], g: &mut [u16], lo: usize, n: usize, i: usize)
-    requires { ⌜ (size ≤ length (now scratch)) × ((8192 ≤ length (now g)) × (i < 16384)) ⌝ }
-    requires { ⌜ (8192 ≤ lo) × (lo + n ≤ 16384) ⌝ }
+    requires { ⌜ (variablesSize ≤ length (now scratch)) × ((bindingsMost ≤ length (now g)) × (i < entriesMost)) ⌝ }
+    requires { ⌜ (bindingsMost ≤ lo) × (lo + n ≤ entriesMost) ⌝ }
     requires { ⌜ Sorted (row (now script) (now scratch) lo n) ⌝ }
     ensures { λ r. ⌜ Notes (now (script .entry)) (now (scratch .entry)) i lo n (now (g .entry)) (now (g .exit)) ⌝ }
 {
     let w = scratch[i];
     match seek(script, scratch, lo, n, w) {
         Spot::At(j) => {
-            let q = lo - ROWS + j;
+            let q = lo - BINDINGS_MOST + j;
             if g[q] == 0 {
                 g[q] = (i + 1) as u16;
             }
@@ -291,16 +319,20 @@ fn note(script: &[u8], scratch: &[usize], g: &mut [u16], lo: usize, n: usize, i:
 
 // How many entries from lo on are known to have notes, if the first u have: one more is looked at.
 fn pass(g: &[u16], lo: usize, n: usize, u: usize) -> usize
-    requires { ⌜ (8192 ≤ length (now g)) × ((8192 ≤ lo) × ((lo + n ≤ 16384) × (u < n))) ⌝ }
+    requires { ⌜ (bindingsMost ≤ length (now g)) × ((bindingsMost ≤ lo) × ((lo + n ≤ entriesMost) × (u < n))) ⌝ }
     ensures { λ r. ⌜ VariablePasses (now (g .entry)) lo n u r ⌝ }
 {
-    if g[lo - ROWS + u] == 0 { u } else { u + 1 }
+    if g[lo - BINDINGS_MOST + u] == 0 {
+        u
+    } else {
+        u + 1
+    }
 }
 
 // The base bindings are noted for a row for which none is noted, the latest first, until each entry has a note.
 fn note_row(script: &[u8], scratch: &[usize], g: &mut [u16], base: usize, lo: usize, n: usize)
-    requires { ⌜ (size ≤ length (now scratch)) × ((8192 ≤ length (now g)) × (base ≤ 16384)) ⌝ }
-    requires { ⌜ (8192 ≤ lo) × (lo + n ≤ 16384) ⌝ }
+    requires { ⌜ (variablesSize ≤ length (now scratch)) × ((bindingsMost ≤ length (now g)) × (base ≤ entriesMost)) ⌝ }
+    requires { ⌜ (bindingsMost ≤ lo) × (lo + n ≤ entriesMost) ⌝ }
     requires { ⌜ Sorted (row (now script) (now scratch) lo n) ⌝ }
     requires { ⌜ Noted (now script) (now scratch) 0 lo n (now g) ⌝ }
     ensures { λ r. ⌜ NotesRow (now (script .entry)) (now (scratch .entry)) base lo n (now (g .entry)) (now (g .exit)) ⌝ }
@@ -328,8 +360,8 @@ pub fn note_rows(
     hi: usize,
     k: usize,
 )
-    requires { ⌜ (size ≤ length (now scratch)) × ((8192 ≤ length (now g)) × (base ≤ 16384)) ⌝ }
-    requires { ⌜ (8192 ≤ lo) × ((lo + n ≤ hi) × (hi + k ≤ 16384)) ⌝ }
+    requires { ⌜ (variablesSize ≤ length (now scratch)) × ((bindingsMost ≤ length (now g)) × (base ≤ entriesMost)) ⌝ }
+    requires { ⌜ (bindingsMost ≤ lo) × ((lo + n ≤ hi) × (hi + k ≤ scriptMost)) ⌝ }
     requires { ⌜ Sorted (row (now script) (now scratch) lo n) × Sorted (row (now script) (now scratch) hi k) ⌝ }
     requires { ⌜ VariablesBlank (now g) ⌝ }
     ensures { λ r. ⌜ NotesBoth (now (script .entry)) (now (scratch .entry)) base lo n hi k (now (g .exit)) ⌝ }
@@ -340,11 +372,11 @@ pub fn note_rows(
 
 // What the name of entry p is among n bindings; nil if it is unbound. An entry that g has no place for is looked up.
 fn value_at(script: &[u8], scratch: &[usize], g: &[u16], n: usize, p: usize) -> Stored
-    requires { ⌜ (size ≤ length (now scratch)) × ((n ≤ 16384) × ((8192 ≤ p) × (p < 16384))) ⌝ }
+    requires { ⌜ (variablesSize ≤ length (now scratch)) × ((n ≤ entriesMost) × ((bindingsMost ≤ p) × (p < entriesMost))) ⌝ }
     requires { ⌜ Noted (now script) (now scratch) n p 1 (now g) ⌝ }
     ensures { λ r. ⌜ Values (now (script .entry)) (now (scratch .entry)) n (entry (now (scratch .entry)) p .word) r ⌝ }
 {
-    let q = p - ROWS;
+    let q = p - BINDINGS_MOST;
     if q < g.len() {
         let i = wide(g[q]);
         if i == 0 {
@@ -360,7 +392,7 @@ fn value_at(script: &[u8], scratch: &[usize], g: &[u16], n: usize, p: usize) -> 
 
 // Which of two rows, n entries from lo on and k from hi on, has the least name.
 fn turn(script: &[u8], scratch: &[usize], lo: usize, n: usize, hi: usize, k: usize) -> Side
-    requires { ⌜ (size ≤ length (now scratch)) × ((lo + n ≤ 16384) × (hi + k ≤ 16384)) ⌝ }
+    requires { ⌜ (variablesSize ≤ length (now scratch)) × ((lo + n ≤ entriesMost) × (hi + k ≤ scriptMost)) ⌝ }
     requires { ⌜ Sorted (row (now script) (now scratch) lo n) × Sorted (row (now script) (now scratch) hi k) ⌝ }
     ensures { λ r. ⌜ VariablesTurned (now (script .entry)) (now (scratch .entry)) lo n hi k r ⌝ }
 {
@@ -395,8 +427,8 @@ pub fn next_join(
     hi: usize,
     k: usize,
 ) -> NextJoin
-    requires { ⌜ (size ≤ length (now scratch)) × (base ≤ 16384) ⌝ }
-    requires { ⌜ ((8192 ≤ lo) × (lo + n ≤ 16384)) × ((8192 ≤ hi) × (hi + k ≤ 16384)) ⌝ }
+    requires { ⌜ (variablesSize ≤ length (now scratch)) × (base ≤ entriesMost) ⌝ }
+    requires { ⌜ ((bindingsMost ≤ lo) × (lo + n ≤ entriesMost)) × ((bindingsMost ≤ hi) × (hi + k ≤ scriptMost)) ⌝ }
     requires { ⌜ Sorted (row (now script) (now scratch) lo n) × Sorted (row (now script) (now scratch) hi k) ⌝ }
     requires { ⌜ NotesBoth (now script) (now scratch) base lo n hi k (now g) ⌝ }
     ensures { λ r. ⌜ Nexts (now (script .entry)) (now (scratch .entry)) base lo n hi k r ⌝ }

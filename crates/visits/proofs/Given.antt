@@ -1,6 +1,6 @@
 -- What a finished program gives of the instruction that is visited. Assumes nothing.
-use mathlib.Core.Bool.{Bool as 𝔹, true, false, _&&_, cond}
-use mathlib.Core.Path.{_≡_, refl, sym, ap, _∙_, subst}
+use mathlib.Core.Bool.{true, _&&_, cond}
+use mathlib.Core.Path.{_≡_, sym, ap, _∙_, subst}
 use mathlib.Core.List.{List, [], _∷_}
 use Prim.Native.Nat.{ℕ, _+_, _*_, _≤_, _<_}
 use native.Mathlib.Omega.{arith}
@@ -22,7 +22,7 @@ use Rattle.program.specs.declared.Op.{Op}
 use Rattle.program.specs.declared.Opnd.{Opnd}
 use Rattle.program.specs.declared.Opnd.the-variants.{Const, Insn}
 use Rattle.program.specs.declared.Row.{Row}
-use Rattle.program.specs.Rows.{opndsAt, opndOf, nth, opIn}
+use Rattle.program.specs.Rows.{opndOf, nth, opIn}
 use Rattle.program.specs.View as P
 use Rattle.program.specs.View.{ReadsInsn, ReadsBlock}
 use Rattle.program.proofs.Areas.{given-length}
@@ -34,8 +34,9 @@ use Rattle.machine.specs.opnds.Reads.{OperandInside, kindIn}
 use Rattle.machine.specs.receivers.Receivers.{StateMatches, ReceiverWithin}
 use Rattle.machine.proofs.receivers.Fine.{within-good}
 use Rattle.flows.specs.Flows.{FlowsSound, FlowsKnown}
-use Rattle.flows.proofs.Sounds.{sound-of}
+use Rattle.flows.proofs.Sounds.{sound-of, second}
 use Rattle.machine.specs.Analysed.{Indexed, MachineFits, Steady}
+use Rattle.program.specs.Layout.{opndsAt}
 use Rattle.visits.specs.Visits.{operandsOf, Visiting}
 
 -- ---- operands
@@ -48,11 +49,6 @@ inside-good P z i (Const k) h g = tt
 inside-good P z i (Insn j) h g = let l = ltb-true (j .0) i g in omega arith
 
 -- a constant is no set
-second : (a b c d e : 𝔹) → (a && b && c && d && e) ≡ true → b ≡ true
-second true true c d e h = refl
-second true false c d e h = cc
-second false b c d e h = cc
-
 const-good : (C : ℕ) (k : Kind) → tagOf k ≤ 5 → Good C k
 const-good C Empty h = tt
 const-good C Nil h = tt
@@ -124,7 +120,8 @@ module _ {s p : List ℕ} {c : Counts} {x : List ℕ} {z : Sizes} {m : List ℕ}
       go : (o : Opnd) → goodOpnd (P.programView s p c) i (opndOf o) ≡ true → Good (z .classes) (kindIn (kindsOf z m) (opndOf o))
       go (Const k) f =
           const-good (z .classes) k
-          (leb-true (tagOf k) 5 (second (leb 1 (tagOf k)) (leb (tagOf k) 5) (fitsOf k) (all (isFunction (P.programView s p c)) (toList (functionIn k))) (all (isClass (P.programView s p c)) (toList (classIn k))) f))
+          (leb-true (tagOf k) 5 (second (leb 1 (tagOf k)) (leb (tagOf k) 5) (fitsOf k)
+          (all (isFunction (P.programView s p c)) (toList (functionIn k))) (all (isClass (P.programView s p c)) (toList (classIn k))) f))
       go (Insn j) f = subst (λ (n : ℕ). Good n (getD (kindsOf z m) (j .0) Empty)) (sym (g .indexed .sized .classes)) (g .steady .kinds (j .0))
 
   -- ---- blocks, functions and classes that it names
@@ -139,13 +136,17 @@ module _ {s p : List ℕ} {c : Counts} {x : List ℕ} {z : Sizes} {m : List ℕ}
 
   pub arms-below : {v : R.Opnd} {b d : ℕ} → opOf (P.programView s p c) i ≡ R.Ends (R.IfTrue v b d) → (b < z .blocks) × (d < z .blocks)
   arms-below {v} {b} {d} e =
-      let f = functionOf (P.programView s p c) i in
-      (block-below f b (and-left (isBlockOf (P.programView s p c) f b) (isBlockOf (P.programView s p c) f d) (good-by e)), block-below f d (and-right (isBlockOf (P.programView s p c) f b) (isBlockOf (P.programView s p c) f d) (good-by e)))
+      let f = functionOf (P.programView s p c) i in (
+        block-below f b (and-left (isBlockOf (P.programView s p c) f b) (isBlockOf (P.programView s p c) f d) (good-by e)),
+        block-below f d (and-right (isBlockOf (P.programView s p c) f b) (isBlockOf (P.programView s p c) f d) (good-by e)),
+      )
 
   pub sides-below : {v w : R.Opnd} {b d : ℕ} → opOf (P.programView s p c) i ≡ R.Phi b v d w → (b < z .blocks) × (d < z .blocks)
   sides-below {v} {w} {b} {d} e =
-      let f = functionOf (P.programView s p c) i in
-      (block-below f b (and-left (isBlockOf (P.programView s p c) f b) (isBlockOf (P.programView s p c) f d) (good-by e)), block-below f d (and-right (isBlockOf (P.programView s p c) f b) (isBlockOf (P.programView s p c) f d) (good-by e)))
+      let f = functionOf (P.programView s p c) i in (
+        block-below f b (and-left (isBlockOf (P.programView s p c) f b) (isBlockOf (P.programView s p c) f d) (good-by e)),
+        block-below f d (and-right (isBlockOf (P.programView s p c) f b) (isBlockOf (P.programView s p c) f d) (good-by e)),
+      )
 
   pub callee-below : {f : ℕ} {l : List R.Opnd} → opOf (P.programView s p c) i ≡ R.Send (R.Static f) l → f < c .functions
   callee-below {f} e = let l = ltb-true f (length (P.programView s p c .functions)) (good-by e) in omega (arith, functions-length s p (c .functions))
@@ -170,7 +171,8 @@ module _ {s p : List ℕ} {c : Counts} {x : List ℕ} {z : Sizes} {m : List ℕ}
   unfolding goodBlock
   function-below {f} b =
       let h = g .indexed .suited .finished .blocks (row .block .0) (let l = blocks-length p (c .blocks) in omega (arith, g .read .inside)) in
-      let l = ltb-true (functionAt (P.programView s p c) (row .block .0)) (length (P.programView s p c .functions)) (and-left (isFunction (P.programView s p c) (functionAt (P.programView s p c) (row .block .0))) _ (and-left _ _ h)) in
+      let l = ltb-true (functionAt (P.programView s p c) (row .block .0)) (length (P.programView s p c .functions))
+      (and-left (isFunction (P.programView s p c) (functionAt (P.programView s p c) (row .block .0))) _ (and-left _ _ h)) in
       omega (arith, b .is s, functions-length s p (c .functions), g .indexed .sized .functions)
 
   -- ---- the callers

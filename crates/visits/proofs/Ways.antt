@@ -50,6 +50,7 @@ use Rattle.sends.proofs.Given.{calling-of}
 use Rattle.machine.specs.Analysed.{MachineFits, TablesOf}
 use Rattle.machine.proofs.Fitting.{did-fits}
 use Rattle.machine.proofs.States.{attrs, attrs-fit}
+use Rattle.attributes.proofs.Found.{program-is}
 use Rattle.visits.specs.declared.Ruled.{Ruled}
 use Rattle.visits.specs.declared.Ruled.the-variants.{On, Refused}
 use Rattle.visits.specs.Visits.{nothingOf, kindOf, Rules, ruleOf, operandsOf, Visiting}
@@ -100,9 +101,6 @@ module _ {s p : List ℕ} {c : Counts} {x : List ℕ} {z : Sizes} {m : List ℕ}
 
   every : (P : Program) (v : Attrs) → MachineFits s p c P v → Every P v
   every P v f = tt
-
-  program-is : (P : Program) (v : Attrs) → MachineFits s p c P v → ProgramIs s p c P v
-  program-is P v f = record { program = f .is; attrs = λ k l. f .attrs k }
 
   -- ---- what ends a block
 
@@ -253,8 +251,10 @@ module _ {s p : List ℕ} {c : Counts} {x : List ℕ} {z : Sizes} {m : List ℕ}
     set-op {n} h = Given.op-at g h ∙ ap (λ (y : R.Opnd). R.SetIvar (nameIn s n) y (nth (operandsOf p row) 1)) (sym ev) ∙ ap (R.SetIvar (nameIn s n) (opndOf v)) (sym ew)
 
     pub set-needs : {n : Name} → row .op ≡ O.SetIvar n → (OperandInside z v × OperandInside z w) × ReceiverWithin z m v
-    set-needs h =
-        ((Given.opnd-inside g v refl (Given.first-good g (set-op h) refl), Given.opnd-inside g w refl (Given.second-good g (set-op h) refl)), Given.opnd-within g v refl (Given.first-good g (set-op h) refl))
+    set-needs h = (
+      (Given.opnd-inside g v refl (Given.first-good g (set-op h) refl), Given.opnd-inside g w refl (Given.second-good g (set-op h) refl)),
+      Given.opnd-within g v refl (Given.first-good g (set-op h) refl),
+    )
 
     pub set-way : {n : Name} {u : List ℕ} {a : Acted} {r : Ruled} → row .op ≡ O.SetIvar n → StateDid z (ProgramIs s p c) (λ L P. setIvars L P (nameIn s n) (opndOf v) (opndOf w)) m q u a
         → r ≡ nothingOf a

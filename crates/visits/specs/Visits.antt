@@ -12,7 +12,7 @@ use Rattle.rules.specs.Program.{Limits, Program, opOf}
 use Rattle.rules.specs.Machine.{State, Acts, rule}
 use Rattle.program.specs.declared.Counts.{Counts}
 use Rattle.program.specs.declared.Row.{Row}
-use Rattle.program.specs.Rows.{opndsAt, opndsIn, opndOf}
+use Rattle.program.specs.Rows.{opndsIn, opndOf}
 use Rattle.program.specs.View.{ReadsInsn}
 use Rattle.state.specs.declared.Sizes.{Sizes}
 use Rattle.state.specs.declared.Regs.{Regs}
@@ -21,6 +21,8 @@ use Rattle.state.specs.declared.Acted.the-variants as W
 use Rattle.state.specs.View.{Attrs, stateView, StateReady}
 use Rattle.state.specs.Changes.{StateAfter}
 use Rattle.machine.specs.Analysed.{Indexed, MachineFits, Steady}
+use Rattle.memory.specs.Layout.{worklistMost}
+use Rattle.program.specs.Layout.{opndsAt}
 use Rattle.visits.specs.declared.Ruled.{Ruled}
 use Rattle.visits.specs.declared.Ruled.the-variants.{On, Refused}
 
@@ -43,7 +45,7 @@ ReadyRuled z q w (Refused n) = Unit {0}
 
 -- an action that gives a kind, as `Did` of the state has one that gives none
 pub record Rules (z : Sizes) (fits : Program → Attrs → Type 0) (f : Limits → Program → Acts Kind) (m : List ℕ) (q : Regs) (w : List ℕ) (r : Ruled) : Type 0 where
-  pub is : (L : Limits) → L .worklist ≡ 16384 → (P : Program) (v : Attrs) → fits P v → ruled z v w r ≡ f L P (stateView z v m q)
+  pub is : (L : Limits) → L .worklist ≡ worklistMost → (P : Program) (v : Attrs) → fits P v → ruled z v w r ≡ f L P (stateView z v m q)
   pub ok : ReadyRuled z q w r
 
 -- the rule of instruction i

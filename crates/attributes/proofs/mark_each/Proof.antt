@@ -41,7 +41,8 @@ loop-less c =
 loop-again : tie.Need-loop-again Inv-loop μ-loop
 loop-again c =
     marking-more (c .before .before .before .before .before .before .before .before .loop .inv)
-    (step (c .before .before .before .before .before .before .before .before .loop .inv .walking) (c .before .before .before .before .before .before .before .smallest .ensures) (c .before .before .before .before .before .c .given .1))
+    (step (c .before .before .before .before .before .before .before .before .loop .inv .walking)
+    (c .before .before .before .before .before .before .before .smallest .ensures) (c .before .before .before .before .before .c .given .1))
     (search needs) (c .before .before .add-read .ensures)
 
 enum-told : tie.Need-enum-told Inv-loop μ-loop

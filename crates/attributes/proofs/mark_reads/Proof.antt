@@ -18,8 +18,14 @@ mark-each-requires : tie.Need-mark-each-requires
 mark-each-requires c κs =
     let at-set = c .before .before in
     let at-classes-of = at-set .before .before in
-    let start = at-classes-of .before .before .before in
-    (start .pre .0 .held, (met-below (start .args .sizes) (start .args .state .now) (start .args .o) (at-classes-of .classes-of .ensures) (at-set .set .given .1) (start .pre .1 .1 .1), start .pre .1 .0))
+    let start = at-classes-of .before .before .before in (
+      start .pre .0 .held,
+      (
+        met-below (start .args .sizes) (start .args .state .now) (start .args .o) (at-classes-of .classes-of .ensures) (at-set .set .given .1)
+            (start .pre .1 .1 .1),
+        start .pre .1 .0,
+      ),
+    )
 
 enum-known-n : tie.Need-enum-known-n
 enum-known-n c = search needs

@@ -18,8 +18,11 @@ abbrev μ-loop : tie.MeasureT-loop
 
 loop-holds : tie.Need-loop-holds Inv-loop μ-loop
 loop-holds c =
-    let start = c .before .before .before in
-    (folding-start (start .args .sizes) (ProgramIs (start .args .script .now) (start .args .program .now) (start .args .counts)) (λ L p. getIvar L p (nameIn (start .args .script .now) (start .args .n))) (start .args .state .now) (start .args .set), record { fits = start .fits .set .fits; below = start .pre .1 .1 })
+    let start = c .before .before .before in (
+      folding-start (start .args .sizes) (ProgramIs (start .args .script .now) (start .args .program .now) (start .args .counts))
+          (λ L p. getIvar L p (nameIn (start .args .script .now) (start .args .n))) (start .args .state .now) (start .args .set),
+      record { fits = start .fits .set .fits; below = start .pre .1 .1 },
+    )
 
 smallest-requires : tie.Need-smallest-requires Inv-loop μ-loop
 smallest-requires c κs = search needs
@@ -52,8 +55,13 @@ loop-again c =
     let at-x = at-read-one .before .before in
     let at-smallest = at-x .before .before in
     let at-loop = at-smallest .before in
-    let start = at-loop .before .before .before .before in
-    (folding-more (start .args .sizes) (ProgramIs (start .args .script .now) (start .args .program .now) (start .args .counts)) (λ L p. getIvar L p (nameIn (start .args .script .now) (start .args .n))) (start .args .state .now) (at-loop .loop .inv .0) (step (at-loop .loop .inv .1) (at-smallest .smallest .ensures) (at-x .x .given .1)) (at-read-one .read-one .ensures) (at-u .u .given .1), walk-on (step (at-loop .loop .inv .1) (at-smallest .smallest .ensures) (at-x .x .given .1)) (at-loop .loop .inv .1))
+    let start = at-loop .before .before .before .before in (
+      folding-more (start .args .sizes) (ProgramIs (start .args .script .now) (start .args .program .now) (start .args .counts))
+          (λ L p. getIvar L p (nameIn (start .args .script .now) (start .args .n))) (start .args .state .now) (at-loop .loop .inv .0)
+          (step (at-loop .loop .inv .1) (at-smallest .smallest .ensures) (at-x .x .given .1)) (at-read-one .read-one .ensures)
+          (at-u .u .given .1),
+      walk-on (step (at-loop .loop .inv .1) (at-smallest .smallest .ensures) (at-x .x .given .1)) (at-loop .loop .inv .1),
+    )
 
 enum-known-e : tie.Need-enum-known-e Inv-loop μ-loop
 enum-known-e c = search needs

@@ -18,8 +18,12 @@ abbrev μ-loop : tie.MeasureT-loop
 
 loop-holds : tie.Need-loop-holds Inv-loop μ-loop
 loop-holds c =
-    let start = c .before .before .before in
-    (going-start (start .args .sizes) (ProgramIs (start .args .script .now) (start .args .program .now) (start .args .counts)) (λ L p. setIvar L p (nameIn (start .args .script .now) (start .args .n)) (start .args .k)) (start .args .set) (start .args .state .now) (start .args .regs) (start .pre .0), record { fits = start .fits .set .fits; below = start .pre .1 .1 })
+    let start = c .before .before .before in (
+      going-start (start .args .sizes) (ProgramIs (start .args .script .now) (start .args .program .now) (start .args .counts))
+          (λ L p. setIvar L p (nameIn (start .args .script .now) (start .args .n)) (start .args .k)) (start .args .set) (start .args .state .now)
+          (start .args .regs) (start .pre .0),
+      record { fits = start .fits .set .fits; below = start .pre .1 .1 },
+    )
 
 smallest-requires : tie.Need-smallest-requires Inv-loop μ-loop
 smallest-requires c κs = search needs
@@ -46,8 +50,28 @@ loop-less c =
     step (at-loop .loop .inv .1) (at-smallest .smallest .ensures) (at-x .x .given .1) .falls
 
 loop-again : tie.Need-loop-again Inv-loop μ-loop
-loop-again c =
-    (going-more (c .before .before .before .before .before .before .before .before .before .before .before .before .before .before .before .args .sizes) (ProgramIs (c .before .before .before .before .before .before .before .before .before .before .before .before .before .before .before .args .script .now) (c .before .before .before .before .before .before .before .before .before .before .before .before .before .before .before .args .program .now) (c .before .before .before .before .before .before .before .before .before .before .before .before .before .before .before .args .counts)) (λ L p. setIvar L p (nameIn (c .before .before .before .before .before .before .before .before .before .before .before .before .before .before .before .args .script .now) (c .before .before .before .before .before .before .before .before .before .before .before .before .before .before .before .args .n)) (c .before .before .before .before .before .before .before .before .before .before .before .before .before .before .before .args .k)) (c .before .before .before .before .before .before .before .before .before .before .before .loop .inv .0) (step (c .before .before .before .before .before .before .before .before .before .before .before .loop .inv .1) (c .before .before .before .before .before .before .before .before .before .before .smallest .ensures) (c .before .before .before .before .before .before .before .before .x .given .1)) (search needs) (c .before .before .before .before .before .widen-one .ensures) (c .before .next .given .1), walk-on (step (c .before .before .before .before .before .before .before .before .before .before .before .loop .inv .1) (c .before .before .before .before .before .before .before .before .before .before .smallest .ensures) (c .before .before .before .before .before .before .before .before .x .given .1)) (c .before .before .before .before .before .before .before .before .before .before .before .loop .inv .1))
+loop-again c = (
+  going-more
+      (c .before .before .before .before .before .before .before .before .before .before .before .before .before .before .before .args .sizes)
+      (ProgramIs
+      (c .before .before .before .before .before .before .before .before .before .before .before .before .before .before .before .args .script .now)
+      (c .before .before .before .before .before .before .before .before .before .before .before .before .before .before .before .args .program .now)
+      (c .before .before .before .before .before .before .before .before .before .before .before .before .before .before .before .args .counts))
+      (λ L p. setIvar L p
+      (nameIn
+      (c .before .before .before .before .before .before .before .before .before .before .before .before .before .before .before .args .script .now)
+      (c .before .before .before .before .before .before .before .before .before .before .before .before .before .before .before .args .n))
+      (c .before .before .before .before .before .before .before .before .before .before .before .before .before .before .before .args .k))
+      (c .before .before .before .before .before .before .before .before .before .before .before .loop .inv .0)
+      (step (c .before .before .before .before .before .before .before .before .before .before .before .loop .inv .1)
+      (c .before .before .before .before .before .before .before .before .before .before .smallest .ensures)
+      (c .before .before .before .before .before .before .before .before .x .given .1))
+      (search needs) (c .before .before .before .before .before .widen-one .ensures) (c .before .next .given .1),
+  let at-x = c .before .before .before .before .before .before .before .before in
+      let at-smallest = at-x .before .before in
+      let at-loop = at-smallest .before in
+      walk-on (step (at-loop .loop .inv .1) (at-smallest .smallest .ensures) (at-x .x .given .1)) (at-loop .loop .inv .1),
+)
 
 enum-known-e : tie.Need-enum-known-e Inv-loop μ-loop
 enum-known-e c = search needs

@@ -1,5 +1,5 @@
 use Rattle.call.proofs.Laws.{given, program-number, program-refused, program-answered, held-after, answer-kept, blocks-few}
-use Rattle.run.specs.Stamps.{tablesOf as wordsOf}
+use Rattle.run.specs.Runs.{tablesOf as wordsOf}
 use borrow.Author.Needs.{needs}
 use Rattle.call.proofs.analyze_program.Statement.{statement}
 use Rattle.call.proofs.analyze_program.Tie as tie
@@ -11,8 +11,15 @@ enum-known-q : tie.Need-enum-known-q
 enum-known-q c = search needs
 
 publish-state-requires : tie.Need-publish-state-requires
-publish-state-requires c κs =
-    (held-after (c .before .before .before .before .before .before .before .before .before .before .before .before .before .before .before .before .before .before .before .args .script .now) (c .before .before .before .before .before .before .before .before .before .before .before .before .before .before .before .before .before .before .before .args .program .now) (c .before .before .before .before .before .before .before .before .before .before .before .before .before .before .before .before .before .before .before .args .counts) (c .before .before .before .before .before .before .before .before .before .before .before .before .before .before .before .before .before .before .before .args .answer .now) (c .before .before .before .before .before .before .before .before .before .before .before .sctp .last .1 .1 .1 .0) (wordsOf (c .before .before .before .before .before .before .before .before .before .before .before .sctp .last .1 .1 .1 .1 .0)) (c .before .before .before .before .before .before .before .before .before .before .before .before .before .before .before .before .before .before .before .pre .0) (c .before .before .before .before .before .before .before .before .before .before .before .sctp .ensures) (c .before .before .before .q .given .1), (search answer-kept, search blocks-few))
+publish-state-requires c κs = (
+  let at-q = c .before .before .before in
+      let at-sctp = at-q .before .before .before .before .before .before .before .before in
+      let start = at-sctp .before .before .before .before .before .before .before .before in
+      held-after (start .args .script .now) (start .args .program .now) (start .args .counts) (start .args .answer .now)
+      (at-sctp .sctp .last .1 .1 .1 .0) (wordsOf (at-sctp .sctp .last .1 .1 .1 .1 .0)) (start .pre .0) (at-sctp .sctp .ensures)
+      (at-q .q .given .1),
+  (search answer-kept, search blocks-few),
+)
 
 enum-known-n : tie.Need-enum-known-n
 enum-known-n c = search needs

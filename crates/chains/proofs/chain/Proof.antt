@@ -71,7 +71,11 @@ loop-less c = search needs
 loop-again : tie.Need-loop-again Inv-loop μ-loop
 loop-again c =
     chain-more (c .before .before .before .before .loop .inv) (omega arith) _ (c .before .before .key-of .ensures)
-    (omega (arith, c .before .before .before .before .before .before .before .fill .ensures .only .len-same, c .before .before .before .before .before .before .before .before .before .before .before .pre .1 .0))
+    (omega (
+      arith,
+      c .before .before .before .before .before .before .before .fill .ensures .only .len-same,
+      c .before .before .before .before .before .before .before .before .before .before .before .pre .1 .0,
+    ))
     (c .before .before .before .before .before .before .before .before .before .before .before .pre .0 .insns)
     (c .before .before .before .before .before .before .before .before .before .before .before .pre .1 .1) (omega arith)
 

@@ -1,4 +1,4 @@
--- `index::copy` meets its contract. Assumes nothing.
+-- `chains::copy` meets its contract. Assumes nothing.
 use Rattle.chains.proofs.Carry.{Copying, copy-start, copy-more, copy-done}
 use Prim.Native.Nat.{_-_}
 use native.Mathlib.Omega.{arith}

@@ -1,4 +1,4 @@
--- `index::copy_index` meets its contract. Assumes nothing.
+-- `chains::copy_index` meets its contract. Assumes nothing.
 use Rattle.chains.proofs.Carry.{index-carried}
 use mathlib.Core.Path.{refl}
 use borrow.Author.Needs.{needs}

@@ -47,13 +47,26 @@ visit-mul-if1 t c = search needs
 visit-slice-read-if1 :
     (t : ℕ) → visit-lts.Need-slice-read-if1 (walk-below t, walk.Post) (visit-at t) visit.Post
 visit-slice-read-if1 t c =
-    omega
-    (arith, c .before .before .before .before .before .pre .1 .1 .1 .1 .0 .len, c .before .before .before .before .before .pre .1 .1 .1 .1 .0 .few, c .before .before .before .before .before .pre .1 .1 .1 .1 .1)
+    omega (
+      arith,
+      c .before .before .before .before .before .pre .1 .1 .1 .1 .0 .len,
+      c .before .before .before .before .before .pre .1 .1 .1 .1 .0 .few,
+      c .before .before .before .before .before .pre .1 .1 .1 .1 .1,
+    )
 
 visit-walk-requires :
     (t : ℕ) → visit-lts.Need-walk-requires (walk-below t, walk.Post) (visit-at t) visit.Post
-visit-walk-requires t c κs =
-    (omega arith, (c .before .before .before .before .before .before .before .pre .1 .0, (c .before .before .before .before .before .before .before .pre .1 .1 .0, (c .before .before .before .before .before .before .before .pre .1 .1 .1 .0, (c .before .before .before .before .before .before .before .pre .1 .1 .1 .1 .0, (c .before .before .before .before .before .before .before .pre .1 .1 .1 .1 .1, c .before .if1 .taken))))))
+visit-walk-requires t c κs = (
+  omega arith,
+  let at-if1 = c .before in
+      let start = at-if1 .before .before .before .before .before .before in (
+        start .pre .1 .0,
+        (
+          start .pre .1 .1 .0,
+          (start .pre .1 .1 .1 .0, (start .pre .1 .1 .1 .1 .0, (start .pre .1 .1 .1 .1 .1, at-if1 .if1 .taken))),
+        ),
+      ),
+)
 
 visit-same-length :
     (t : ℕ) → visit-lts.Need-same-length (walk-below t, walk.Post) (visit-at t) visit.Post
@@ -132,8 +145,10 @@ walk-push-requires : (t : ℕ) → walk-lts.Need-push-requires (
   visit.Post,
 ) (walk-at t) walk.Post
 walk-push-requires t c κs =
-    let start = c .before .before .before .before .before .before .before .before in
-    (mark-good [] (start .args .counts) (start .pre .1 .1 .1 .1 .0) (start .pre .1 .1 .1 .1 .1 .0) (start .pre .1 .1 .1 .1 .1 .1) .len, mark-room [] (start .args .counts) (start .pre .1 .1 .1 .1 .0) (start .pre .1 .1 .1 .1 .1 .0) (start .pre .1 .1 .1 .1 .1 .1))
+    let start = c .before .before .before .before .before .before .before .before in (
+      mark-good [] (start .args .counts) (start .pre .1 .1 .1 .1 .0) (start .pre .1 .1 .1 .1 .1 .0) (start .pre .1 .1 .1 .1 .1 .1) .len,
+      mark-room [] (start .args .counts) (start .pre .1 .1 .1 .1 .0) (start .pre .1 .1 .1 .1 .1 .0) (start .pre .1 .1 .1 .1 .1 .1),
+    )
 
 walk-enum-known-e : (t : ℕ) → walk-lts.Need-enum-known-e (
   end-of-reads.Asked,
@@ -153,8 +168,26 @@ walk-visit-requires : (t : ℕ) → walk-lts.Need-visit-requires (
   visit-below t,
   visit.Post,
 ) (walk-at t) walk.Post
-walk-visit-requires t c κs =
-    (mark-falls [] (c .before .before .before .before .before .before .before .before .before .args .counts) (c .before .before .before .before .before .before .before .before .before .pre .1 .1 .1 .1 .0) (c .before .before .before .before .before .before .before .before .before .pre .1 .1 .1 .1 .1 .0) (c .before .before .before .before .before .before .before .before .before .pre .1 .1 .1 .1 .1 .1) _ (c .before .before .before .before .before .before .before .before .before .pre .0), (c .before .before .before .before .before .before .before .before .before .pre .1 .0, (c .before .before .before .before .before .before .before .before .before .pre .1 .1 .0, (c .before .before .before .before .before .before .before .before .before .pre .1 .1 .1 .0, (mark-good [] (c .before .before .before .before .before .before .before .before .before .args .counts) (c .before .before .before .before .before .before .before .before .before .pre .1 .1 .1 .1 .0) (c .before .before .before .before .before .before .before .before .before .pre .1 .1 .1 .1 .1 .0) (c .before .before .before .before .before .before .before .before .before .pre .1 .1 .1 .1 .1 .1), search jump-inside)))))
+walk-visit-requires t c κs = (
+  let start = c .before .before .before .before .before .before .before .before .before in
+      mark-falls [] (start .args .counts) (start .pre .1 .1 .1 .1 .0) (start .pre .1 .1 .1 .1 .1 .0) (start .pre .1 .1 .1 .1 .1 .1) _
+      (start .pre .0),
+  (
+    c .before .before .before .before .before .before .before .before .before .pre .1 .0,
+    (
+      c .before .before .before .before .before .before .before .before .before .pre .1 .1 .0,
+      (
+        c .before .before .before .before .before .before .before .before .before .pre .1 .1 .1 .0,
+        (
+          let start = c .before .before .before .before .before .before .before .before .before in
+              mark-good [] (start .args .counts) (start .pre .1 .1 .1 .1 .0) (start .pre .1 .1 .1 .1 .1 .0)
+              (start .pre .1 .1 .1 .1 .1 .1),
+          search jump-inside,
+        ),
+      ),
+    ),
+  ),
+)
 
 walk-push-requires-2 : (t : ℕ) → walk-lts.Need-push-requires-2 (
   end-of-reads.Asked,
@@ -187,8 +220,26 @@ walk-visit-requires-2 : (t : ℕ) → walk-lts.Need-visit-requires-2 (
   visit-below t,
   visit.Post,
 ) (walk-at t) walk.Post
-walk-visit-requires-2 t c κs =
-    (mark-falls [] (c .before .before .before .before .before .before .before .before .before .args .counts) (c .before .before .before .before .before .before .before .before .before .pre .1 .1 .1 .1 .0) (c .before .before .before .before .before .before .before .before .before .pre .1 .1 .1 .1 .1 .0) (c .before .before .before .before .before .before .before .before .before .pre .1 .1 .1 .1 .1 .1) _ (c .before .before .before .before .before .before .before .before .before .pre .0), (c .before .before .before .before .before .before .before .before .before .pre .1 .0, (c .before .before .before .before .before .before .before .before .before .pre .1 .1 .0, (c .before .before .before .before .before .before .before .before .before .pre .1 .1 .1 .0, (mark-good [] (c .before .before .before .before .before .before .before .before .before .args .counts) (c .before .before .before .before .before .before .before .before .before .pre .1 .1 .1 .1 .0) (c .before .before .before .before .before .before .before .before .before .pre .1 .1 .1 .1 .1 .0) (c .before .before .before .before .before .before .before .before .before .pre .1 .1 .1 .1 .1 .1), search then-inside)))))
+walk-visit-requires-2 t c κs = (
+  let start = c .before .before .before .before .before .before .before .before .before in
+      mark-falls [] (start .args .counts) (start .pre .1 .1 .1 .1 .0) (start .pre .1 .1 .1 .1 .1 .0) (start .pre .1 .1 .1 .1 .1 .1) _
+      (start .pre .0),
+  (
+    c .before .before .before .before .before .before .before .before .before .pre .1 .0,
+    (
+      c .before .before .before .before .before .before .before .before .before .pre .1 .1 .0,
+      (
+        c .before .before .before .before .before .before .before .before .before .pre .1 .1 .1 .0,
+        (
+          let start = c .before .before .before .before .before .before .before .before .before in
+              mark-good [] (start .args .counts) (start .pre .1 .1 .1 .1 .0) (start .pre .1 .1 .1 .1 .1 .0)
+              (start .pre .1 .1 .1 .1 .1 .1),
+          search then-inside,
+        ),
+      ),
+    ),
+  ),
+)
 
 walk-visit-requires-3 : (t : ℕ) → walk-lts.Need-visit-requires-3 (
   end-of-reads.Asked,
@@ -198,8 +249,25 @@ walk-visit-requires-3 : (t : ℕ) → walk-lts.Need-visit-requires-3 (
   visit-below t,
   visit.Post,
 ) (walk-at t) walk.Post
-walk-visit-requires-3 t c κs =
-    (next-falls (c .before .before .before .before .before .before .before .before .before .before .before .before .before .args .counts) (c .before .before .before .before .before .before .before .before .before .before .before .before .before .pre .1 .1 .1 .1 .0) (c .before .before .before .before .before .before .before .before .before .before .before .before .before .pre .1 .1 .1 .1 .1 .0) (c .before .before .before .before .before .before .before .before .before .before .before .before .before .pre .1 .1 .1 .1 .1 .1) (c .before .before .before .visit2 .ensures) _ (c .before .before .before .before .before .before .before .before .before .before .before .before .before .pre .0), (c .before .before .before .before .before .before .before .before .before .before .before .before .before .pre .1 .0, (c .before .before .before .before .before .before .before .before .before .before .before .before .before .pre .1 .1 .0, (c .before .before .before .before .before .before .before .before .before .before .before .before .before .pre .1 .1 .1 .0, (c .before .before .before .visit2 .ensures .good, search else-inside)))))
+walk-visit-requires-3 t c κs = (
+  let at-visit2 = c .before .before .before in
+      let start = at-visit2 .before .before .before .before .before .before .before .before .before .before in
+      next-falls (start .args .counts) (start .pre .1 .1 .1 .1 .0) (start .pre .1 .1 .1 .1 .1 .0) (start .pre .1 .1 .1 .1 .1 .1)
+      (at-visit2 .visit2 .ensures) _ (start .pre .0),
+  (
+    let start = c .before .before .before .before .before .before .before .before .before .before .before .before .before in
+        start .pre .1 .0,
+    (
+      let start = c .before .before .before .before .before .before .before .before .before .before .before .before .before in
+          start .pre .1 .1 .0,
+      (
+        let start = c .before .before .before .before .before .before .before .before .before .before .before .before .before in
+            start .pre .1 .1 .1 .0,
+        (c .before .before .before .visit2 .ensures .good, search else-inside),
+      ),
+    ),
+  ),
+)
 
 walk-push-requires-3 : (t : ℕ) → walk-lts.Need-push-requires-3 (
   end-of-reads.Asked,
@@ -212,8 +280,11 @@ walk-push-requires-3 : (t : ℕ) → walk-lts.Need-push-requires-3 (
 walk-push-requires-3 t c κs =
     let at-visit3 = c .before .before .before in
     let at-visit2 = at-visit3 .before .before .before .before in
-    let start = at-visit2 .before .before .before .before .before .before .before .before .before .before in
-    (at-visit3 .visit3 .ensures .good .len, last-room (start .args .counts) (start .pre .1 .1 .1 .1 .0) (start .pre .1 .1 .1 .1 .1 .0) (start .pre .1 .1 .1 .1 .1 .1) (at-visit2 .visit2 .ensures) (at-visit3 .visit3 .ensures))
+    let start = at-visit2 .before .before .before .before .before .before .before .before .before .before in (
+      at-visit3 .visit3 .ensures .good .len,
+      last-room (start .args .counts) (start .pre .1 .1 .1 .1 .0) (start .pre .1 .1 .1 .1 .1 .0) (start .pre .1 .1 .1 .1 .1 .1)
+          (at-visit2 .visit2 .ensures) (at-visit3 .visit3 .ensures),
+    )
 
 walk-enum-told-2 : (t : ℕ) → walk-lts.Need-enum-told-2 (
   end-of-reads.Asked,
@@ -234,8 +305,10 @@ walk-push-requires-4 : (t : ℕ) → walk-lts.Need-push-requires-4 (
   visit.Post,
 ) (walk-at t) walk.Post
 walk-push-requires-4 t c κs =
-    let start = c .before .before .before .before .before .before .before .before in
-    (mark-good [] (start .args .counts) (start .pre .1 .1 .1 .1 .0) (start .pre .1 .1 .1 .1 .1 .0) (start .pre .1 .1 .1 .1 .1 .1) .len, mark-room [] (start .args .counts) (start .pre .1 .1 .1 .1 .0) (start .pre .1 .1 .1 .1 .1 .0) (start .pre .1 .1 .1 .1 .1 .1))
+    let start = c .before .before .before .before .before .before .before .before in (
+      mark-good [] (start .args .counts) (start .pre .1 .1 .1 .1 .0) (start .pre .1 .1 .1 .1 .1 .0) (start .pre .1 .1 .1 .1 .1 .1) .len,
+      mark-room [] (start .args .counts) (start .pre .1 .1 .1 .1 .0) (start .pre .1 .1 .1 .1 .1 .0) (start .pre .1 .1 .1 .1 .1 .1),
+    )
 
 walk-same-length : (t : ℕ) → walk-lts.Need-same-length (
   end-of-reads.Asked,

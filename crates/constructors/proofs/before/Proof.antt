@@ -35,12 +35,22 @@ shared-slice-read-d c =
 
 cast-t19 : tie.Need-cast-t19 Inv-loop μ-loop
 cast-t19 c =
-    omega
-    (arith, c .before .before .before .before .before .before .pre .1 .1 .0 .blocks (c .before .before .loop .q - 1) (omega (arith, c .before .before .loop .inv .0 .high)), c .before .before .before .before .before .before .pre .0 .blocks)
+    omega (
+      arith,
+      c .before .before .before .before .before .before .pre .1 .1 .0 .blocks (c .before .before .loop .q - 1)
+          (omega (arith, c .before .before .loop .inv .0 .high)),
+      c .before .before .before .before .before .before .pre .0 .blocks,
+    )
 
 end-of-requires : tie.Need-end-of-requires Inv-loop μ-loop
-end-of-requires c κs =
-    (c .before .before .before .before .before .before .pre .0, (c .before .before .before .before .before .before .pre .1 .0, c .before .before .before .before .before .before .pre .1 .1 .0 .blocks (c .before .before .loop .q - 1) (omega (arith, c .before .before .loop .inv .0 .high))))
+end-of-requires c κs = (
+  c .before .before .before .before .before .before .pre .0,
+  (
+    c .before .before .before .before .before .before .pre .1 .0,
+    c .before .before .before .before .before .before .pre .1 .1 .0 .blocks (c .before .before .loop .q - 1)
+        (omega (arith, c .before .before .loop .inv .0 .high)),
+  ),
+)
 
 leads-requires : tie.Need-leads-requires Inv-loop μ-loop
 leads-requires c κs = search needs
@@ -53,15 +63,22 @@ mul-y c = search needs
 
 shared-slice-read-y : tie.Need-shared-slice-read-y Inv-loop μ-loop
 shared-slice-read-y c =
-    omega
-    (arith, c .before .before .before .before .before .before .before .before .before .before .pre .1 .1 .0 .few, c .before .before .before .before .before .before .before .before .before .before .pre .1 .1 .1 .0, c .before .before .before .before .before .before .loop .inv .0 .high)
+    omega (
+      arith,
+      c .before .before .before .before .before .before .before .before .before .before .pre .1 .1 .0 .few,
+      c .before .before .before .before .before .before .before .before .before .before .pre .1 .1 .1 .0,
+      c .before .before .before .before .before .before .loop .inv .0 .high,
+    )
 
 loop-less : tie.Need-loop-less Inv-loop μ-loop
 loop-less c = search needs
 
 loop-again : tie.Need-loop-again Inv-loop μ-loop
-loop-again c =
-    (meet-more (c .before .before .before .before .before .before .loop .inv .0) (omega arith) (c .before .before .before .end-of .ensures) (c .before .before .leads .ensures) (c .before .if1 .taken), omega arith)
+loop-again c = (
+  meet-more (c .before .before .before .before .before .before .loop .inv .0) (omega arith) (c .before .before .before .end-of .ensures)
+      (c .before .before .leads .ensures) (c .before .if1 .taken),
+  omega arith,
+)
 
 loop-less-2 : tie.Need-loop-less-2 Inv-loop μ-loop
 loop-less-2 c = search needs

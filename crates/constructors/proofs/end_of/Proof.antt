@@ -35,13 +35,27 @@ cast-if1 : tie.Need-cast-if1 Inv-loop μ-loop
 cast-if1 c = search needs
 
 next-insn-requires : tie.Need-next-insn-requires Inv-loop μ-loop
-next-insn-requires c κs =
-    ((c .before .before .before .before .before .before .pre .1 .0 .len, omega (arith, c .before .before .before .before .before .before .pre .0 .insns)), code-next (c .before .before .before .before .before .before .args .chains .now) ((c .before .before .loop .inv _ (c .before .before .before .before .before .before .pre .1 .1) (c .before .before .before .first-insn .ensures)) .rest) (c .before .before .before .before .before .before .pre .0) ((c .before .before .loop .inv _ (c .before .before .before .before .before .before .pre .1 .1) (c .before .before .before .first-insn .ensures)) .cells) (c .if1 .taken))
+next-insn-requires c κs = (
+  (
+    c .before .before .before .before .before .before .pre .1 .0 .len,
+    omega (arith, c .before .before .before .before .before .before .pre .0 .insns),
+  ),
+  let at-loop = c .before .before in
+      let at-first-insn = at-loop .before in
+      let start = at-first-insn .before .before .before in
+      code-next (start .args .chains .now) ((at-loop .loop .inv _ (start .pre .1 .1) (at-first-insn .first-insn .ensures)) .rest)
+      (start .pre .0) ((at-loop .loop .inv _ (start .pre .1 .1) (at-first-insn .first-insn .ensures)) .cells) (c .if1 .taken),
+)
 
 loop-less : tie.Need-loop-less Inv-loop μ-loop
 loop-less c =
-    omega
-    (arith, ending-rises (c .before .before .before .loop .inv _ (c .before .before .before .before .before .before .before .pre .1 .1) (c .before .before .before .before .first-insn .ensures)) (omega arith) (c .next-insn .ensures))
+    omega (
+      arith,
+      ending-rises
+          (c .before .before .before .loop .inv _ (c .before .before .before .before .before .before .before .pre .1 .1)
+          (c .before .before .before .before .first-insn .ensures))
+          (omega arith) (c .next-insn .ensures),
+    )
 
 loop-again : tie.Need-loop-again Inv-loop μ-loop
 loop-again c = λ b g e. ending-more (c .before .before .before .loop .inv b g e) (omega arith) (c .next-insn .ensures)
@@ -58,16 +72,27 @@ ends-from-requires c κs = search needs
 returns : tie.Need-returns Inv-loop μ-loop
 returns c =
     end-some (c .before .before .before .before .before .before .before .before .before .before .pre .1 .0) _
-    (omega (arith, c .before .before .before .before .before .before .before .before .before .before .pre .0 .blocks, c .before .before .before .before .before .before .before .before .before .before .pre .1 .1))
+    (omega (
+      arith,
+      c .before .before .before .before .before .before .before .before .before .before .pre .0 .blocks,
+      c .before .before .before .before .before .before .before .before .before .before .pre .1 .1,
+    ))
     _
-    (ending-done (c .before .before .before .before .before .before .loop .inv _ (c .before .before .before .before .before .before .before .before .before .before .pre .1 .1) (c .before .before .before .before .before .before .before .first-insn .ensures)) (omega arith))
+    (ending-done
+    (c .before .before .before .before .before .before .loop .inv _
+    (c .before .before .before .before .before .before .before .before .before .before .pre .1 .1)
+    (c .before .before .before .before .before .before .before .first-insn .ensures))
+    (omega arith))
     (omega arith) (c .before .read-insn .ensures .row) (c .ends-from .ensures)
 
 returns-2 : tie.Need-returns-2 Inv-loop μ-loop
 returns-2 c =
     end-none (c .before .before .before .before .before .before .before .before .pre .1 .0) _
     (omega (arith, c .before .before .before .before .before .before .before .before .pre .0 .blocks, c .before .before .before .before .before .before .before .before .pre .1 .1)) _
-    (ending-done (c .before .before .before .before .loop .inv _ (c .before .before .before .before .before .before .before .before .pre .1 .1) (c .before .before .before .before .before .first-insn .ensures)) (omega arith))
+    (ending-done
+    (c .before .before .before .before .loop .inv _ (c .before .before .before .before .before .before .before .before .pre .1 .1)
+    (c .before .before .before .before .before .first-insn .ensures))
+    (omega arith))
     (omega arith)
 
 pub end-of-spec : {M : Type 1} → statement M

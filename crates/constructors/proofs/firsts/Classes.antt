@@ -20,6 +20,7 @@ use Rattle.memory.specs.tables.Tables.{listed}
 use Rattle.program.specs.Rows.{ivarsOf}
 use Rattle.program.specs.View.{programView, ProgramReady}
 use Rattle.program.specs.declared.Counts.{Counts}
+use Rattle.memory.specs.Layout.{classesMost, ivarsMost}
 use Rattle.constructors.specs.firsts.Firsts.{FirstsOnly, outcome, FirstIs, allKindsAt, FirstsAre}
 
 -- ---- the rules' loop
@@ -59,13 +60,13 @@ kinds-same u u' t p (suc n) h =
     ap₂ {C = List Kind} (λ l x. l ++ x ∷ []) (kinds-same u u' t p n (λ a l. h a (omega arith))) (let e = h n (omega arith) in ap₂ {C = Kind} kindFrom (e .0) (e .1))
 
 abbrev row : List ℕ → ℕ → ℕ → List ℕ → ℕ → List Kind
-row m tags payloads u k = kindsAt u (tags + 64 * k) (payloads + 64 * k) (ivarsOf m k)
+row m tags payloads u k = kindsAt u (tags + ivarsMost * k) (payloads + ivarsMost * k) (ivarsOf m k)
 
 -- the loop's head: the classes before k have their kinds
 pub record Classes (s m : List ℕ) (c : Counts) (tags payloads : ℕ) (w₀ u₀ w u : List ℕ) (k : ℕ) : Type 0 where
   pub high : k ≤ c .classes
   pub kept : length w ≡ length w₀
-  pub only : FirstsOnly tags payloads 4096 u₀ u
+  pub only : FirstsOnly tags payloads (classesMost * ivarsMost) u₀ u
   pub done : (i : ℕ) → i < k → firstKinds (programView s m c) (0 + i) ≡ answered (row m tags payloads u i)
 
 pub classes-start : (s m : List ℕ) (c : Counts) (tags payloads : ℕ) (w u : List ℕ) → Classes s m c tags payloads w u w u 0
@@ -79,8 +80,8 @@ module _ {s m : List ℕ} {c : Counts} {tags payloads : ℕ} {w₀ u₀ w u : Li
   pub class-below : k < c .classes → k < 64
   class-below h = omega (arith, r .classes)
 
-  module _ (h : k < c .classes) (apart : tags + 4096 ≤ payloads) {u' : List ℕ} {e : ℕ} (f : FirstIs s m c k tags payloads u u' e) where
-    wide : FirstsOnly tags payloads 4096 u₀ u'
+  module _ (h : k < c .classes) (apart : tags + (classesMost * ivarsMost) ≤ payloads) {u' : List ℕ} {e : ℕ} (f : FirstIs s m c k tags payloads u u' e) where
+    wide : FirstsOnly tags payloads (classesMost * ivarsMost) u₀ u'
     wide = record {
       len-same = f .only .len-same ∙ g .only .len-same;
       others = λ i a b. f .only .others i (λ x y. a (omega arith) (omega (arith, class-below h))) (λ x y. b (omega arith) (omega (arith, class-below h))) ∙ g .only .others i a b;

@@ -28,6 +28,7 @@ use Rattle.program.proofs.Tables.{tab-at, tab-ext, tab-length}
 use Rattle.lookups.specs.declared.Constructor.{Constructor}
 use Rattle.lookups.specs.declared.Constructor.the-variants as K
 use Rattle.lookups.specs.Look.{constructorFound, Constructs}
+use Rattle.memory.specs.Layout.{ivarsMost}
 use Rattle.constructors.specs.declared.Sure.{Sure}
 use Rattle.constructors.specs.declared.Sure.the-variants as Q
 use Rattle.constructors.specs.Flows.{holds, ivarIn, FlowTold, sureIn, SureIs, FlowAnalyzed}
@@ -146,11 +147,11 @@ module _ (s m : List ℕ) (c : Counts) (k : ℕ) (h : k < c .classes) where
   unfolding firstKinds
   first-by o e = ap by e
 
-  wider : {t p n bits : ℕ} {u u' : List ℕ} → n ≤ 64 → PutsKinds t p n bits u u' → FirstsOnly t p 64 u u'
+  wider : {t p n bits : ℕ} {u u' : List ℕ} → n ≤ ivarsMost → PutsKinds t p n bits u u' → FirstsOnly t p 64 u u'
   wider few d = record { len-same = d .only .len-same; others = λ i a b. d .only .others i (λ x y. a x (omega arith)) (λ x y. b x (omega arith)) }
 
   module _ {r : Constructor} (few : ivarsOf m k ≤ 64) (co : Constructs s m c k r) where
-    pub first-none : {tags payloads : ℕ} {u u' : List ℕ} → r ≡ K.Nothing → PutsKinds (tags + 64 * k) (payloads + 64 * k) (ivarsOf m k) 0 u u' → FirstIs s m c k tags payloads u u' 0
+    pub first-none : {tags payloads : ℕ} {u u' : List ℕ} → r ≡ K.Nothing → PutsKinds (tags + ivarsMost * k) (payloads + ivarsMost * k) (ivarsOf m k) 0 u u' → FirstIs s m c k tags payloads u u' 0
     first-none q d =
         record {
           is = ap answered (d .here ∙ kinds-by (λ n. false) 0 (λ a l. holds-none a)) ∙ sym (first-by none (sym (co .is) ∙ ap constructorFound q));
@@ -173,17 +174,32 @@ module _ (s m : List ℕ) (c : Counts) (k : ℕ) (h : k < c .classes) where
           record {
             is =
                 sym
-                (found ∙ ap (λ t. cond t (answered (map (λ n. firstKind (programView s m c) (initialized (programView s m c) (reversePostOrder (programView s m c) (entry (programView s m c) (f .0))) n)) (class (programView s m c) k .ivars))) (refused 13)) (told .asked ∙ ap (λ x. has (sureIn x)) e));
+                (found ∙ ap
+                (λ t. cond t
+                (answered (map
+                (λ n. firstKind (programView s m c)
+                (initialized (programView s m c) (reversePostOrder (programView s m c) (entry (programView s m c) (f .0))) n))
+                (class (programView s m c) k .ivars)))
+                (refused 13))
+                (told .asked ∙ ap (λ x. has (sureIn x)) e));
             only = record { len-same = refl; others = λ i a b. refl };
           }
 
-      pub first-some : {tags payloads : ℕ} {u u' : List ℕ} {bits : ℕ} → sure ≡ Q.Set bits → PutsKinds (tags + 64 * k) (payloads + 64 * k) (ivarsOf m k) bits u u' → FirstIs s m c k tags payloads u u' 0
+      pub first-some : {tags payloads : ℕ} {u u' : List ℕ} {bits : ℕ} → sure ≡ Q.Set bits
+          → PutsKinds (tags + ivarsMost * k) (payloads + ivarsMost * k) (ivarsOf m k) bits u u' → FirstIs s m c k tags payloads u u' 0
       first-some {bits = bits} e d =
           record {
             is =
                 ap answered (d .here ∙ kinds-by (initialized (programView s m c) (reversePostOrder (programView s m c) (entry (programView s m c) (f .0)))) bits (told .bits bits (ap sureIn e)))
                 ∙ sym
-                (found ∙ ap (λ t. cond t (answered (map (λ n. firstKind (programView s m c) (initialized (programView s m c) (reversePostOrder (programView s m c) (entry (programView s m c) (f .0))) n)) (class (programView s m c) k .ivars))) (refused 13)) (told .asked ∙ ap (λ x. has (sureIn x)) e));
+                (found ∙ ap
+                (λ t. cond t
+                (answered (map
+                (λ n. firstKind (programView s m c)
+                (initialized (programView s m c) (reversePostOrder (programView s m c) (entry (programView s m c) (f .0))) n))
+                (class (programView s m c) k .ivars)))
+                (refused 13))
+                (told .asked ∙ ap (λ x. has (sureIn x)) e));
             only = wider few d;
           }
 

@@ -1,6 +1,5 @@
 -- A finished reading gives that functions begin at blocks. Assumes nothing.
-use mathlib.Core.Bool.{Bool as 𝔹, true, false, _&&_}
-use mathlib.Core.Path.{_≡_, refl, sym, ap, _∙_}
+use mathlib.Core.Path.{_≡_, sym, ap, _∙_}
 use mathlib.Core.List.{List}
 use Prim.Native.Nat.{ℕ, _≤_, _<_}
 use native.Mathlib.Omega.{arith}
@@ -11,15 +10,12 @@ use Rattle.rules.specs.Lists.{all, toList}
 use Rattle.rules.specs.Program as P
 use Rattle.rules.specs.Program.{entry, function, functionAt}
 use Rattle.rules.specs.Finished.{isBlockOf, goodMethod, goodFunction, Finished}
+use Rattle.rules.proofs.Exactness.Promise.{and-left}
 use Rattle.program.specs.Rows.{funAt, functionIn, blockAt}
 use Rattle.program.specs.View.{programView, functionsOf, blocksOf}
 use Rattle.program.specs.declared.Counts.{Counts}
 use Rattle.program.proofs.Tables.{tab-at, tab-length}
 use Rattle.constructors.specs.firsts.Firsts.{Entries}
-
-and-left : (a b : 𝔹) → (a && b) ≡ true → a ≡ true
-and-left true b e = refl
-and-left false b e = e
 
 module _ (s m : List ℕ) (c : Counts) where
   entry-is : (f : ℕ) → f < c .functions → entry (programView s m c) f ≡ funAt m f .entry .0
@@ -39,7 +35,11 @@ module _ (s m : List ℕ) (c : Counts) where
   entries-of R =
       record {
         inside = λ f h.
-            let good = and-left (isBlockOf (programView s m c) f (entry (programView s m c) f)) (all (goodMethod (programView s m c) f) (toList (function (programView s m c) f .class))) (R .functions f (omega (arith, functions-are))) in
-            let less = ltb-true (entry (programView s m c) f) (length (programView s m c .blocks)) (and-left (ltb (entry (programView s m c) f) (length (programView s m c .blocks))) (eqb (functionAt (programView s m c) (entry (programView s m c) f)) f) good) in
+            let good = and-left (isBlockOf (programView s m c) f (entry (programView s m c) f))
+            (all (goodMethod (programView s m c) f) (toList (function (programView s m c) f .class)))
+            (R .functions f (omega (arith, functions-are))) in
+            let less = ltb-true (entry (programView s m c) f) (length (programView s m c .blocks))
+            (and-left (ltb (entry (programView s m c) f) (length (programView s m c .blocks)))
+            (eqb (functionAt (programView s m c) (entry (programView s m c) f)) f) good) in
             omega (arith, less, entry-is f h, blocks-are);
       }

@@ -55,36 +55,56 @@ mul-same-name c = omega (arith, ivar-room (c .before .before .before .before .be
 
 shared-slice-read-same-name : tie.Need-shared-slice-read-same-name Inv-loop μ-loop
 shared-slice-read-same-name c =
-    omega
-    (arith, ivar-room (c .before .before .before .before .before .before .before .pre .0) (c .before .before .before .before .before .before .before .pre .1) (c .before .before .loop .a) (omega arith) .0)
+    omega (
+      arith,
+      ivar-room (c .before .before .before .before .before .before .before .pre .0)
+          (c .before .before .before .before .before .before .before .pre .1) (c .before .before .loop .a) (omega arith) .0,
+    )
 
 add-same-name : tie.Need-add-same-name Inv-loop μ-loop
 add-same-name c =
-    omega
-    (arith, ivar-room (c .before .before .before .before .before .before .before .pre .0) (c .before .before .before .before .before .before .before .pre .1) (c .before .before .loop .a) (omega arith) .1)
+    omega (
+      arith,
+      ivar-room (c .before .before .before .before .before .before .before .pre .0)
+          (c .before .before .before .before .before .before .before .pre .1) (c .before .before .loop .a) (omega arith) .1,
+    )
 
 mul-same-name-2 : tie.Need-mul-same-name-2 Inv-loop μ-loop
 mul-same-name-2 c =
-    omega
-    (arith, ivar-room (c .before .before .before .before .before .before .before .pre .0) (c .before .before .before .before .before .before .before .pre .1) (c .before .before .loop .a) (omega arith) .1)
+    omega (
+      arith,
+      ivar-room (c .before .before .before .before .before .before .before .pre .0)
+          (c .before .before .before .before .before .before .before .pre .1) (c .before .before .loop .a) (omega arith) .1,
+    )
 
 shared-slice-read-same-name-2 : tie.Need-shared-slice-read-same-name-2 Inv-loop μ-loop
 shared-slice-read-same-name-2 c =
-    omega
-    (arith, ivar-room (c .before .before .before .before .before .before .before .before .pre .0) (c .before .before .before .before .before .before .before .before .pre .1) (c .before .before .before .loop .a) (omega arith) .0)
+    omega (
+      arith,
+      ivar-room (c .before .before .before .before .before .before .before .before .pre .0)
+          (c .before .before .before .before .before .before .before .before .pre .1) (c .before .before .before .loop .a) (omega arith) .0,
+    )
 
 same-name-requires : tie.Need-same-name-requires Inv-loop μ-loop
 same-name-requires c κs = search needs
 
 shl-bit : tie.Need-shl-bit Inv-loop μ-loop
 shl-bit c =
-    omega
-    (arith, ivar-room (c .before .before .before .before .before .before .before .before .before .pre .0) (c .before .before .before .before .before .before .before .before .before .pre .1) (c .before .before .before .before .loop .a) (omega arith) .1)
+    omega (
+      arith,
+      ivar-room (c .before .before .before .before .before .before .before .before .before .pre .0)
+          (c .before .before .before .before .before .before .before .before .before .pre .1) (c .before .before .before .before .loop .a)
+          (omega arith) .1,
+    )
 
 add-a : tie.Need-add-a Inv-loop μ-loop
 add-a c =
-    omega
-    (arith, ivar-room (c .before .before .before .before .before .before .before .before .before .pre .0) (c .before .before .before .before .before .before .before .before .before .pre .1) (c .before .before .before .before .loop .a) (omega arith) .1)
+    omega (
+      arith,
+      ivar-room (c .before .before .before .before .before .before .before .before .before .pre .0)
+          (c .before .before .before .before .before .before .before .before .before .pre .1) (c .before .before .before .before .loop .a)
+          (omega arith) .1,
+    )
 
 loop-less : tie.Need-loop-less Inv-loop μ-loop
 loop-less c = search needs
@@ -92,7 +112,10 @@ loop-less c = search needs
 loop-again : tie.Need-loop-again Inv-loop μ-loop
 loop-again c =
     name-more (c .before .before .before .before .before .loop .inv) (omega arith) (c .before .same-name .ensures)
-    (one-shl 64 (c .before .before .before .before .before .loop .a) (ivar-room (c .before .before .before .before .before .before .before .before .before .before .pre .0) (c .before .before .before .before .before .before .before .before .before .before .pre .1) (c .before .before .before .before .before .loop .a) (omega arith) .1))
+    (one-shl 64 (c .before .before .before .before .before .loop .a) (ivar-room
+    (c .before .before .before .before .before .before .before .before .before .before .pre .0)
+    (c .before .before .before .before .before .before .before .before .before .before .pre .1)
+    (c .before .before .before .before .before .loop .a) (omega arith) .1))
     (c .if1 .taken)
 
 loop-less-2 : tie.Need-loop-less-2 Inv-loop μ-loop

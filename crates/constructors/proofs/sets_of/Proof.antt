@@ -22,8 +22,13 @@ abbrev μ-loop : tie.MeasureT-loop
 μ-loop s m c x k n bits₀ h₀ bits h = n - h .0
 
 first-insn-requires : tie.Need-first-insn-requires Inv-loop μ-loop
-first-insn-requires c κs =
-    ((c .before .before .before .pre .1 .0 .len, omega (arith, c .before .before .before .pre .0 .blocks, c .before .before .before .pre .1 .1 .1)), code-word (c .before .before .before .pre .0) (c .before .before .before .pre .1 .0) (c .before .before .before .pre .1 .1 .1))
+first-insn-requires c κs = (
+  (
+    c .before .before .before .pre .1 .0 .len,
+    omega (arith, c .before .before .before .pre .0 .blocks, c .before .before .before .pre .1 .1 .1),
+  ),
+  code-word (c .before .before .before .pre .0) (c .before .before .before .pre .1 .0) (c .before .before .before .pre .1 .1 .1),
+)
 
 loop-holds : tie.Need-loop-holds Inv-loop μ-loop
 loop-holds c =
@@ -40,8 +45,18 @@ set-name-requires : tie.Need-set-name-requires Inv-loop μ-loop
 set-name-requires c κs = search needs
 
 next-insn-requires : tie.Need-next-insn-requires Inv-loop μ-loop
-next-insn-requires c κs =
-    ((c .before .before .before .before .before .before .before .before .before .pre .1 .0 .len, omega (arith, c .before .before .before .before .before .before .before .before .before .pre .0 .insns)), code-next (c .before .before .before .before .before .before .before .before .before .args .chains .now) ((c .before .before .before .before .loop .inv _ (c .before .before .before .before .before .before .before .before .before .pre .1 .1 .1) (c .before .before .before .before .before .first-insn .ensures)) .rest) (c .before .before .before .before .before .before .before .before .before .pre .0) ((c .before .before .before .before .loop .inv _ (c .before .before .before .before .before .before .before .before .before .pre .1 .1 .1) (c .before .before .before .before .before .first-insn .ensures)) .cells) (c .before .before .if1 .taken))
+next-insn-requires c κs = (
+  (
+    c .before .before .before .before .before .before .before .before .before .pre .1 .0 .len,
+    omega (arith, c .before .before .before .before .before .before .before .before .before .pre .0 .insns),
+  ),
+  let at-if1 = c .before .before in
+      let at-loop = at-if1 .before .before in
+      let at-first-insn = at-loop .before in
+      let start = at-first-insn .before .before .before .before in
+      code-next (start .args .chains .now) ((at-loop .loop .inv _ (start .pre .1 .1 .1) (at-first-insn .first-insn .ensures)) .rest)
+      (start .pre .0) ((at-loop .loop .inv _ (start .pre .1 .1 .1) (at-first-insn .first-insn .ensures)) .cells) (at-if1 .if1 .taken),
+)
 
 enum-known-t : tie.Need-enum-known-t Inv-loop μ-loop
 enum-known-t c = search needs
@@ -54,28 +69,53 @@ named-requires c κs =
 returns : tie.Need-returns Inv-loop μ-loop
 returns c =
     set-stop
-    (c .before .before .before .before .before .before .before .before .before .before .before .loop .inv _ (c .before .before .before .before .before .before .before .before .before .before .before .before .before .before .before .before .pre .1 .1 .1) (c .before .before .before .before .before .before .before .before .before .before .before .before .first-insn .ensures))
+    (c .before .before .before .before .before .before .before .before .before .before .before .loop .inv _
+    (c .before .before .before .before .before .before .before .before .before .before .before .before .before .before .before .before .pre .1 .1 .1)
+    (c .before .before .before .before .before .before .before .before .before .before .before .before .first-insn .ensures))
     (omega arith) (c .before .before .before .before .before .before .before .before .read-insn .ensures .row) (c .before .before .before .before .before .before .before .set-name .ensures)
     (c .before .before .named .ensures) (search needs) (c .if2 .taken)
 
 loop-less : tie.Need-loop-less Inv-loop μ-loop
 loop-less c =
-    omega
-    (arith, set-rises (c .before .before .before .before .before .before .before .before .before .before .before .before .loop .inv _ (c .before .before .before .before .before .before .before .before .before .before .before .before .before .before .before .before .before .pre .1 .1 .1) (c .before .before .before .before .before .before .before .before .before .before .before .before .before .first-insn .ensures)) (omega arith) (c .before .before .before .before .before .before .before .before .before .read-insn .ensures .row) (c .before .before .before .before .before .before .before .before .set-name .ensures) (c .before .before .before .before .before .before .before .next-insn .ensures))
+    omega (
+      arith,
+      set-rises
+          (c .before .before .before .before .before .before .before .before .before .before .before .before .loop .inv _
+          (c .before .before .before .before .before .before .before .before .before .before .before .before .before .before .before .before .before .pre .1 .1 .1)
+          (c .before .before .before .before .before .before .before .before .before .before .before .before .before .first-insn .ensures))
+          (omega arith) (c .before .before .before .before .before .before .before .before .before .read-insn .ensures .row)
+          (c .before .before .before .before .before .before .before .before .set-name .ensures)
+          (c .before .before .before .before .before .before .before .next-insn .ensures),
+    )
 
 loop-again : tie.Need-loop-again Inv-loop μ-loop
-loop-again c = λ b g e. set-more (c .before .before .before .before .before .before .before .before .before .before .before .before .loop .inv b g e) (omega arith) (c .before .before .before .before .before .before .before .before .before .read-insn .ensures .row) (c .before .before .before .before .before .before .before .before .set-name .ensures) (c .before .before .before .named .ensures) (search needs) (c .before .before .before .before .before .before .before .before .before .before .before .before .before .before .before .before .before .pre .0 .ivars _ (c .before .before .before .before .before .before .before .before .before .before .before .before .before .before .before .before .before .pre .1 .1 .0)) (c .before .before .before .before .before .before .before .next-insn .ensures) (c .before .if2 .left)
+loop-again c = λ b g e. set-more (c .before .before .before .before .before .before .before .before .before .before .before .before .loop .inv b g e)
+    (omega arith) (c .before .before .before .before .before .before .before .before .before .read-insn .ensures .row)
+    (c .before .before .before .before .before .before .before .before .set-name .ensures) (c .before .before .before .named .ensures) (search needs)
+    (c .before .before .before .before .before .before .before .before .before .before .before .before .before .before .before .before .before .pre .0 .ivars
+    _
+    (c .before .before .before .before .before .before .before .before .before .before .before .before .before .before .before .before .before .pre .1 .1 .0))
+    (c .before .before .before .before .before .before .before .next-insn .ensures) (c .before .if2 .left)
 
 enum-told : tie.Need-enum-told Inv-loop μ-loop
 enum-told c = search needs
 
 loop-less-2 : tie.Need-loop-less-2 Inv-loop μ-loop
 loop-less-2 c =
-    omega
-    (arith, set-rises (c .before .before .before .before .before .before .before .loop .inv _ (c .before .before .before .before .before .before .before .before .before .before .before .before .pre .1 .1 .1) (c .before .before .before .before .before .before .before .before .first-insn .ensures)) (omega arith) (c .before .before .before .before .read-insn .ensures .row) (c .before .before .before .set-name .ensures) (c .before .before .next-insn .ensures))
+    omega (
+      arith,
+      set-rises
+          (c .before .before .before .before .before .before .before .loop .inv _
+          (c .before .before .before .before .before .before .before .before .before .before .before .before .pre .1 .1 .1)
+          (c .before .before .before .before .before .before .before .before .first-insn .ensures))
+          (omega arith) (c .before .before .before .before .read-insn .ensures .row) (c .before .before .before .set-name .ensures)
+          (c .before .before .next-insn .ensures),
+    )
 
 loop-again-2 : tie.Need-loop-again-2 Inv-loop μ-loop
-loop-again-2 c = λ b g e. set-skip (c .before .before .before .before .before .before .before .loop .inv b g e) (omega arith) (c .before .before .before .before .read-insn .ensures .row) (c .before .before .before .set-name .ensures) (c .before .before .next-insn .ensures) (search needs)
+loop-again-2 c = λ b g e. set-skip (c .before .before .before .before .before .before .before .loop .inv b g e) (omega arith)
+    (c .before .before .before .before .read-insn .ensures .row) (c .before .before .before .set-name .ensures)
+    (c .before .before .next-insn .ensures) (search needs)
 
 returns-2 : tie.Need-returns-2 Inv-loop μ-loop
 returns-2 c = set-done (c .before .before .loop .inv _ (c .before .before .before .before .before .before .before .pre .1 .1 .1) (c .before .before .before .first-insn .ensures)) (omega arith)

@@ -33,33 +33,95 @@ mul-d c = search needs
 
 slice-read-d : tie.Need-slice-read-d Inv-loop μ-loop
 slice-read-d c =
-    omega
-    (arith, c .before .before .before .before .before .before .before .pre .1 .1 .0 .few, c .before .before .before .before .before .before .before .pre .1 .1 .1 .0, c .before .before .loop .inv .len-same, c .before .before .loop .inv .high)
+    omega (
+      arith,
+      c .before .before .before .before .before .before .before .pre .1 .1 .0 .few,
+      c .before .before .before .before .before .before .before .pre .1 .1 .1 .0,
+      c .before .before .loop .inv .len-same,
+      c .before .before .loop .inv .high,
+    )
 
 cast-t23 : tie.Need-cast-t23 Inv-loop μ-loop
 cast-t23 c =
-    omega
-    (arith, (placed-on {w = c .before .before .loop .scratch} (c .before .before .before .before .before .before .before .pre .1 .1 .0) (c .before .before .loop .inv .order)) .blocks (c .before .before .loop .i - 1) (omega (arith, c .before .before .loop .inv .high)), c .before .before .before .before .before .before .before .pre .0 .blocks)
+    omega (
+      arith,
+      (placed-on {w = c .before .before .loop .scratch} (c .before .before .before .before .before .before .before .pre .1 .1 .0)
+          (c .before .before .loop .inv .order)) .blocks
+          (c .before .before .loop .i - 1) (omega (arith, c .before .before .loop .inv .high)),
+      c .before .before .before .before .before .before .before .pre .0 .blocks,
+    )
 
 add-before : tie.Need-add-before Inv-loop μ-loop
 add-before c =
-    omega
-    (arith, c .before .before .before .before .before .before .before .before .pre .1 .1 .0 .few, c .before .before .before .before .before .before .before .before .pre .1 .1 .1 .0, c .before .before .before .loop .inv .len-same, c .before .before .before .loop .inv .high)
+    omega (
+      arith,
+      c .before .before .before .before .before .before .before .before .pre .1 .1 .0 .few,
+      c .before .before .before .before .before .before .before .before .pre .1 .1 .1 .0,
+      c .before .before .before .loop .inv .len-same,
+      c .before .before .before .loop .inv .high,
+    )
 
 before-requires : tie.Need-before-requires Inv-loop μ-loop
-before-requires c κs =
-    (c .before .before .before .before .before .before .before .before .pre .0, (c .before .before .before .before .before .before .before .before .pre .1 .0, (placed-on {w = c .before .before .before .loop .scratch} (c .before .before .before .before .before .before .before .before .pre .1 .1 .0) (c .before .before .before .loop .inv .order), (omega (arith, c .before .before .before .before .before .before .before .before .pre .1 .1 .0 .few, c .before .before .before .before .before .before .before .before .pre .1 .1 .1 .0, c .before .before .before .loop .inv .len-same, c .before .before .before .loop .inv .high), omega (arith, c .before .before .before .before .before .before .before .before .pre .1 .1 .0 .few, c .before .before .before .before .before .before .before .before .pre .1 .1 .1 .0, c .before .before .before .loop .inv .len-same, c .before .before .before .loop .inv .high)))))
+before-requires c κs = (
+  c .before .before .before .before .before .before .before .before .pre .0,
+  (
+    c .before .before .before .before .before .before .before .before .pre .1 .0,
+    (
+      let at-loop = c .before .before .before in
+          let start = at-loop .before .before .before .before .before in
+          placed-on {w = at-loop .loop .scratch} (start .pre .1 .1 .0) (at-loop .loop .inv .order),
+      (
+        omega (
+          arith,
+          c .before .before .before .before .before .before .before .before .pre .1 .1 .0 .few,
+          c .before .before .before .before .before .before .before .before .pre .1 .1 .1 .0,
+          c .before .before .before .loop .inv .len-same,
+          c .before .before .before .loop .inv .high,
+        ),
+        omega (
+          arith,
+          c .before .before .before .before .before .before .before .before .pre .1 .1 .0 .few,
+          c .before .before .before .before .before .before .before .before .pre .1 .1 .1 .0,
+          c .before .before .before .loop .inv .len-same,
+          c .before .before .before .loop .inv .high,
+        ),
+      ),
+    ),
+  ),
+)
 
 end-of-requires : tie.Need-end-of-requires Inv-loop μ-loop
-end-of-requires c κs =
-    (c .before .before .before .before .before .before .before .before .before .pre .0, (c .before .before .before .before .before .before .before .before .before .pre .1 .0, (placed-on {w = c .before .before .before .before .loop .scratch} (c .before .before .before .before .before .before .before .before .before .pre .1 .1 .0) (c .before .before .before .before .loop .inv .order)) .blocks (c .before .before .before .before .loop .i - 1) (omega (arith, c .before .before .before .before .loop .inv .high))))
+end-of-requires c κs = (
+  c .before .before .before .before .before .before .before .before .before .pre .0,
+  (
+    c .before .before .before .before .before .before .before .before .before .pre .1 .0,
+    (placed-on {w = c .before .before .before .before .loop .scratch}
+        (c .before .before .before .before .before .before .before .before .before .pre .1 .1 .0)
+        (c .before .before .before .before .loop .inv .order))
+        .blocks
+        (c .before .before .before .before .loop .i - 1) (omega (arith, c .before .before .before .before .loop .inv .high)),
+  ),
+)
 
 returns-requires : tie.Need-returns-requires Inv-loop μ-loop
 returns-requires c κs = search needs
 
 sets-of-requires : tie.Need-sets-of-requires Inv-loop μ-loop
-sets-of-requires c κs =
-    (c .before .before .before .before .before .before .before .before .before .before .before .pre .0, (c .before .before .before .before .before .before .before .before .before .before .before .pre .1 .0, (c .before .before .before .before .before .before .before .before .before .before .before .pre .1 .1 .1 .1, (placed-on {w = c .before .before .before .before .before .before .loop .scratch} (c .before .before .before .before .before .before .before .before .before .before .before .pre .1 .1 .0) (c .before .before .before .before .before .before .loop .inv .order)) .blocks (c .before .before .before .before .before .before .loop .i - 1) (omega (arith, c .before .before .before .before .before .before .loop .inv .high)))))
+sets-of-requires c κs = (
+  c .before .before .before .before .before .before .before .before .before .before .before .pre .0,
+  (
+    c .before .before .before .before .before .before .before .before .before .before .before .pre .1 .0,
+    (
+      c .before .before .before .before .before .before .before .before .before .before .before .pre .1 .1 .1 .1,
+      (placed-on {w = c .before .before .before .before .before .before .loop .scratch}
+          (c .before .before .before .before .before .before .before .before .before .before .before .pre .1 .1 .0)
+          (c .before .before .before .before .before .before .loop .inv .order))
+          .blocks
+          (c .before .before .before .before .before .before .loop .i - 1)
+          (omega (arith, c .before .before .before .before .before .before .loop .inv .high)),
+    ),
+  ),
+)
 
 enum-told : tie.Need-enum-told Inv-loop μ-loop
 enum-told c = search needs
@@ -77,18 +139,33 @@ enum-known-t c = search needs
 
 add-scratch : tie.Need-add-scratch Inv-loop μ-loop
 add-scratch c =
-    omega
-    (arith, c .before .before .before .before .before .before .before .before .before .before .before .before .before .before .before .pre .1 .1 .0 .few, c .before .before .before .before .before .before .before .before .before .before .before .before .before .before .before .pre .1 .1 .1 .0, c .before .before .before .before .before .before .before .before .before .before .loop .inv .len-same, c .before .before .before .before .before .before .before .before .before .before .loop .inv .high)
+    omega (
+      arith,
+      c .before .before .before .before .before .before .before .before .before .before .before .before .before .before .before .pre .1 .1 .0 .few,
+      c .before .before .before .before .before .before .before .before .before .before .before .before .before .before .before .pre .1 .1 .1 .0,
+      c .before .before .before .before .before .before .before .before .before .before .loop .inv .len-same,
+      c .before .before .before .before .before .before .before .before .before .before .loop .inv .high,
+    )
 
 mul-scratch : tie.Need-mul-scratch Inv-loop μ-loop
 mul-scratch c =
-    omega
-    (arith, c .before .before .before .before .before .before .before .before .before .before .before .before .before .before .before .pre .1 .1 .0 .few, c .before .before .before .before .before .before .before .before .before .before .before .before .before .before .before .pre .1 .1 .1 .0, c .before .before .before .before .before .before .before .before .before .before .loop .inv .len-same, c .before .before .before .before .before .before .before .before .before .before .loop .inv .high)
+    omega (
+      arith,
+      c .before .before .before .before .before .before .before .before .before .before .before .before .before .before .before .pre .1 .1 .0 .few,
+      c .before .before .before .before .before .before .before .before .before .before .before .before .before .before .before .pre .1 .1 .1 .0,
+      c .before .before .before .before .before .before .before .before .before .before .loop .inv .len-same,
+      c .before .before .before .before .before .before .before .before .before .before .loop .inv .high,
+    )
 
 slice-write-scratch : tie.Need-slice-write-scratch Inv-loop μ-loop
 slice-write-scratch c =
-    omega
-    (arith, c .before .before .before .before .before .before .before .before .before .before .before .before .before .before .before .pre .1 .1 .0 .few, c .before .before .before .before .before .before .before .before .before .before .before .before .before .before .before .pre .1 .1 .1 .0, c .before .before .before .before .before .before .before .before .before .before .loop .inv .len-same, c .before .before .before .before .before .before .before .before .before .before .loop .inv .high)
+    omega (
+      arith,
+      c .before .before .before .before .before .before .before .before .before .before .before .before .before .before .before .pre .1 .1 .0 .few,
+      c .before .before .before .before .before .before .before .before .before .before .before .before .before .before .before .pre .1 .1 .1 .0,
+      c .before .before .before .before .before .before .before .before .before .before .loop .inv .len-same,
+      c .before .before .before .before .before .before .before .before .before .before .loop .inv .high,
+    )
 
 loop-less : tie.Need-loop-less Inv-loop μ-loop
 loop-less c = search needs
@@ -97,7 +174,9 @@ loop-again : tie.Need-loop-again Inv-loop μ-loop
 loop-again c =
     pass-back (c .before .before .before .before .before .before .before .before .before .before .before .loop .inv) (omega arith) {t = c .before .before .before .before .sets-of .result}
     (c .before .before .before .before .before .before .before .before .before .before .before .before .before .before .before .before .pre .1 .1 .0 .few)
-    (c .before .before .before .before .before .before .before .before .before .before .before .before .before .before .before .before .pre .0 .ivars _ (c .before .before .before .before .before .before .before .before .before .before .before .before .before .before .before .before .pre .1 .1 .1 .1))
+    (c .before .before .before .before .before .before .before .before .before .before .before .before .before .before .before .before .pre .0 .ivars
+    _
+    (c .before .before .before .before .before .before .before .before .before .before .before .before .before .before .before .before .pre .1 .1 .1 .1))
     (c .before .before .before .before .before .before .before .before .before .before .before .before .before .before .before .before .pre .1 .1 .1 .0)
     (c .before .before .before .before .sets-of .ensures) (c .before .before .t .given .1) (c .before .before .before .before .before .before .before .before2 .ensures)
     (c .before .before .before .before .before .before .end-of .ensures) (c .before .before .before .before .before .returns .ensures) (c .if1 .taken)
@@ -109,7 +188,9 @@ loop-again-2 : tie.Need-loop-again-2 Inv-loop μ-loop
 loop-again-2 c =
     pass-on (c .before .before .before .before .before .before .before .before .before .before .before .loop .inv) (omega arith) {t = c .before .before .before .before .sets-of .result}
     (c .before .before .before .before .before .before .before .before .before .before .before .before .before .before .before .before .pre .1 .1 .0 .few)
-    (c .before .before .before .before .before .before .before .before .before .before .before .before .before .before .before .before .pre .0 .ivars _ (c .before .before .before .before .before .before .before .before .before .before .before .before .before .before .before .before .pre .1 .1 .1 .1))
+    (c .before .before .before .before .before .before .before .before .before .before .before .before .before .before .before .before .pre .0 .ivars
+    _
+    (c .before .before .before .before .before .before .before .before .before .before .before .before .before .before .before .before .pre .1 .1 .1 .1))
     (c .before .before .before .before .before .before .before .before .before .before .before .before .before .before .before .before .pre .1 .1 .1 .0)
     (c .before .before .before .before .sets-of .ensures) (c .before .before .t .given .1) (c .before .before .before .before .before .before .before .before2 .ensures)
     (c .before .before .before .before .before .before .end-of .ensures) (c .before .before .before .before .before .returns .ensures) (c .if1 .left)

@@ -13,8 +13,23 @@ fill-requires c κs = search needs
 walk-requires : tie.Need-walk-requires
 walk-requires c κs =
     let at-fill = c .before .before .before in
-    let start = at-fill .before .before .before .before .before in
-    (start .pre .0, (start .pre .1 .0, (start .pre .1 .1 .0, (clear-good (start .args .counts) (at-fill .fill .ensures) (start .pre .1 .1 .1 .0) (start .pre .0 .blocks), (start .pre .1 .1 .1 .1, clear-word (start .args .counts) (at-fill .fill .ensures) (start .pre .1 .1 .1 .0) (start .pre .0 .blocks) _ (start .pre .1 .1 .1 .1))))))
+    let start = at-fill .before .before .before .before .before in (
+      start .pre .0,
+      (
+        start .pre .1 .0,
+        (
+          start .pre .1 .1 .0,
+          (
+            clear-good (start .args .counts) (at-fill .fill .ensures) (start .pre .1 .1 .1 .0) (start .pre .0 .blocks),
+            (
+              start .pre .1 .1 .1 .1,
+              clear-word (start .args .counts) (at-fill .fill .ensures) (start .pre .1 .1 .1 .0) (start .pre .0 .blocks) _
+                  (start .pre .1 .1 .1 .1),
+            ),
+          ),
+        ),
+      ),
+    )
 
 same-length : tie.Need-same-length
 same-length c = search needs

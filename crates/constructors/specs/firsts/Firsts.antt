@@ -17,6 +17,7 @@ use Rattle.program.specs.Tab.{tab}
 use Rattle.program.specs.Rows.{funAt, ivarsOf}
 use Rattle.program.specs.View.{programView}
 use Rattle.program.specs.declared.Counts.{Counts}
+use Rattle.memory.specs.Layout.{classesMost, ivarsMost}
 use Rattle.constructors.specs.Flows.{holds}
 
 -- nothing for an attribute that is surely set, else Nil
@@ -42,13 +43,13 @@ abbrev pub outcome : {A : Type 0} → ℕ → A → Answer A
 outcome r l = cond (eqb r 0) (answered l) (refused r)
 
 pub record FirstIs (s m : List ℕ) (c : Counts) (k tags payloads : ℕ) (u u' : List ℕ) (r : ℕ) : Type 0 where
-  pub is : outcome r (kindsAt u' (tags + 64 * k) (payloads + 64 * k) (ivarsOf m k)) ≡ firstKinds (programView s m c) k
-  pub only : FirstsOnly (tags + 64 * k) (payloads + 64 * k) 64 u u'
+  pub is : outcome r (kindsAt u' (tags + ivarsMost * k) (payloads + ivarsMost * k) (ivarsOf m k)) ≡ firstKinds (programView s m c) k
+  pub only : FirstsOnly (tags + ivarsMost * k) (payloads + ivarsMost * k) 64 u u'
 
 -- the kinds in the tables of all classes
 abbrev pub allKindsAt : List ℕ → Counts → ℕ → ℕ → List ℕ → List (List Kind)
-allKindsAt m c tags payloads u = listed (c .classes) (λ k. kindsAt u (tags + 64 * k) (payloads + 64 * k) (ivarsOf m k))
+allKindsAt m c tags payloads u = listed (c .classes) (λ k. kindsAt u (tags + ivarsMost * k) (payloads + ivarsMost * k) (ivarsOf m k))
 
 pub record FirstsAre (s m : List ℕ) (c : Counts) (tags payloads : ℕ) (u u' : List ℕ) (r : ℕ) : Type 0 where
   pub is : (L : Limits) → outcome r (allKindsAt m c tags payloads u') ≡ firstKindsFrom L (programView s m c) 0 (c .classes)
-  pub only : FirstsOnly tags payloads 4096 u u'
+  pub only : FirstsOnly tags payloads (classesMost * ivarsMost) u u'

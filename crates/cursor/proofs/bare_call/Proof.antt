@@ -1,4 +1,4 @@
--- `parser::bare_call` meets its contract. Assumes nothing.
+-- `cursor::bare_call` meets its contract. Assumes nothing.
 use Rattle.cursor.proofs.Leaves.{bare-yes, bare-no}
 use borrow.Author.Needs.{needs}
 use Rattle.cursor.proofs.bare_call.Statement.{statement}

@@ -1,4 +1,4 @@
--- `parser::class_in` meets its contract. Assumes nothing.
+-- `cursor::class_in` meets its contract. Assumes nothing.
 use mathlib.Core.Path.{sym, ap}
 use Rattle.rules.specs.Values.{classIn}
 use borrow.Author.Needs.{needs}

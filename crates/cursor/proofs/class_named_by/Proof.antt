@@ -1,4 +1,4 @@
--- `parser::class_named_by` meets its contract. Assumes nothing.
+-- `cursor::class_named_by` meets its contract. Assumes nothing.
 use mathlib.Core.Path.{sym, ap, _∙_}
 use Rattle.program.specs.declared.Opnd.{Opnd}
 use Rattle.program.specs.Rows.{opndOf}

@@ -1,4 +1,4 @@
--- `parser::expect` meets its contract. Assumes nothing.
+-- `cursor::expect` meets its contract. Assumes nothing.
 use Rattle.cursor.proofs.Wording.{expect-yes, expect-not, expect-none}
 use borrow.Author.Needs.{needs}
 use Rattle.cursor.proofs.expect.Statement.{statement}

@@ -1,4 +1,4 @@
--- `parser::expect_ident` meets its contract. Assumes nothing.
+-- `cursor::expect_ident` meets its contract. Assumes nothing.
 use Rattle.cursor.proofs.Wording.{ident-taken, ident-none}
 use borrow.Author.Needs.{needs}
 use Rattle.cursor.proofs.expect_ident.Statement.{statement}

@@ -1,4 +1,4 @@
--- `parser::fun_in` meets its contract. Assumes nothing.
+-- `cursor::fun_in` meets its contract. Assumes nothing.
 use mathlib.Core.Path.{sym, ap}
 use Rattle.rules.specs.Values.{functionIn}
 use borrow.Author.Needs.{needs}

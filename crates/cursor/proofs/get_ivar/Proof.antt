@@ -1,4 +1,4 @@
--- `parser::get_ivar` meets its contract. Assumes nothing.
+-- `cursor::get_ivar` meets its contract. Assumes nothing.
 use Rattle.cursor.proofs.Leaves.{get-yes, get-no}
 use borrow.Author.Needs.{needs}
 use Rattle.cursor.proofs.get_ivar.Statement.{statement}

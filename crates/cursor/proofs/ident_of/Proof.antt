@@ -1,4 +1,4 @@
--- `parser::ident_of` meets its contract. Assumes nothing.
+-- `cursor::ident_of` meets its contract. Assumes nothing.
 use mathlib.Core.Path.{refl}
 use Rattle.cursor.proofs.Wording.{ident-found, ident-other}
 use borrow.Author.Needs.{needs}

@@ -1,4 +1,4 @@
--- `parser::match_sign` meets its contract. Assumes nothing.
+-- `cursor::match_sign` meets its contract. Assumes nothing.
 use Rattle.cursor.proofs.Wording.{sign-yes, sign-not, sign-other, sign-none}
 use borrow.Author.Needs.{needs}
 use Rattle.cursor.proofs.match_sign.Statement.{statement}

@@ -1,4 +1,4 @@
--- `parser::match_word` meets its contract. Assumes nothing.
+-- `cursor::match_word` meets its contract. Assumes nothing.
 use Rattle.cursor.proofs.Wording.{match-yes, match-not, match-none}
 use borrow.Author.Needs.{needs}
 use Rattle.cursor.proofs.match_word.Statement.{statement}

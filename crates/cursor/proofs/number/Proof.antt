@@ -1,4 +1,4 @@
--- `parser::number` meets its contract. Assumes nothing.
+-- `cursor::number` meets its contract. Assumes nothing.
 use Rattle.rules.specs.Program as P
 use Rattle.kinds.specs.declared.Kind.the-variants.{Num}
 use mir.Syntax.{w64}

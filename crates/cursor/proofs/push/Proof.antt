@@ -1,4 +1,4 @@
--- `parser::push` meets its contract. Assumes nothing.
+-- `cursor::push` meets its contract. Assumes nothing.
 use Rattle.cursor.proofs.Leaves.{push-done, push-stops}
 use borrow.Author.Needs.{needs}
 use Rattle.cursor.proofs.push.Statement.{statement}

@@ -1,4 +1,4 @@
--- `parser::push_call` meets its contract. Assumes nothing.
+-- `cursor::push_call` meets its contract. Assumes nothing.
 use Rattle.cursor.proofs.Leaves.{call-done, call-stops}
 use borrow.Author.Needs.{needs}
 use Rattle.cursor.proofs.push_call.Statement.{statement}

@@ -1,4 +1,4 @@
--- `parser::read_attr` meets its contract. Assumes nothing.
+-- `cursor::read_attr` meets its contract. Assumes nothing.
 use Rattle.cursor.proofs.Leaves.{read-yes, read-no}
 use borrow.Author.Needs.{needs}
 use Rattle.cursor.proofs.read_attr.Statement.{statement}

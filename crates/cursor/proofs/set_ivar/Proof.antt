@@ -1,4 +1,4 @@
--- `parser::set_ivar` meets its contract. Assumes nothing.
+-- `cursor::set_ivar` meets its contract. Assumes nothing.
 use Rattle.cursor.proofs.Leaves.{set-yes, set-no}
 use borrow.Author.Needs.{needs}
 use Rattle.cursor.proofs.set_ivar.Statement.{statement}

@@ -1,4 +1,4 @@
--- `parser::suffix_of` meets its contract. Assumes nothing.
+-- `cursor::suffix_of` meets its contract. Assumes nothing.
 use Rattle.cursor.proofs.Leaves.{suffix-1, suffix-2, suffix-3, suffix-4, suffix-5, suffix-6, suffix-7}
 use borrow.Author.Needs.{needs}
 use Rattle.cursor.proofs.suffix_of.Statement.{statement}

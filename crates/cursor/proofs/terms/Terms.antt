@@ -39,6 +39,9 @@ use Rattle.lookups.specs.declared.Constructor.the-variants as Constructor
 use Rattle.phis.specs.Joining.{PhisSets, PhisFinds, varOf}
 use Rattle.phis.specs.declared.Var.{Var}
 use Rattle.phis.specs.declared.Var.the-variants as Var
+use Rattle.memory.specs.Layout.{operandsMost}
+use Rattle.variables.specs.Layout.{entriesMost}
+use Rattle.cursor.specs.Layout.{stackAt}
 use Rattle.cursor.specs.Cursor.{parserOf, waiting, bindCur, In, Open}
 use Rattle.cursor.specs.Steps.{assigns, means}
 use Rattle.cursor.specs.Promises.{Out, done, CursorDid, CursorAdds, Assigns, parsedOf}
@@ -155,7 +158,7 @@ module _ (s m w : List ℕ) (c : Cursor) (n : Name) (h : In s m w c) {b : Bool} 
         pub value-none : z ≡ Var.Unbound → CursorDid (means (nameIn s n)) 0 s m w c m w (parsedOf (Refused 6))
         value-none t = refuses (means-no (nameIn s n) (parserOf s m w c) (as-found (ap varOf t)))
 
-pub var-room : {s m w : List ℕ} {c : Cursor} → In s m w c → (32768 ≤ length w) × (c .vars ≤ 16384)
+pub var-room : {s m w : List ℕ} {c : Cursor} → In s m w c → (stackAt ≤ length w) × (c .vars ≤ entriesMost)
 var-room h = (omega (arith, h .ready .scratch), omega (arith, h .ready .room .law, h .ready .room .script))
 
 pub open-of : {s m w : List ℕ} {c : Cursor} → In s m w c → Open m c
@@ -180,7 +183,7 @@ module _ (L : P.Limits) (s : List ℕ) (m w : List ℕ) (c : Cursor) (k : ClassI
     pub new-here : In s m1 w c1
     new-here = at-new .here
 
-    pub new-args : c .args + n ≤ 8192 → c1 .args + n ≤ 8192
+    pub new-args : c .args + n ≤ operandsMost → c1 .args + n ≤ operandsMost
     new-args l = omega (arith, at-new .step .args)
 
     module _ {q : Constructor} (x : Constructs s m1 (c1 .counts) (k .0) q) where

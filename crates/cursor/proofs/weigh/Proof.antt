@@ -1,4 +1,4 @@
--- `parser::weigh` meets its contract. Assumes nothing.
+-- `cursor::weigh` meets its contract. Assumes nothing.
 use Rattle.cursor.proofs.Leaves.{weigh-weak, weigh-strong}
 use Rattle.cursor.proofs.weigh.Statement.{statement}
 use Rattle.cursor.proofs.weigh.Tie as tie

@@ -55,7 +55,8 @@ add-t22 c =
     let at-loop2 = at-lowest-bit .before .before in
     let start = at-loop2 .before .before .before .before .before .before .before in
     caller-fits64 (start .pre .0) _
-    (caller-inner (start .args .program .now) (start .args .counts) (start .args .sizes) (start .args .state .now) (start .args .f .0) (start .args .n) (at-loop2 .loop2 .inv) (at-lowest-bit .lowest-bit .ensures) (start .pre .1 .1))
+    (caller-inner (start .args .program .now) (start .args .counts) (start .args .sizes) (start .args .state .now) (start .args .f .0)
+    (start .args .n) (at-loop2 .loop2 .inv) (at-lowest-bit .lowest-bit .ensures) (start .pre .1 .1))
 
 cast-t23 : tie.Need-cast-t23 Inv-loop2 μ-loop2 Inv-loop μ-loop
 cast-t23 c =
@@ -63,14 +64,19 @@ cast-t23 c =
     let at-loop2 = at-lowest-bit .before .before in
     let start = at-loop2 .before .before .before .before .before .before .before in
     caller-fits32 (start .pre .0) _
-    (caller-inner (start .args .program .now) (start .args .counts) (start .args .sizes) (start .args .state .now) (start .args .f .0) (start .args .n) (at-loop2 .loop2 .inv) (at-lowest-bit .lowest-bit .ensures) (start .pre .1 .1))
+    (caller-inner (start .args .program .now) (start .args .counts) (start .args .sizes) (start .args .state .now) (start .args .f .0)
+    (start .args .n) (at-loop2 .loop2 .inv) (at-lowest-bit .lowest-bit .ensures) (start .pre .1 .1))
 
 argument-at-requires : tie.Need-argument-at-requires Inv-loop2 μ-loop2 Inv-loop μ-loop
 argument-at-requires c κs =
     let at-lowest-bit = c .before in
     let at-loop2 = at-lowest-bit .before .before in
-    let start = at-loop2 .before .before .before .before .before .before .before in
-    (start .pre .1 .0 .ready, caller-within (start .pre .1 .0) (caller-inner (start .args .program .now) (start .args .counts) (start .args .sizes) (start .args .state .now) (start .args .f .0) (start .args .n) (at-loop2 .loop2 .inv) (at-lowest-bit .lowest-bit .ensures) (start .pre .1 .1)))
+    let start = at-loop2 .before .before .before .before .before .before .before in (
+      start .pre .1 .0 .ready,
+      caller-within (start .pre .1 .0) (caller-inner (start .args .program .now) (start .args .counts) (start .args .sizes)
+          (start .args .state .now) (start .args .f .0) (start .args .n) (at-loop2 .loop2 .inv) (at-lowest-bit .lowest-bit .ensures)
+          (start .pre .1 .1)),
+    )
 
 standing-words-requires : tie.Need-standing-words-requires Inv-loop2 μ-loop2 Inv-loop μ-loop
 standing-words-requires c κs = search needs
@@ -84,8 +90,13 @@ words-of-requires c κs =
     let at-argument-at = at-standing-words .before in
     let at-lowest-bit = at-argument-at .before .before in
     let at-loop2 = at-lowest-bit .before .before in
-    let start = at-loop2 .before .before .before .before .before .before .before in
-    (start .pre .0, words-in (start .args .sizes) (at-standing-words .standing-words .ensures) (caller-argues (start .args .program .now) (start .args .counts) (start .args .sizes) (start .args .state .now) (start .args .f .0) (start .args .n) (at-loop2 .loop2 .inv) (at-lowest-bit .lowest-bit .ensures) (start .pre .1 .0) (at-argument-at .argument-at .ensures .is)))
+    let start = at-loop2 .before .before .before .before .before .before .before in (
+      start .pre .0,
+      words-in (start .args .sizes) (at-standing-words .standing-words .ensures)
+          (caller-argues (start .args .program .now) (start .args .counts) (start .args .sizes) (start .args .state .now) (start .args .f .0)
+          (start .args .n) (at-loop2 .loop2 .inv) (at-lowest-bit .lowest-bit .ensures) (start .pre .1 .0)
+          (at-argument-at .argument-at .ensures .is)),
+    )
 
 as-set-requires : tie.Need-as-set-requires Inv-loop2 μ-loop2 Inv-loop μ-loop
 as-set-requires c κs = search needs

@@ -37,8 +37,11 @@ pass-one-requires : tie.Need-pass-one-requires Inv-loop μ-loop
 pass-one-requires c κs =
     let at-i = c .before .before in
     let at-next-caller = at-i .before .before in
-    let start = at-next-caller .before .before .before .before in
-    (start .pre .0, caller-inside (start .args .state .now) (start .pre .1 .0) (at-next-caller .next-caller .ensures) (start .args .n) (at-i .i .given .0 .0) (at-i .i .given .1) (c .argument .ensures))
+    let start = at-next-caller .before .before .before .before in (
+      start .pre .0,
+      caller-inside (start .args .state .now) (start .pre .1 .0) (at-next-caller .next-caller .ensures) (start .args .n) (at-i .i .given .0 .0)
+          (at-i .i .given .1) (c .argument .ensures),
+    )
 
 add-t13 : tie.Need-add-t13 Inv-loop μ-loop
 add-t13 c =

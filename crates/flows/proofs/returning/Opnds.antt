@@ -21,10 +21,11 @@ use Rattle.program.specs.declared.Row.{Row}
 use Rattle.program.specs.declared.Opnd.{Opnd}
 use Rattle.program.specs.declared.Opnd.the-variants.{Const}
 use Rattle.program.specs.declared.Counts.{Counts}
-use Rattle.program.specs.Rows.{opndOf, opndsAt, opndsIn, opIn, nth}
+use Rattle.program.specs.Rows.{opndOf, opndsIn, opIn, nth}
 use Rattle.program.specs.View.{programView, ReadsInsn}
 use Rattle.program.proofs.Areas.{given-length}
 use Rattle.chains.specs.Chains.{returnsOf}
+use Rattle.program.specs.Layout.{opndsAt}
 use Rattle.flows.specs.Tally.{FitsAt, TallyFits}
 use Rattle.flows.proofs.Sounds.{good-at, operands-good}
 use Rattle.flows.specs.returning.Returning.{Returns, ReturnGives, ReturnSound}

@@ -26,13 +26,15 @@ use Rattle.program.specs.declared.Opnd.{Opnd}
 use Rattle.program.specs.declared.Counts.{Counts}
 use Rattle.program.specs.Rows.{opndOf}
 use Rattle.program.specs.View.{programView}
-use Rattle.memory.proofs.tables.Listed.{listed-length}
 use Rattle.state.specs.declared.Sizes.{Sizes}
 use Rattle.state.specs.View.{kindsOf, calledOf, StateHeld}
 use Rattle.state.specs.View.{stateView}
 use Rattle.chains.specs.Chains.{ChainsChained, at, self, returnsOf, FitsId}
 use Rattle.chains.proofs.Lists.{Starts, chained-none, chained-some, chained-low, chained-high, chained-next}
+use Rattle.state.proofs.Tables.{called-length}
 use Rattle.machine.specs.opnds.Reads.{OperandInside, kindIn, StateReads}
+use Rattle.memory.specs.Layout.{instructionsMost, blocksRoom}
+use Rattle.chains.specs.Layout.{returnsAt, returnLinksAt}
 use Rattle.flows.specs.declared.Pass.{Pass}
 use Rattle.flows.specs.declared.Tally.the-variants.{Nothing}
 use Rattle.flows.specs.Tally.{finish, TallyFits}
@@ -49,41 +51,42 @@ module _ (m : List ℕ) (c : Counts) (x : List ℕ) (Q : List P.Opnd → List P.
     pub low : ℕ
     pub list : List ℕ
     pub opnds : List P.Opnd
-    pub chained : ChainsChained self (at x 7168) (c .insns) low j list
+    pub chained : ChainsChained self (at x returnLinksAt) (c .insns) low j list
     pub gives : ReturnGives (programView s m c) list opnds
     pub same : Q os opnds
 
 -- h is where the chain starts
 pub record Walking (m : List ℕ) (c : Counts) (x : List ℕ) (h : ℕ) (Q : List P.Opnd → List P.Opnd → Type 0) (j : ℕ) : Type 0 where
-  pub left : (s l : List ℕ) (os : List P.Opnd) → ChainsChained self (at x 7168) (c .insns) 0 h l → ReturnGives (programView s m c) l os → Rest m c x Q j s os
+  pub left : (s l : List ℕ) (os : List P.Opnd) → ChainsChained self (at x returnLinksAt) (c .insns) 0 h l → ReturnGives (programView s m c) l os → Rest m c x Q j s os
 
 pub walk-start : (m : List ℕ) (c : Counts) (x : List ℕ) (h : ℕ) (Q : List P.Opnd → List P.Opnd → Type 0) → ((os : List P.Opnd) → Q os os) → Walking m c x h Q h
 walk-start m c x h Q q = record { left = λ s l os d g. record { low = 0; list = l; opnds = os; chained = d; gives = g; same = q os } }
 
-pub back-first : (z : Sizes) {w : List ℕ} (f : ℕ) → StateHeld z w → f < z .functions → f < 1024
+pub back-first : (z : Sizes) {w : List ℕ} (f : ℕ) → StateHeld z w → f < z .functions → f < blocksRoom
 back-first z f g lt = omega arith
 
 -- the head's word fits
-pub back-word : {m : List ℕ} {c : Counts} {z : Sizes} {x w : List ℕ} (f : ℕ) → Backs m c z x → StateHeld z w → f < z .functions → FitsId x (6144 + f)
+pub back-word : {m : List ℕ} {c : Counts} {z : Sizes} {x w : List ℕ} (f : ℕ) → Backs m c z x → StateHeld z w → f < z .functions → FitsId x (returnsAt + f)
 back-word {m} {c} {z} {x} f u v lt =
     let k = u .ready in
-    let r : getD x (6144 + f) 0 ≤ c .insns = chained-high self (at x 7168) (c .insns) 0 (getD x (6144 + f) 0) (returnsOf (programView [] m c) f) (u .index .returning [] f (back-first z f v lt)) in
+    let r : getD x (returnsAt + f) 0 ≤ c .insns = chained-high self (at x returnLinksAt) (c .insns) 0 (getD x (returnsAt + f) 0)
+    (returnsOf (programView [] m c) f) (u .index .returning [] f (back-first z f v lt)) in
     omega arith
 
 module _ {m : List ℕ} {c : Counts} {z : Sizes} {x : List ℕ} (u : Backs m c z x) (w : List ℕ) {h : ℕ} {Q : List P.Opnd → List P.Opnd → Type 0} {j : ℕ}
     (g : Walking m c x h Q j) where
-  pub back-below : j < c .insns → j < 2048
+  pub back-below : j < c .insns → j < instructionsMost
   back-below lt = let r = u .ready in omega arith
 
-  here : {s : List ℕ} {os : List P.Opnd} (a : Rest m c x Q j s os) → j < c .insns → Starts self (at x 7168) (c .insns) j (a .list)
-  here a lt = chained-some self (at x 7168) (c .insns) (a .low) j (a .list) (a .chained) lt
+  here : {s : List ℕ} {os : List P.Opnd} (a : Rest m c x Q j s os) → j < c .insns → Starts self (at x returnLinksAt) (c .insns) j (a .list)
+  here a lt = chained-some self (at x returnLinksAt) (c .insns) (a .low) j (a .list) (a .chained) lt
 
   firsts : {s : List ℕ} {os : List P.Opnd} (a : Rest m c x Q j s os) (lt : j < c .insns) → First (programView s m c) j (here a lt .rest) (a .opnds)
   firsts {s} a lt = gives-first (programView s m c) j (here a lt .rest) (a .opnds) (rw (here a lt .is) at (a .gives))
 
   pub walk-more : {R : List P.Opnd → List P.Opnd → Type 0} {k : ℕ} → j < c .insns
       → ((s : List ℕ) (os : List P.Opnd) (o : P.Opnd) (rest : List P.Opnd) → returned (opOf (programView s m c) j) ≡ some o → Q os (o ∷ rest) → R os rest)
-      → k ≡ getD x (7168 + j) 0 → Walking m c x h R k
+      → k ≡ getD x (returnLinksAt + j) 0 → Walking m c x h R k
   walk-more lt step e = record {
     left = λ s l os d v.
         let a = g .left s l os d v in
@@ -99,7 +102,7 @@ module _ {m : List ℕ} {c : Counts} {z : Sizes} {x : List ℕ} (u : Backs m c z
   }
 
   -- the chain is that of function f
-  module _ (f : ℕ) (v : StateHeld z w) (lf : f < z .functions) (eh : h ≡ getD x (6144 + f) 0) where
+  module _ (f : ℕ) (v : StateHeld z w) (lf : f < z .functions) (eh : h ≡ getD x (returnsAt + f) 0) where
     its : (s : List ℕ) → Rest m c x Q j s (returns (programView s m c) f)
     its s = g .left s (returnsOf (programView s m c) f) (returns (programView s m c) f) (rw eh (u .index .returning s f (back-first z f v lf))) (gives-all (programView s m c) f)
 
@@ -108,24 +111,24 @@ module _ {m : List ℕ} {c : Counts} {z : Sizes} {x : List ℕ} (u : Backs m c z
         let b = firsts (its (u .script)) lt in
         fits-inside z o (rw (r .is (u .script) (b .opnd) (b .told)) (u .sound .fits j (b .opnd) (b .told)))
 
-    pub back-falls : {k : ℕ} → j < c .insns → k ≡ getD x (7168 + j) 0 → c .insns - k < c .insns - j
+    pub back-falls : {k : ℕ} → j < c .insns → k ≡ getD x (returnLinksAt + j) 0 → c .insns - k < c .insns - j
     back-falls lt e =
         let b = here (its []) lt in
-        let r : suc j ≤ getD x (7168 + j) 0 = chained-low self (at x 7168) (c .insns) (suc j) (getD x (7168 + j) 0) (b .rest) (b .onward) (omega arith) in
+        let r : suc j ≤ getD x (returnLinksAt + j) 0 = chained-low self (at x returnLinksAt) (c .insns) (suc j) (getD x (returnLinksAt + j) 0) (b .rest) (b .onward) (omega arith) in
         omega arith
 
     -- the link's word fits
-    pub back-next : j < c .insns → FitsId x (7168 + j)
+    pub back-next : j < c .insns → FitsId x (returnLinksAt + j)
     back-next lt =
         let a = its [] in
         let k = u .ready in
-        let r : getD x (7168 + j) 0 ≤ c .insns = chained-next self (at x 7168) (c .insns) (a .low) j (a .list) (a .chained) lt in
+        let r : getD x (returnLinksAt + j) 0 ≤ c .insns = chained-next self (at x returnLinksAt) (c .insns) (a .low) j (a .list) (a .chained) lt in
         omega arith
 
     pub walk-done : c .insns ≤ j → (s : List ℕ) → Q (returns (programView s m c) f) []
     walk-done le s =
         let a = its s in
-        let e : a .opnds ≡ [] = gives-none (programView s m c) (a .opnds) (rw (chained-none self (at x 7168) (c .insns) (a .low) j (a .list) (a .chained) le) at (a .gives)) in
+        let e : a .opnds ≡ [] = gives-none (programView s m c) (a .opnds) (rw (chained-none self (at x returnLinksAt) (c .insns) (a .low) j (a .list) (a .chained) le) at (a .gives)) in
         subst (Q (returns (programView s m c) f)) e (a .same)
 
 -- ---- pass_returns
@@ -138,19 +141,15 @@ back-start m c x ks y h = walk-start m c x h (λ os rest. (v : Pass) → Passed 
 
 module _ {m : List ℕ} {c : Counts} {z : Sizes} {x : List ℕ} (u : Backs m c z x) (w : List ℕ) {h : ℕ} {y₀ y : Pass} {j : ℕ}
     (g : Backing m c x (kindsOf z w) h y₀ y j) where
-  pub back-more : {o : Opnd} {y' : Pass} {k : ℕ} → j < c .insns → Returns m c j o → Passed (kindsOf z w) (opndOf o ∷ []) y y' → k ≡ getD x (7168 + j) 0
+  pub back-more : {o : Opnd} {y' : Pass} {k : ℕ} → j < c .insns → Returns m c j o → Passed (kindsOf z w) (opndOf o ∷ []) y y' → k ≡ getD x (returnLinksAt + j) 0
       → Backing m c x (kindsOf z w) h y₀ y' k
   back-more {o} {y'} lt r p e =
       walk-more u w g lt (λ s os a rest told q v d. q v (passed-append (kindsOf z w) (a ∷ []) rest y y' v (rw (r .is s a told) at p) d)) e
 
-  pub back-done : (f : ℕ) → StateHeld z w → f < z .functions → h ≡ getD x (6144 + f) 0 → c .insns ≤ j → PassedBack m c z w f y₀ y
+  pub back-done : (f : ℕ) → StateHeld z w → f < z .functions → h ≡ getD x (returnsAt + f) 0 → c .insns ≤ j → PassedBack m c z w f y₀ y
   back-done f v lf eh le = record { passed = λ s. walk-done u w g f v lf eh le s y (passed-none (kindsOf z w) y) }
 
 -- ---- the functions that a call has called
-
-pub called-length : (z : Sizes) (w : List ℕ) → length (calledOf z w) ≡ z .functions
-unfolding calledOf
-called-length z w = listed-length (z .functions) _
 
 back-end : (p : Program) (t : List (List 𝔹)) (i k : ℕ) → length t ≤ k → backFrom p t i k ≡ []
 unfolding backFrom

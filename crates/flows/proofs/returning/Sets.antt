@@ -21,40 +21,40 @@ use Rattle.program.specs.View.{programView, ProgramReady}
 use Rattle.program.proofs.Reading.{insn-read, operand-read}
 use Rattle.state.specs.declared.Sizes.{Sizes}
 use Rattle.state.specs.View.{kindsOf, calledOf, StateHeld}
+use Rattle.state.proofs.Tables.{called-length}
 use Rattle.machine.specs.opnds.Reads.{kindIn, StateReads}
+use Rattle.program.specs.Layout.{insnsAt, opndsAt, insnWords}
+use Rattle.chains.specs.Layout.{returnsAt, returnLinksAt}
 use Rattle.flows.specs.declared.AsSet.{AsSet}
 use Rattle.flows.specs.declared.AsSet.the-variants.{Set}
 use Rattle.flows.specs.Flows.{asSet, joinSets}
-use Rattle.flows.proofs.Callers.{join-step, join-none}
+use Rattle.flows.proofs.Callers.{join-step, join-none, row-range}
 use Rattle.flows.proofs.Sets.{sets-union}
 use Rattle.flows.proofs.Standing.{stands}
 use Rattle.flows.specs.declared.returning.Met.{Met}
 use Rattle.flows.specs.declared.returning.Met.the-variants.{Classes, Other}
 use Rattle.flows.specs.returning.Returning.{callKind, Returns, ReturnsAt, backFrom, Backs, BackIn, NextCalled, JoinsBack, JoinedAll}
 use Rattle.flows.proofs.returning.Opnds.{returned-some}
-use Rattle.flows.proofs.returning.Passes.{Walking, walk-start, walk-more, walk-done, called-length, back-to, back-on, back-skip, back-none, call-union}
+use Rattle.flows.proofs.returning.Passes.{Walking, walk-start, walk-more, walk-done, back-to, back-on, back-skip, back-none, call-union}
 
 -- ---- where a returned operand stands
 
 module _ (m : List ℕ) (c : Counts) (j : ℕ) (r : ProgramReady m c) (below : j < c .insns) where
   abbrev first : ℕ
-  first = getD m (0 + 6 * j + 4) 0
+  first = getD m (insnsAt + insnWords * j + 4) 0
 
   abbrev count : ℕ
-  count = getD m (0 + 6 * j + 5) 0
+  count = getD m (insnsAt + insnWords * j + 5) 0
 
-  row-range : first + count ≤ 12288
-  row-range = let a = insn-read j r below refl .range in let b = r .opnds in let d = r .listed in let e = r .insns in omega arith
+  pub at-fits : (x : ℕ) → x ≤ opndsAt + 2 * first → FitsIn w64 x
+  at-fits x le = record { fits = let a = row-range m c j r below in omega arith }
 
-  pub at-fits : (x : ℕ) → x ≤ 12288 + 2 * first → FitsIn w64 x
-  at-fits x le = record { fits = let a = row-range in omega arith }
-
-  pub return-here : 0 < count → ReturnsAt m c j (12288 + 2 * first)
+  pub return-here : 0 < count → ReturnsAt m c j (opndsAt + 2 * first)
   return-here lt = record {
     is = λ h.
-        let e : 12288 + 2 * first ≡ 12288 + 2 * first + 2 * 0 = omega arith in
-        returned-some m c j (insn-read j r below refl) (operand-read m (12288 + 2 * first) count 0 lt (stands m h ∙ ap (opndAt m) e));
-    inside = let a = row-range in let b = r .len-mem in omega arith;
+        let e : opndsAt + 2 * first ≡ opndsAt + 2 * first + 2 * 0 = omega arith in
+        returned-some m c j (insn-read j r below refl) (operand-read m (opndsAt + 2 * first) count 0 lt (stands m h ∙ ap (opndAt m) e));
+    inside = let a = row-range m c j r below in let b = r .len-mem in omega arith;
   }
 
   pub return-none : ReturnsAt m c j 0
@@ -75,7 +75,7 @@ gather-start m c x ks b s h = walk-start m c x h (Gathers ks b s b s) (λ os. re
 module _ {m : List ℕ} {c : Counts} {z : Sizes} {x : List ℕ} (u : Backs m c z x) (w : List ℕ) {h : ℕ} {b₀ b : 𝔹} {s₀ s : ℕ} {j : ℕ}
     (g : Gathering m c x (kindsOf z w) h b₀ s₀ b s j) where
   pub gather-more : {o : Opnd} {v : Kind} {y : AsSet} {d : 𝔹} {n : ℕ} (t : ℕ) → j < c .insns → Returns m c j o → v ≡ kindIn (kindsOf z w) (opndOf o) → y ≡ asSet v → y ≡ Set t
-      → d ≡ isSet v → n ≡ getD x (7168 + j) 0 → Gathering m c x (kindsOf z w) h b₀ s₀ (b || d) (bitOr s t) n
+      → d ≡ isSet v → n ≡ getD x (returnLinksAt + j) 0 → Gathering m c x (kindsOf z w) h b₀ s₀ (b || d) (bitOr s t) n
   gather-more {v = v} {d = d} t lt r ev ey et ed e =
       walk-more u w g lt
       (λ a os o rest told q.
@@ -87,7 +87,7 @@ module _ {m : List ℕ} {c : Counts} {z : Sizes} {x : List ℕ} (u : Backs m c z
       })
       e
 
-  pub gather-done : (f : ℕ) → StateHeld z w → f < z .functions → h ≡ getD x (6144 + f) 0 → c .insns ≤ j → JoinsBack m c z w f b₀ s₀ (Classes b s)
+  pub gather-done : (f : ℕ) → StateHeld z w → f < z .functions → h ≡ getD x (returnsAt + f) 0 → c .insns ≤ j → JoinsBack m c z w f b₀ s₀ (Classes b s)
   gather-done f v lf eh le = record { joins = λ a. walk-done u w g f v lf eh le a .on }
 
 pub gather-other : (m : List ℕ) (c : Counts) (z : Sizes) (w : List ℕ) (f : ℕ) (b : 𝔹) (s : ℕ) → JoinsBack m c z w f b s Other

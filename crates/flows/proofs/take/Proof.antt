@@ -22,36 +22,50 @@ is-empty-requires c κs = search needs
 
 returns : tie.Need-returns
 returns c =
-    take-void (kindsOf (c .before .before .before .before .before .before .args .sizes) (c .before .before .before .before .before .before .args .state .now))
-    (c .before .before .before .before .before .before .args .a) (c .before .before .before .before .before .before .args .t) (c .before .before .before .before .before .before .args .o)
-    (c .before .before .before .before .before2 .ensures) (c .before .before .kind-of .ensures) (c .before .is-empty .ensures) (c .if2 .taken)
+    let at-is-empty = c .before in
+    let at-kind-of = at-is-empty .before in
+    let at-before2 = at-kind-of .before .before in
+    let start = at-before2 .before .before in
+    take-void (kindsOf (start .args .sizes) (start .args .state .now)) (start .args .a) (start .args .t) (start .args .o)
+    (at-before2 .before2 .ensures) (at-kind-of .kind-of .ensures) (at-is-empty .is-empty .ensures) (c .if2 .taken)
 
 is-any-requires : tie.Need-is-any-requires
 is-any-requires c κs = search needs
 
 returns-2 : tie.Need-returns-2
 returns-2 c =
-    take-any (kindsOf (c .before .before .before .before .before .before .before .before .args .sizes) (c .before .before .before .before .before .before .before .before .args .state .now))
-    (c .before .before .before .before .before .before .before .before .args .a) (c .before .before .before .before .before .before .before .before .args .t)
-    (c .before .before .before .before .before .before .before .before .args .o) (c .before .before .before .before .before .before .before2 .ensures)
-    (c .before .before .before .before .kind-of .ensures) (c .before .before .before .is-empty .ensures) (c .before .is-any .ensures) (c .before .before .if2 .left) (c .if3 .taken)
+    let at-is-any = c .before in
+    let at-if2 = at-is-any .before in
+    let at-is-empty = at-if2 .before in
+    let at-kind-of = at-is-empty .before in
+    let at-before2 = at-kind-of .before .before in
+    let start = at-before2 .before .before in
+    take-any (kindsOf (start .args .sizes) (start .args .state .now)) (start .args .a) (start .args .t) (start .args .o)
+    (at-before2 .before2 .ensures) (at-kind-of .kind-of .ensures) (at-is-empty .is-empty .ensures) (at-is-any .is-any .ensures)
+    (at-if2 .if2 .left) (c .if3 .taken)
 
 add-requires : tie.Need-add-requires
 add-requires c κs = search needs
 
 returns-3 : tie.Need-returns-3
 returns-3 c =
-    take-it
-    (kindsOf (c .before .before .before .before .before .before .before .before .before .args .sizes) (c .before .before .before .before .before .before .before .before .before .args .state .now))
-    (c .before .before .before .before .before .before .before .before .before .args .a) (c .before .before .before .before .before .before .before .before .before .args .t)
-    (c .before .before .before .before .before .before .before .before .before .args .o) (c .before .before .before .before .before .before .before .before2 .ensures)
-    (c .before .before .before .before .before .kind-of .ensures) (c .before .before .before .before .is-empty .ensures) (c .before .before .is-any .ensures)
-    (c .before .before .before .before .before .before .if1 .taken) (c .before .before .before .if2 .left) (c .before .if3 .left) (c .add .ensures)
+    let at-if3 = c .before in
+    let at-is-any = at-if3 .before in
+    let at-if2 = at-is-any .before in
+    let at-is-empty = at-if2 .before in
+    let at-kind-of = at-is-empty .before in
+    let at-if1 = at-kind-of .before in
+    let at-before2 = at-if1 .before in
+    let start = at-before2 .before .before in
+    take-it (kindsOf (start .args .sizes) (start .args .state .now)) (start .args .a) (start .args .t) (start .args .o) (at-before2 .before2 .ensures)
+    (at-kind-of .kind-of .ensures) (at-is-empty .is-empty .ensures) (at-is-any .is-any .ensures) (at-if1 .if1 .taken) (at-if2 .if2 .left)
+    (at-if3 .if3 .left) (c .add .ensures)
 
 returns-4 : tie.Need-returns-4
 returns-4 c =
-    take-none (kindsOf (c .before .before .before .args .sizes) (c .before .before .before .args .state .now)) (c .before .before .before .args .a) (c .before .before .before .args .t)
-    (c .before .before .before .args .o) (c .before .before2 .ensures) (c .if1 .left)
+    let at-before2 = c .before in
+    let start = at-before2 .before .before in
+    take-none (kindsOf (start .args .sizes) (start .args .state .now)) (start .args .a) (start .args .t) (start .args .o) (at-before2 .before2 .ensures) (c .if1 .left)
 
 pub take-spec : {M : Type 1} → statement M
 take-spec =

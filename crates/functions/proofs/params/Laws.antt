@@ -16,7 +16,7 @@ use Rattle.rules.specs.Actions.{Answer, answered, refused, ifAnswered, again, e
 use Rattle.rules.specs.Program as P
 use Rattle.rules.specs.Reading as R
 use Rattle.rules.specs.Reading.{Parser, Reads, withEnv, withSelf, bind, push, pushInsn, parseParam, turns, pushParams, pushSelf, newFun}
-use Rattle.variables.specs.scopes.Made.{envOf}
+use Rattle.variables.specs.Scopes.{envOf}
 use Rattle.variables.specs.Memory.{entry, made, vars, Kept}
 use Rattle.variables.proofs.Entries.{made-move, kept-all, kept-trans, kept-part}
 use Rattle.phis.specs.Joining.{PhisSets}
@@ -38,7 +38,7 @@ use Rattle.program.specs.declared.Op.the-variants as Op
 use Rattle.program.specs.declared.Opnd.the-variants.{Insn}
 use Rattle.program.specs.declared.Owner.{Owner}
 use Rattle.program.specs.declared.Owner.the-variants as Owner
-use Rattle.cursor.specs.Cursor.{parserOf, stackAt, size, moveCur, countCur, stackCur, bindCur}
+use Rattle.cursor.specs.Cursor.{parserOf, moveCur, countCur, stackCur, bindCur}
 use Rattle.cursor.specs.Promises.{Out, done, stop, outcome, Sees, Idents, CursorMatches, movedOf, identOf, matchedOf}
 use Rattle.cursor.specs.declared.Cursor.{Cursor}
 use Rattle.cursor.specs.declared.Ident.{Ident}
@@ -50,6 +50,10 @@ use Rattle.cursor.specs.declared.Moved.the-variants.{On, Refused}
 use Rattle.cursor.specs.declared.SelfAt.{SelfAt}
 use Rattle.cursor.specs.declared.SelfAt.the-variants as SelfAt
 use Rattle.cursor.proofs.Wording.{spelt-close, spelt-comma, is-yes, is-no, word-read, peek-found, peek-none}
+use Rattle.cursor.proofs.Laws.{ident-on}
+use Rattle.memory.specs.Layout.{operandsMost}
+use Rattle.variables.specs.Layout.{bindingsMost, entriesMost}
+use Rattle.cursor.specs.Layout.{stackAt, scratchSize}
 use Rattle.functions.specs.declared.params.OpenedFun.{OpenedFun}
 use Rattle.functions.specs.declared.params.OpenedFun.the-variants as OpenedFun
 use Rattle.functions.specs.params.Names.{nameAt, namesFrom, namesIn, Lie, paramOf}
@@ -58,7 +62,7 @@ use Rattle.functions.specs.params.Promises.{PushesSelf, Entered, Funs}
 
 -- ---- names
 
-pub name-put : {w w' : List ℕ} {c r : Cursor} {n : Name} → size ≤ length w → c .args < 8192
+pub name-put : {w w' : List ℕ} {c r : Cursor} {n : Name} → scratchSize ≤ length w → c .args < operandsMost
     → w' ≡ set (set w (stackAt + 2 * c .args) (n .start)) (stackAt + 2 * c .args + 1) (n .len) → r ≡ stackCur (c .args + 1) c → PutsName w c n w' r
 name-put {w} {w'} {c} {r} {n} h l e f =
     let at = stackAt + 2 * c .args in
@@ -80,9 +84,9 @@ unfolding namesFrom
 names-same s w w' k zero h = refl
 names-same s w w' k (suc n) h = rw (h k (omega arith) (omega arith), names-same s w w' (suc k) n (λ i a b. h i (omega arith) (omega arith)))
 
-low-vars : (s w w' : List ℕ) (n : ℕ) → n ≤ 16384 → ((i : ℕ) → i < stackAt → getD w' i 0 ≡ getD w i 0) → vars s w' n ≡ vars s w n
+low-vars : (s w w' : List ℕ) (n : ℕ) → n ≤ entriesMost → ((i : ℕ) → i < stackAt → getD w' i 0 ≡ getD w i 0) → vars s w' n ≡ vars s w n
 unfolding entry
-low-vars s w w' n l h = ap envOf (made-move s w w' 0 0 n (λ i a. rw (h (0 + i) (omega arith), h (16384 + (0 + i)) (omega arith))))
+low-vars s w w' n l h = ap envOf (made-move s w w' 0 0 n (λ i a. rw (h (0 + i) (omega arith), h (entriesMost + (0 + i)) (omega arith))))
 
 module _ {w w' : List ℕ} {c r : Cursor} {n : Name} (p : PutsName w c n w' r) (s : List ℕ) where
   put-names : namesIn s w' (c .args + 1) ≡ namesIn s w (c .args) ++ nameIn s n ∷ []
@@ -197,21 +201,18 @@ module _ {s w₀ : List ℕ} {c₀ : Cursor} {w : List ℕ} {c : Cursor} (i : Na
       naming-bad g = record { is = λ L m. rw (← turn-bad L s m w c (namesIn s w (c .args)) v f k d g) at (next L m .1 .1); ok = tt }
 
       module _ {c1 : Cursor} {n : Name} (g : u ≡ Ident.Found c1 n) where
-        went : (c1 ≡ moveCur (c1 .at) c) × ((c .at + 1 ≤ c1 .at) × (c .at ≤ length s → c1 .at ≤ length s))
-        went = let h = rw g at (d .moves .ok) in h
-
         went-args : c1 .args ≡ c .args
-        went-args = ap (λ (z : Cursor). z .args) (went .0)
+        went-args = ap (λ (z : Cursor). z .args) (ident-on d g .0)
 
-        pub naming-room : (size ≤ length w) × (c1 .args < 8192)
-        naming-room = (omega (arith, i .long, i .head .scratch), omega (arith, went-args, went .1 .0, went .1 .1 (i .inside), i .on, i .head .script))
+        pub naming-room : (scratchSize ≤ length w) × (c1 .args < operandsMost)
+        naming-room = (omega (arith, i .long, i .head .scratch), omega (arith, went-args, ident-on d g .1 .0, ident-on d g .1 .1 (i .inside), i .on, i .head .script))
 
         module _ {w' : List ℕ} {c2 : Cursor} (p : PutsName w c1 n w' c2) where
           pub naming-at : c2 .at ≡ c1 .at
           naming-at = ap (λ (z : Cursor). z .at) (p .cur)
 
           put-cur : c2 ≡ stackCur (c .args + 1) (moveCur (c1 .at) c)
-          put-cur = p .cur ∙ (ap (λ (z : Cursor). stackCur (c1 .args + 1) z) (went .0) ∙ ap (λ j. stackCur (j + 1) (moveCur (c1 .at) c)) went-args)
+          put-cur = p .cur ∙ (ap (λ (z : Cursor). stackCur (c1 .args + 1) z) (ident-on d g .0) ∙ ap (λ j. stackCur (j + 1) (moveCur (c1 .at) c)) went-args)
 
           put-args : c2 .args ≡ c .args + 1
           put-args = ap (λ (z : Cursor). z .args) put-cur
@@ -219,7 +220,7 @@ module _ {s w₀ : List ℕ} {c₀ : Cursor} {w : List ℕ} {c : Cursor} (i : Na
           same-parser : (m : List ℕ) → parserOf s m w' c2 ≡ parserOf s m w c1
           unfolding parserOf
           same-parser m =
-              let z : c1 .vars ≤ 16384 = omega (arith, ap (λ (y : Cursor). y .vars) (went .0), ap (λ (y : Cursor). y .vars) (i .cur), i .head .vars) in
+              let z : c1 .vars ≤ entriesMost = omega (arith, ap (λ (y : Cursor). y .vars) (ident-on d g .0), ap (λ (y : Cursor). y .vars) (i .cur), i .head .vars) in
               rw (p .cur, low-vars s w w' (c1 .vars) z (put-low p s))
 
           names : namesIn s w' (c2 .args) ≡ namesIn s w (c .args) ++ nameIn s n ∷ []
@@ -247,9 +248,9 @@ module _ {s w₀ : List ℕ} {c₀ : Cursor} {w : List ℕ} {c : Cursor} (i : Na
                   is = λ L m. ap (λ l. answered (l, parserOf s m w' c2)) names ∙ rw (← turn-last L s m w c (namesIn s w (c .args)) v f k d g w' (same-parser m) b j) at (next L m .1 .1);
                   ok = record {
                     cur = whole-cur;
-                    on = omega (arith, i .on, put-args, naming-at, went .1 .0);
-                    further = omega (arith, i .on, naming-at, went .1 .0);
-                    inside = omega (arith, naming-at, went .1 .1 (i .inside));
+                    on = omega (arith, i .on, put-args, naming-at, ident-on d g .1 .0);
+                    further = omega (arith, i .on, naming-at, ident-on d g .1 .0);
+                    inside = omega (arith, naming-at, ident-on d g .1 .1 (i .inside));
                     lies = now-lies;
                     low = now-low;
                     long = p .long ∙ i .long;
@@ -264,7 +265,7 @@ module _ {s w₀ : List ℕ} {c₀ : Cursor} {w : List ℕ} {c : Cursor} (i : Na
               moved-args = ap (λ (z : Cursor). z .args) (moved .0)
 
               pub naming-less : length s - c3 .at < length s - c .at
-              naming-less = omega (arith, b .further c3 j, naming-at, went .1 .0, went .1 .1 (i .inside))
+              naming-less = omega (arith, b .further c3 j, naming-at, ident-on d g .1 .0, ident-on d g .1 .1 (i .inside))
 
               pub naming-on : Naming s w₀ c₀ w' c3
               naming-on =
@@ -275,11 +276,11 @@ module _ {s w₀ : List ℕ} {c₀ : Cursor} {w : List ℕ} {c : Cursor} (i : Na
                         ap (λ l. loop (parseParam L s) (i .count - 1) l (parserOf s m w' c3)) (ap (λ y. namesIn s w' y) moved-args ∙ names)
                         ∙ (ap (λ y. loop (parseParam L s) y (namesIn s w (c .args) ++ nameIn s n ∷ []) (parserOf s m w' c3)) z
                         ∙ rw (← turn-more L s m w c (namesIn s w (c .args)) v f k d g w' (same-parser m) b j) at (next L m .1 .1));
-                    enough = omega (arith, i .enough, b .further c3 j, naming-at, went .1 .0);
+                    enough = omega (arith, i .enough, b .further c3 j, naming-at, ident-on d g .1 .0);
                     head = i .head;
                     cur = moved .0 ∙ (ap (λ (z : Cursor). moveCur (c3 .at) z) whole-cur ∙ ap (λ y. stackCur y (moveCur (c3 .at) c₀)) (sym moved-args));
-                    on = omega (arith, i .on, put-args, moved-args, b .further c3 j, naming-at, went .1 .0);
-                    inside = moved .1 .1 (omega (arith, naming-at, went .1 .1 (i .inside)));
+                    on = omega (arith, i .on, put-args, moved-args, b .further c3 j, naming-at, ident-on d g .1 .0);
+                    inside = moved .1 .1 (omega (arith, naming-at, ident-on d g .1 .1 (i .inside)));
                     lies = rw moved-args now-lies;
                     low = now-low;
                     long = p .long ∙ i .long;
@@ -288,7 +289,8 @@ module _ {s w₀ : List ℕ} {c₀ : Cursor} {w : List ℕ} {c : Cursor} (i : Na
 -- ---- parameters
 
 module _ (l : Limits) (k : ℕ) {m w : List ℕ} {c : Cursor} (g : ParamsRoom k m w c) {m' : List ℕ} {x : NewInsn}
-    (a : View.ProgramDid (View.pushOf (View.limitsOf l) (c .block .0) (Op.Param k) []) View.unchanged (c .counts .insns) (View.moreInsns (Op.Param k) 0 (c .counts)) m (c .counts) m' (View.insnOf x)) where
+    (a : View.ProgramDid (View.pushOf (View.limitsOf l) (c .block .0) (Op.Param k) []) View.unchanged (c .counts .insns)
+    (View.moreInsns (Op.Param k) 0 (c .counts)) m (c .counts) m' (View.insnOf x)) where
   pub param-no : {e : ℕ} → x ≡ I.Refused e → PushesParam l k m w c m' w (Refused e)
   unfolding paramOf push parserOf
   param-no o = record { is = λ s. let h = rw o at (a .is s (parserOf s m w c)) in rw (← h); ok = tt }
@@ -358,7 +360,7 @@ binding-start l m w c f =
         classes = refl;
         blocks = refl;
         low = kept-all 0 (c .vars) w;
-        rows = kept-all 8192 16384 w;
+        rows = kept-all bindingsMost entriesMost w;
         long = refl;
       };
       long = refl;
@@ -444,7 +446,8 @@ module _ (l : Limits) {m : List ℕ} {c : Cursor} where
       }
 
   module _ {k : ClassId} (e : c .class ≡ Owner.Class k) {m' : List ℕ} {x : NewInsn}
-      (a : View.ProgramDid (View.pushOf (View.limitsOf l) (c .block .0) (Op.SelfParam k) []) View.unchanged (c .counts .insns) (View.moreInsns (Op.SelfParam k) 0 (c .counts)) m (c .counts) m' (View.insnOf x)) where
+      (a : View.ProgramDid (View.pushOf (View.limitsOf l) (c .block .0) (Op.SelfParam k) []) View.unchanged (c .counts .insns)
+      (View.moreInsns (Op.SelfParam k) 0 (c .counts)) m (c .counts) m' (View.insnOf x)) where
     pub self-no : {n : ℕ} → x ≡ I.Refused n → PushesSelf l m c m' (Refused n)
     unfolding pushSelf parserOf
     self-no o =

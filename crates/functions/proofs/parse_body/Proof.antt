@@ -34,8 +34,15 @@ end-block-requires c κs =
     let at-parse-statements = at-c2 .before .before .before .before .before .before in
     let at-c1 = at-parse-statements .before .before .before .before in
     let at-open-body = at-c1 .before .before .before .before .before .before in
-    let start = at-open-body .before .before .before .before .before .before in
-    (body-in2 (start .pre .0) (at-open-body .open-body .ensures) (at-c1 .c1 .given .1) (at-parse-statements .parse-statements .ensures) (at-c2 .c2 .given .1) .ready .tables, (start .pre .1, body-in2 (start .pre .0) (at-open-body .open-body .ensures) (at-c1 .c1 .given .1) (at-parse-statements .parse-statements .ensures) (at-c2 .c2 .given .1) .block))
+    let start = at-open-body .before .before .before .before .before .before in (
+      body-in2 (start .pre .0) (at-open-body .open-body .ensures) (at-c1 .c1 .given .1) (at-parse-statements .parse-statements .ensures)
+          (at-c2 .c2 .given .1) .ready .tables,
+      (
+        start .pre .1,
+        body-in2 (start .pre .0) (at-open-body .open-body .ensures) (at-c1 .c1 .given .1) (at-parse-statements .parse-statements .ensures)
+            (at-c2 .c2 .given .1) .block,
+      ),
+    )
 
 enum-known-e-3 : tie.Need-enum-known-e-3
 enum-known-e-3 c = search needs

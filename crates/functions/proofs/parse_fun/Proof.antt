@@ -1,5 +1,5 @@
 use mathlib.Core.Path.{_∙_}
-use Rattle.functions.proofs.Laws.{fun-no, fun-tables, fun-no2, fun-no3, fun-head, fun-no4, fun-no5, fun-begun, fun-no6, fun-yes, fun-known}
+use Rattle.functions.proofs.Laws.{fun-no, ident-tables, fun-no2, fun-no3, fun-head, fun-no4, fun-no5, fun-begun, fun-no6, fun-yes, fun-known}
 use borrow.Author.Needs.{needs}
 use Rattle.functions.proofs.parse_fun.Statement.{statement}
 use Rattle.functions.proofs.parse_fun.Tie as tie
@@ -18,7 +18,7 @@ new-fun-requires c κs =
     let at-c1 = c .before .before in
     let at-expect-ident = at-c1 .before .before in
     let start = at-expect-ident .before .before .before .before in
-    (fun-tables (start .args .limits) (start .pre .0) (at-expect-ident .expect-ident .ensures) (at-c1 .c1 .given .1), start .pre .1)
+    (ident-tables (start .args .limits) (start .pre .0) (at-expect-ident .expect-ident .ensures) (at-c1 .c1 .given .1), start .pre .1)
 
 enum-known-e-2 : tie.Need-enum-known-e-2
 enum-known-e-2 c = search needs
@@ -74,8 +74,12 @@ parse-body-requires c κs =
     let at-new-fun = at-c2 .before .before .before .before in
     let at-c1 = at-new-fun .before .before .before in
     let at-expect-ident = at-c1 .before .before in
-    let start = at-expect-ident .before .before .before .before in
-    (fun-begun (start .args .limits) (start .pre .0) (at-expect-ident .expect-ident .ensures) (at-c1 .c1 .given .1) (at-new-fun .new-fun .ensures) (at-c2 .c2 .given .1) (at-expect .expect .ensures) (at-c3 .c3 .given .1) (at-parse-params .parse-params .ensures) (at-c4 .c4 .given .1) (at-expect2 .expect2 .ensures) (at-c5 .c5 .given .1), start .pre .1)
+    let start = at-expect-ident .before .before .before .before in (
+      fun-begun (start .args .limits) (start .pre .0) (at-expect-ident .expect-ident .ensures) (at-c1 .c1 .given .1)
+          (at-new-fun .new-fun .ensures) (at-c2 .c2 .given .1) (at-expect .expect .ensures) (at-c3 .c3 .given .1)
+          (at-parse-params .parse-params .ensures) (at-c4 .c4 .given .1) (at-expect2 .expect2 .ensures) (at-c5 .c5 .given .1),
+      start .pre .1,
+    )
 
 enum-known-e-6 : tie.Need-enum-known-e-6
 enum-known-e-6 c = search needs
@@ -118,7 +122,11 @@ returns-3 c =
     let at-c1 = at-new-fun .before .before .before in
     let at-expect-ident = at-c1 .before .before in
     let start = at-expect-ident .before .before .before .before in
-    record { takes = fun-no3 (start .args .limits) (start .pre .0) (at-expect-ident .expect-ident .ensures) (at-c1 .c1 .given .1) (at-new-fun .new-fun .ensures) (at-c2 .c2 .given .1) (at-expect .expect .ensures) (at-e3 .e3 .given .1); known = tt }
+    record {
+      takes = fun-no3 (start .args .limits) (start .pre .0) (at-expect-ident .expect-ident .ensures) (at-c1 .c1 .given .1)
+          (at-new-fun .new-fun .ensures) (at-c2 .c2 .given .1) (at-expect .expect .ensures) (at-e3 .e3 .given .1);
+      known = tt;
+    }
 
 same-length-3 : tie.Need-same-length-3
 same-length-3 c =
@@ -141,7 +149,12 @@ returns-4 c =
     let at-c1 = at-new-fun .before .before .before in
     let at-expect-ident = at-c1 .before .before in
     let start = at-expect-ident .before .before .before .before in
-    record { takes = fun-no4 (start .args .limits) (start .pre .0) (at-expect-ident .expect-ident .ensures) (at-c1 .c1 .given .1) (at-new-fun .new-fun .ensures) (at-c2 .c2 .given .1) (at-expect .expect .ensures) (at-c3 .c3 .given .1) (at-parse-params .parse-params .ensures) (at-e4 .e4 .given .1); known = tt }
+    record {
+      takes = fun-no4 (start .args .limits) (start .pre .0) (at-expect-ident .expect-ident .ensures) (at-c1 .c1 .given .1)
+          (at-new-fun .new-fun .ensures) (at-c2 .c2 .given .1) (at-expect .expect .ensures) (at-c3 .c3 .given .1)
+          (at-parse-params .parse-params .ensures) (at-e4 .e4 .given .1);
+      known = tt;
+    }
 
 same-length-5 : tie.Need-same-length-5
 same-length-5 c =
@@ -166,12 +179,18 @@ returns-5 c =
     let at-c1 = at-new-fun .before .before .before in
     let at-expect-ident = at-c1 .before .before in
     let start = at-expect-ident .before .before .before .before in
-    record { takes = fun-no5 (start .args .limits) (start .pre .0) (at-expect-ident .expect-ident .ensures) (at-c1 .c1 .given .1) (at-new-fun .new-fun .ensures) (at-c2 .c2 .given .1) (at-expect .expect .ensures) (at-c3 .c3 .given .1) (at-parse-params .parse-params .ensures) (at-c4 .c4 .given .1) (at-expect2 .expect2 .ensures) (at-e5 .e5 .given .1); known = tt }
+    record {
+      takes = fun-no5 (start .args .limits) (start .pre .0) (at-expect-ident .expect-ident .ensures) (at-c1 .c1 .given .1)
+          (at-new-fun .new-fun .ensures) (at-c2 .c2 .given .1) (at-expect .expect .ensures) (at-c3 .c3 .given .1)
+          (at-parse-params .parse-params .ensures) (at-c4 .c4 .given .1) (at-expect2 .expect2 .ensures) (at-e5 .e5 .given .1);
+      known = tt;
+    }
 
 same-length-7 : tie.Need-same-length-7
 same-length-7 c =
     let at-parse-body = c .before .before .before .before .before .before .before in
-    let at-new-fun = at-parse-body .before .before .before .before .before .before .before .before .before .before .before .before .before .before .before .before .before .before .before .before .before .before .before in
+    let at-new-fun = at-parse-body .before .before .before .before .before .before .before .before .before .before .before .before .before .before
+    .before .before .before .before .before .before .before .before .before in
     at-parse-body .parse-body .kept .1 .0 ∙ at-new-fun .new-fun .kept .0
 
 same-length-8 : tie.Need-same-length-8
@@ -195,12 +214,19 @@ returns-6 c =
     let at-c1 = at-new-fun .before .before .before in
     let at-expect-ident = at-c1 .before .before in
     let start = at-expect-ident .before .before .before .before in
-    record { takes = fun-no6 (start .args .limits) (start .pre .0) (at-expect-ident .expect-ident .ensures) (at-c1 .c1 .given .1) (at-new-fun .new-fun .ensures) (at-c2 .c2 .given .1) (at-expect .expect .ensures) (at-c3 .c3 .given .1) (at-parse-params .parse-params .ensures) (at-c4 .c4 .given .1) (at-expect2 .expect2 .ensures) (at-c5 .c5 .given .1) (at-parse-body .parse-body .ensures) (at-e6 .e6 .given .1); known = tt }
+    record {
+      takes = fun-no6 (start .args .limits) (start .pre .0) (at-expect-ident .expect-ident .ensures) (at-c1 .c1 .given .1)
+          (at-new-fun .new-fun .ensures) (at-c2 .c2 .given .1) (at-expect .expect .ensures) (at-c3 .c3 .given .1)
+          (at-parse-params .parse-params .ensures) (at-c4 .c4 .given .1) (at-expect2 .expect2 .ensures) (at-c5 .c5 .given .1)
+          (at-parse-body .parse-body .ensures) (at-e6 .e6 .given .1);
+      known = tt;
+    }
 
 same-length-9 : tie.Need-same-length-9
 same-length-9 c =
     let at-parse-body = c .before .before .before .before .before .before .before in
-    let at-new-fun = at-parse-body .before .before .before .before .before .before .before .before .before .before .before .before .before .before .before .before .before .before .before .before .before .before .before in
+    let at-new-fun = at-parse-body .before .before .before .before .before .before .before .before .before .before .before .before .before .before
+    .before .before .before .before .before .before .before .before .before in
     at-parse-body .parse-body .kept .1 .0 ∙ at-new-fun .new-fun .kept .0
 
 same-length-10 : tie.Need-same-length-10
@@ -224,7 +250,16 @@ returns-7 c =
     let at-c1 = at-new-fun .before .before .before in
     let at-expect-ident = at-c1 .before .before in
     let start = at-expect-ident .before .before .before .before in
-    record { takes = fun-yes (start .args .limits) (start .pre .0) (at-expect-ident .expect-ident .ensures) (at-c1 .c1 .given .1) (at-new-fun .new-fun .ensures) (at-c2 .c2 .given .1) (at-expect .expect .ensures) (at-c3 .c3 .given .1) (at-parse-params .parse-params .ensures) (at-c4 .c4 .given .1) (at-expect2 .expect2 .ensures) (at-c5 .c5 .given .1) (at-parse-body .parse-body .ensures) (at-c6 .c6 .given .1); known = fun-known (start .args .limits) (start .pre .0) (at-expect-ident .expect-ident .ensures) (at-c1 .c1 .given .1) (at-new-fun .new-fun .ensures) (at-c2 .c2 .given .1) (at-expect .expect .ensures) (at-c3 .c3 .given .1) (at-parse-params .parse-params .ensures) (at-c4 .c4 .given .1) (at-expect2 .expect2 .ensures) (at-c5 .c5 .given .1) (at-parse-body .parse-body .ensures) (at-c6 .c6 .given .1) }
+    record {
+      takes = fun-yes (start .args .limits) (start .pre .0) (at-expect-ident .expect-ident .ensures) (at-c1 .c1 .given .1)
+          (at-new-fun .new-fun .ensures) (at-c2 .c2 .given .1) (at-expect .expect .ensures) (at-c3 .c3 .given .1)
+          (at-parse-params .parse-params .ensures) (at-c4 .c4 .given .1) (at-expect2 .expect2 .ensures) (at-c5 .c5 .given .1)
+          (at-parse-body .parse-body .ensures) (at-c6 .c6 .given .1);
+      known = fun-known (start .args .limits) (start .pre .0) (at-expect-ident .expect-ident .ensures) (at-c1 .c1 .given .1)
+          (at-new-fun .new-fun .ensures) (at-c2 .c2 .given .1) (at-expect .expect .ensures) (at-c3 .c3 .given .1)
+          (at-parse-params .parse-params .ensures) (at-c4 .c4 .given .1) (at-expect2 .expect2 .ensures) (at-c5 .c5 .given .1)
+          (at-parse-body .parse-body .ensures) (at-c6 .c6 .given .1);
+    }
 
 pub parse-fun-spec : {M : Type 1} → statement M
 parse-fun-spec =

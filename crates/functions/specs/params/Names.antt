@@ -6,7 +6,7 @@ use Rattle.rules.specs.Actions.{_>>=_, _>>_, change}
 use Rattle.rules.specs.Program as P
 use Rattle.rules.specs.Reading.{Reads, withEnv, theEnv, bind, push}
 use Rattle.lexer.specs.Names.{name}
-use Rattle.cursor.specs.Cursor.{stackAt}
+use Rattle.cursor.specs.Layout.{stackAt}
 
 unfoldable pub nameAt : List ℕ → List ℕ → ℕ → P.Name
 nameAt s w k = name s (getD w (stackAt + 2 * k) 0) (getD w (stackAt + 2 * k + 1) 0)

@@ -14,12 +14,15 @@ use Rattle.program.specs.View as View
 use Rattle.program.specs.declared.Counts.{Counts}
 use Rattle.program.specs.declared.Limits.{Limits}
 use Rattle.program.specs.declared.Name.{Name}
-use Rattle.cursor.specs.Cursor.{parserOf, stackAt, size, moveCur, countCur, stackCur, bindCur, In}
+use Rattle.cursor.specs.Cursor.{parserOf, moveCur, countCur, stackCur, bindCur, In}
 use Rattle.cursor.specs.Promises.{Out, done, stop, outcome, movedOf}
 use Rattle.cursor.specs.declared.Cursor.{Cursor}
 use Rattle.cursor.specs.declared.Moved.{Moved}
 use Rattle.cursor.specs.declared.Moved.the-variants.{On, Refused}
 use Rattle.cursor.specs.declared.SelfAt.{SelfAt}
+use Rattle.memory.specs.Layout.{scriptMost, operandsMost}
+use Rattle.variables.specs.Layout.{bindingsMost, entriesMost}
+use Rattle.cursor.specs.Layout.{stackAt, scratchSize}
 use Rattle.functions.specs.declared.params.OpenedFun.{OpenedFun}
 use Rattle.functions.specs.declared.params.OpenedFun.the-variants as OpenedFun
 use Rattle.functions.specs.params.Names.{nameAt, namesIn, Lie, paramOf}
@@ -44,11 +47,11 @@ pub record PutsName (w : List ℕ) (c : Cursor) (n : Name) (w' : List ℕ) (r : 
 
 -- what the reader of names relies on
 pub record Head (s w : List ℕ) (c : Cursor) : Type 0 where
-  pub script : length s ≤ 16384
+  pub script : length s ≤ scriptMost
   pub inside : c .at ≤ length s
-  pub scratch : size ≤ length w
+  pub scratch : scratchSize ≤ length w
   pub args : c .args ≡ 0
-  pub vars : c .vars ≤ 8192
+  pub vars : c .vars ≤ bindingsMost
 
 pub record Named (s w : List ℕ) (c : Cursor) (w' : List ℕ) (c' : Cursor) : Type 0 where
   pub cur : c' ≡ stackCur (c' .args) (moveCur (c' .at) c)
@@ -77,11 +80,11 @@ pub record Params (s w : List ℕ) (c : Cursor) (w' : List ℕ) (r : Moved) : Ty
 pub record ParamsRoom (k : ℕ) (m w : List ℕ) (c : Cursor) : Type 0 where
   pub tables : View.ProgramReady m (c .counts)
   pub block : c .block .0 < c .counts .blocks
-  pub scratch : size ≤ length w
-  pub vars : c .vars < 8192
-  pub place : k < 8192
-  pub start : getD w (stackAt + 2 * k) 0 ≤ 16384
-  pub len : getD w (stackAt + 2 * k + 1) 0 ≤ 16384
+  pub scratch : scratchSize ≤ length w
+  pub vars : c .vars < bindingsMost
+  pub place : k < bindingsMost
+  pub start : getD w (stackAt + 2 * k) 0 ≤ scriptMost
+  pub len : getD w (stackAt + 2 * k + 1) 0 ≤ scriptMost
 
 -- n variables more; only instructions are added, and nothing changes but the variables
 pub record Bound (n : ℕ) (w : List ℕ) (c : Cursor) (m' w' : List ℕ) (c' : Cursor) : Type 0 where
@@ -96,7 +99,7 @@ pub record Bound (n : ℕ) (w : List ℕ) (c : Cursor) (m' w' : List ℕ) (c' : 
   pub classes : c' .counts .classes ≡ c .counts .classes
   pub blocks : c' .counts .blocks ≡ c .counts .blocks
   pub low : Kept 0 (c .vars) w w'
-  pub rows : Kept 8192 16384 w w'
+  pub rows : Kept bindingsMost entriesMost w w'
   pub long : length w' ≡ length w
 
 abbrev pub BoundIf : ℕ → List ℕ → Cursor → List ℕ → List ℕ → Moved → Type 0
@@ -111,9 +114,9 @@ pub record PushesParam (l : Limits) (k : ℕ) (m w : List ℕ) (c : Cursor) (m' 
 pub record ParamsFilled (m w : List ℕ) (c : Cursor) : Type 0 where
   pub tables : View.ProgramReady m (c .counts)
   pub block : c .block .0 < c .counts .blocks
-  pub scratch : size ≤ length w
-  pub vars : c .vars + c .args ≤ 8192
-  pub short : (k : ℕ) → k < c .args → (getD w (stackAt + 2 * k) 0 ≤ 16384) × (getD w (stackAt + 2 * k + 1) 0 ≤ 16384)
+  pub scratch : scratchSize ≤ length w
+  pub vars : c .vars + c .args ≤ operandsMost
+  pub short : (k : ℕ) → k < c .args → (getD w (stackAt + 2 * k) 0 ≤ scriptMost) × (getD w (stackAt + 2 * k + 1) 0 ≤ scriptMost)
 
 pub record PushesParams (l : Limits) (m w : List ℕ) (c : Cursor) (m' w' : List ℕ) (r : Moved) : Type 0 where
   pub is : (s : List ℕ) → outcome s m' w' (movedOf r) ≡ pushParams (View.limitsOf l) s 0 (namesIn s w (c .args)) (parserOf s m w c)

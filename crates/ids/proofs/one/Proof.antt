@@ -1,4 +1,4 @@
--- `sets::one` meets its contract. Assumes nothing.
+-- `ids::one` meets its contract. Assumes nothing.
 use borrow.Author.Needs.{needs}
 use Rattle.ids.proofs.Bits.{one-shl}
 use Rattle.ids.proofs.one.Statement.{statement}

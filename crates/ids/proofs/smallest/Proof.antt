@@ -1,4 +1,4 @@
--- `sets::smallest` meets its contract. Assumes nothing.
+-- `ids::smallest` meets its contract. Assumes nothing.
 use mathlib.Core.Path.{ap}
 use Prim.Native.Nat.{ℕ, _-_}
 use native.Mathlib.Omega.{arith}

@@ -1,4 +1,4 @@
--- `sets::two` meets its contract. Assumes nothing.
+-- `ids::two` meets its contract. Assumes nothing.
 use mathlib.Core.Path.{ap₂}
 use lib.Bits.{bitOr}
 use borrow.Author.Needs.{needs}

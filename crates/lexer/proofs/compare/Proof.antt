@@ -1,4 +1,4 @@
--- `words::compare` meets its contract. Assumes nothing.
+-- `lexer::compare` meets its contract. Assumes nothing.
 use Prim.Native.Nat.{_-_}
 use Rattle.lexer.proofs.Names.{Comparing, cmp-start, cmp-longer, cmp-below, cmp-above, cmp-more, cmp-same, cmp-shorter}
 use borrow.Author.Needs.{needs}

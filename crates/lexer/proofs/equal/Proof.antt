@@ -1,4 +1,4 @@
--- `words::equal` meets its contract. Assumes nothing.
+-- `lexer::equal` meets its contract. Assumes nothing.
 use Prim.Native.Nat.{_-_}
 use Rattle.lexer.proofs.Names.{Comparing}
 use Rattle.lexer.proofs.Same.{eq-start, eq-differ, eq-more, eq-done, eq-apart}

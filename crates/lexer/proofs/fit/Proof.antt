@@ -1,4 +1,4 @@
--- `words::fit` meets its contract. Assumes nothing.
+-- `lexer::fit` meets its contract. Assumes nothing.
 use Rattle.lexer.proofs.Names.{fit-in, fit-cut, fit-none}
 use borrow.Author.Needs.{needs}
 use Rattle.lexer.proofs.fit.Statement.{statement}

@@ -1,4 +1,4 @@
--- `words::is_in_word` meets its contract. Assumes nothing.
+-- `lexer::is_in_word` meets its contract. Assumes nothing.
 use borrow.Author.Needs.{needs}
 use Rattle.lexer.proofs.is_in_word.Statement.{statement}
 use Rattle.lexer.proofs.is_in_word.Tie as tie

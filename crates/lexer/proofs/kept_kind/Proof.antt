@@ -1,4 +1,4 @@
--- `words::kept_kind` meets its contract. Assumes nothing.
+-- `lexer::kept_kind` meets its contract. Assumes nothing.
 use Rattle.lexer.proofs.Same.{kept-at, kept-three, kept-none}
 use borrow.Author.Needs.{needs}
 use Rattle.lexer.proofs.kept_kind.Statement.{statement}

@@ -1,4 +1,4 @@
--- `words::kind_if` meets its contract. Assumes nothing.
+-- `lexer::kind_if` meets its contract. Assumes nothing.
 use borrow.Author.Needs.{needs}
 use Rattle.lexer.proofs.kind_if.Statement.{statement}
 use Rattle.lexer.proofs.kind_if.Tie as tie

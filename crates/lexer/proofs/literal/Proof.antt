@@ -1,4 +1,4 @@
--- `words::literal` meets its contract. Assumes nothing.
+-- `lexer::literal` meets its contract. Assumes nothing.
 use Prim.Native.Nat.{_-_}
 use Rattle.lexer.proofs.Runs.{Counting, lit-start, lit-tens, lit-over, lit-more, lit-done}
 use borrow.Author.Needs.{needs}

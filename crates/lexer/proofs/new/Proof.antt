@@ -1,4 +1,4 @@
--- `words::new` meets its contract: a walk of its MIR, by hand. A `Reader` is made of the slice and the number passed, in the result's local.
+-- `lexer::new` meets its contract: a walk of its MIR, by hand. A `Reader` is made of the slice and the number passed, in the result's local.
 -- A `&[u8]` is Copy, so what it owns is had twice: once for src at exit, and once inside the result, beside the facts of at.
 -- Assumes nothing.
 use mathlib.Core.Path.{refl}
@@ -45,7 +45,8 @@ use Rattle.lexer.proofs.new.Code as code
 abbrev stayed : Stays (new.ended .signature .params) (new.ended .kept)
 stayed = (stay-none-slice (0 ∷ []) tt (plain (λ _. u8)) yes, (stay-none (λ _. usize) yes, tt))
 
-module _ {M : Type 1} (𝓤 : URA M) (H : Heap 𝓤) (A : Atoms 𝓤) (W : Given 𝓤 H A) (mem : Memory → SProp 𝓤) (run : Routine → Fun 𝓤) (κ : Lft) (q : Share) (s : RefT (List ℕ)) (n : ℕ) (n-fits : n < 2 ^ 64) where
+module _ {M : Type 1} (𝓤 : URA M) (H : Heap 𝓤) (A : Atoms 𝓤) (W : Given 𝓤 H A) (mem : Memory → SProp 𝓤) (run : Routine → Fun 𝓤) (κ : Lft) (q : Share)
+    (s : RefT (List ℕ)) (n : ℕ) (n-fits : n < 2 ^ 64) where
   abbrev α : NamedLft
   α = namedLft 1 0 tt (κ, tt)
 
@@ -78,7 +79,9 @@ module _ {M : Type 1} (𝓤 : URA M) (H : Heap 𝓤) (A : Atoms 𝓤) (W : Given
     walk : Is (ShrSlice (named 0) κ u8) s (v ∷ []) → ent 𝓤 (onEntry 𝓤 H A new.signature (κ, tt) (q, tt) (s, (n, tt)) at) (WpFn 𝓤 H C Λ code.function (v ∷ vint w64 n ∷ []) Post)
     walk p =
         qed W (raw (onEntry 𝓤 H A new.signature (κ, tt) (q, tt) (s, (n, tt)) at) ∷ []) ∵ enter ! C Λ code.function (v ∷ vint w64 n ∷ []) _ $
-        alloc1 ! (λ l₀. alloc1 ! (λ l₁. alloc1 ! (λ l₂. alloc0 ! $ params1 ! $ pass1 ! (init ! 2 refl (shr-slice-lawful 𝓤 H A W (named 0) κ u8 .typed s (v ∷ []) p .0)) $ pass1 ! (init ! 0 refl (tt, record { fits = n-fits })) $ pass0 ! $
+        alloc1 ! (λ l₀. alloc1 ! (λ l₁. alloc1 ! (λ l₂. alloc0 ! $ params1 ! $
+        pass1 ! (init ! 2 refl (shr-slice-lawful 𝓤 H A W (named 0) κ u8 .typed s (v ∷ []) p .0)) $
+        pass1 ! (init ! 0 refl (tt, record { fits = n-fits })) $ pass0 ! $
         assigns ! (agg ! (and-then ! (load ! (from ! (stop !)) (look ! 2 refl)) (and-then ! (load ! (from ! (stop !)) (look ! 0 refl)) (no-more !)))) (from ! (stop !))
         (init ! 4 refl (tt, (shr-slice-lawful 𝓤 H A W (named 0) κ u8 .typed s (v ∷ []) p .0 .1, (record { fits = n-fits }, tt)))) $
         returns ! (look ! 4 refl) $ forget ! 0 refl $ forget ! 2 refl $ forget ! 4 refl $ move ! (4 ∷ 5 ∷ []) $ free1 ! $ move ! (2 ∷ 3 ∷ []) $ free1 ! $ free1 ! $ free0 ! $ by ! exits)))

@@ -1,4 +1,4 @@
--- `words::precedes_name` meets its contract. Assumes nothing.
+-- `lexer::precedes_name` meets its contract. Assumes nothing.
 use Rattle.lexer.proofs.Names.{precedes-is}
 use borrow.Author.Needs.{needs}
 use Rattle.lexer.proofs.precedes_name.Statement.{statement}

@@ -1,4 +1,4 @@
--- `words::sign_at` meets its contract. Assumes nothing.
+-- `lexer::sign_at` meets its contract. Assumes nothing.
 use Rattle.lexer.proofs.Lexes.{glance-end, glance-letter, glance-digit, glance-over, glance-sign, glance-none}
 use borrow.Author.Needs.{needs}
 use Rattle.lexer.proofs.sign_at.Statement.{statement}

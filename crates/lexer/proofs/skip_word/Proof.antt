@@ -1,4 +1,4 @@
--- `words::skip_word` meets its contract. Assumes nothing.
+-- `lexer::skip_word` meets its contract. Assumes nothing.
 use Prim.Native.Nat.{_-_}
 use lib.ListN.{length}
 use mathlib.Core.Path.{refl}

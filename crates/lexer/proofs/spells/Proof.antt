@@ -1,4 +1,4 @@
--- `words::spells` meets its contract. Assumes nothing.
+-- `lexer::spells` meets its contract. Assumes nothing.
 use Rattle.lexer.proofs.Same.{spells-is}
 use borrow.Author.Needs.{needs}
 use Rattle.lexer.proofs.spells.Statement.{statement}

@@ -1,4 +1,4 @@
--- `words::word_at` meets its contract. Assumes nothing.
+-- `lexer::word_at` meets its contract. Assumes nothing.
 use Rattle.lexer.proofs.Lexes.{word-end, word-letter, word-digit, word-over, word-sign, word-none}
 use borrow.Author.Needs.{needs}
 use Rattle.lexer.proofs.word_at.Statement.{statement}

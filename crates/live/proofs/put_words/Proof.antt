@@ -322,7 +322,13 @@ same-length-20 c = search needs
 
 returns-20 : tie.Need-returns-20
 unfolding questions wordsOf
-returns-20 c = let n = c .before .before .before .before .before .before .before .args .n in let l : 20 ≤ n = past 19 (past 18 (past 17 (past 16 (past 15 (past 14 (past 13 (past 12 (past 11 (past 10 (past 9 (past 8 (past 7 (past 6 (past 5 (past 4 (past 3 (past 2 (past 1 (λ _. search needs))))))))))))))))))) (c .before .before .before .before .before .match .rest) in let h : n ≡ 20 = search needs in words-put h refl (c .before .before .put20 .ensures)
+returns-20 c = let n = c .before .before .before .before .before .before .before .args .n in
+    let l : 20 ≤ n = past 19
+    (past 18 (past 17 (past 16 (past 15 (past 14
+    (past 13 (past 12 (past 11 (past 10 (past 9 (past 8 (past 7 (past 6 (past 5 (past 4 (past 3 (past 2 (past 1 (λ _. search needs)))))))))))))))))))
+    (c .before .before .before .before .before .match .rest) in
+    let h : n ≡ 20 = search needs in
+    words-put h refl (c .before .before .put20 .ensures)
 
 pub put-words-spec : {M : Type 1} → statement M
 put-words-spec =

@@ -37,8 +37,14 @@ loop-holds : tie.Need-loop-holds Inv-loop μ-loop
 loop-holds c = search first-start
 
 ivar-is-requires : tie.Need-ivar-is-requires Inv-loop μ-loop
-ivar-is-requires c κs =
-    (search needs, omega (arith, c .before .before .before .before .before .before .pre .0 .ivars _ (c .before .before .before .before .before .before .pre .1), c .before .before .before .before .before .before .pre .0 .classes))
+ivar-is-requires c κs = (
+  search needs,
+  omega (
+    arith,
+    c .before .before .before .before .before .before .pre .0 .ivars _ (c .before .before .before .before .before .before .pre .1),
+    c .before .before .before .before .before .before .pre .0 .classes,
+  ),
+)
 
 returns : tie.Need-returns Inv-loop μ-loop
 returns c = search ivar-hit

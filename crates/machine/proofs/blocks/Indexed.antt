@@ -9,9 +9,10 @@ use Rattle.program.specs.View.{programView}
 use Rattle.state.specs.declared.Sizes.{Sizes}
 use Rattle.state.specs.View.{Attrs}
 use Rattle.chains.specs.Chains.{ChainIs, Index}
+use Rattle.memory.specs.Layout.{blocksRoom}
 use Rattle.machine.specs.blocks.Blocks.{HasCode, CodeIs}
 
-module _ (z : Sizes) (m : List ℕ) (c : Counts) (x : List ℕ) (g : Index m c x) (e : z .insns ≡ c .insns) (few : z .blocks ≤ 1024) where
+module _ (z : Sizes) (m : List ℕ) (c : Counts) (x : List ℕ) (g : Index m c x) (e : z .insns ≡ c .insns) (few : z .blocks ≤ blocksRoom) where
   held : (s : List ℕ) (b : ℕ) → b < z .blocks → ChainIs x (z .insns) 0 b (code (programView s m c) b)
   held s b lt = subst (λ (n : ℕ). ChainIs x n 0 b (code (programView s m c) b)) (sym e) (g .codes s b (omega arith))
 

@@ -4,41 +4,33 @@ use mathlib.Core.Path.{_≡_, refl, sym, ap, _∙_}
 use mathlib.Core.List.{List, _∷_}
 use Prim.Native.Nat.{ℕ, _+_, _<_}
 use lib.ListN.{getD}
-use Rattle.rules.specs.Actions.{Answer, answered, ifAnswered}
+use Rattle.rules.specs.Actions.{Answer, ifAnswered}
 use Rattle.rules.specs.Program.{Limits, Program, code}
 use Rattle.rules.specs.Machine.{State, setLive, goLive, stateOf, takeBlock, taken}
 use Rattle.state.specs.declared.Sizes.{Sizes}
 use Rattle.state.specs.declared.Regs.{Regs}
 use Rattle.state.specs.declared.Acted.{Acted}
 use Rattle.state.specs.declared.Acted.the-variants.{On, Refused}
-use Rattle.state.specs.View.{Attrs, liveOf, insnsOf, blocksOf, stateView, StateReady}
+use Rattle.state.specs.View.{liveOf, insnsOf, blocksOf, stateView, StateReady}
 use Rattle.state.specs.Changes.{StatePut, StateAfter, ReadyAfter, StateDid, TookBlock, pushAll}
+use Rattle.state.proofs.Lists.{lives-old, lives-new}
 use Rattle.machine.specs.blocks.Blocks.{CodeIs, ReadyNext, BlockStepped, blocksIn}
 
 module _ (z : Sizes) (m : List ℕ) (q : Regs) (x : List ℕ) (b : ℕ) where
-  lives-old : (L : Limits) (p : Program) (v : Attrs) → getD (liveOf z m) b false ≡ true → goLive L p b (stateView z v m q) ≡ answered (tt, stateView z v m q)
-  unfolding goLive
-  lives-old L p v e = rw e
-
-  lives-new : (L : Limits) (p : Program) (v : Attrs) → getD (liveOf z m) b false ≡ false
-      → goLive L p b (stateView z v m q) ≡ pushAll L p (code p b) (setLive b (stateView z v m q))
-  unfolding goLive pushAll
-  lives-new L p v e = rw e
-
   pub live-old : {t : 𝔹} → StateReady z m q → t ≡ getD (liveOf z m) b false → t ≡ true → StateDid z (CodeIs z x) (λ L p. goLive L p b) m q m (On q)
-  live-old r e h = record { is = λ L f p v _. sym (lives-old L p v (sym e ∙ h)); ok = record { ready = r; count = refl } }
+  live-old r e h = record { is = λ L f p v _. sym (lives-old z m q b L p v (sym e ∙ h)); ok = record { ready = r; count = refl } }
 
   pub live-new : {t : 𝔹} {m' m'' : List ℕ} {r : Acted} → t ≡ getD (liveOf z m) b false → t ≡ false → StatePut z (setLive b) m m'
       → StateDid z (CodeIs z x) (λ L p. pushAll L p (code p b)) m' q m'' r → StateDid z (CodeIs z x) (λ L p. goLive L p b) m q m'' r
   live-new e h s d = record {
-    is = λ L f p v a. d .is L f p v a ∙ ap (pushAll L p (code p b)) (s .is v q) ∙ sym (lives-new L p v (sym e ∙ h));
+    is = λ L f p v a. d .is L f p v a ∙ ap (pushAll L p (code p b)) (s .is v q) ∙ sym (lives-new z m q b L p v (sym e ∙ h));
     ok = d .ok;
   }
 
 pub live-ready : {z : Sizes} {b : ℕ} {m w : List ℕ} {q : Regs} → StatePut z (setLive b) m w → StateReady z m q → StateReady z w q
 live-ready {q = q} s r = s .ok q r
 
-next-ready : (z : Sizes) (q a : Regs) (w : List ℕ) (r : Acted) → a .count ≡ q .count + 1 → ReadyAfter z a w r → ReadyNext z q w r
+pub next-ready : (z : Sizes) (q a : Regs) (w : List ℕ) (r : Acted) → a .count ≡ q .count + 1 → ReadyAfter z a w r → ReadyNext z q w r
 next-ready z q a w (On b) e h = record { ready = h .ready; count = h .count ∙ e }
 next-ready z q a w (Refused n) e h = tt
 

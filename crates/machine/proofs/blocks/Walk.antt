@@ -15,6 +15,7 @@ use Rattle.state.specs.View.{Attrs, stateView, StateReady}
 use Rattle.state.specs.Changes.{went, StateAfter, StateDid}
 use Rattle.chains.specs.Chains.{ChainsChained, at, self, FitsId}
 use Rattle.chains.proofs.Lists.{Starts, chained-none, chained-some, chained-low, chained-next}
+use Rattle.memory.specs.Layout.{instructionsMost, worklistMost}
 
 -- the chain through the words from a on that starts at h holds l; n stands for its end
 abbrev pub From : ℕ → List ℕ → ℕ → ℕ → List ℕ → Type 0
@@ -27,7 +28,7 @@ module _ (z : Sizes) (x : List ℕ) (a : ℕ) (act : Limits → Program → ℕ 
     pub low : ℕ
     pub list : List ℕ
     pub chained : ChainsChained self (at x a) (z .insns) low i list
-    pub same : (L : Limits) → L .worklist ≡ 16384 → (p : Program) (v : Attrs) → fits p v → each list (act L p) (stateView z v m q) ≡ each l (act L p) (stateView z v m₀ q₀)
+    pub same : (L : Limits) → L .worklist ≡ worklistMost → (p : Program) (v : Attrs) → fits p v → each list (act L p) (stateView z v m q) ≡ each l (act L p) (stateView z v m₀ q₀)
 
   -- h is where the chain starts
   pub record Walking (h : ℕ) (m₀ : List ℕ) (q₀ : Regs) (m : List ℕ) (q : Regs) (i : ℕ) : Type 0 where
@@ -47,7 +48,7 @@ module _ {z : Sizes} {x : List ℕ} {a : ℕ} {act : Limits → Program → ℕ 
   pub walk-ready : StateReady z m q
   walk-ready = g .after .ready
 
-  pub walk-below : i < z .insns → i < 2048
+  pub walk-below : i < z .insns → i < instructionsMost
   walk-below lt = let u = g .after .ready .held in omega arith
 
   head : (l : List ℕ) (c : From (z .insns) x a h l) → i < z .insns → Starts self (at x a) (z .insns) i (g .left l c .list)
@@ -67,7 +68,7 @@ module _ {z : Sizes} {x : List ℕ} {a : ℕ} {act : Limits → Program → ℕ 
       omega arith
 
   turn : {m' : List ℕ} {r : Acted} (lt : i < z .insns) → StateDid z fits (λ L p. act L p i) m q m' r
-      → (l : List ℕ) (c : From (z .insns) x a h l) (L : Limits) → L .worklist ≡ 16384 → (p : Program) (v : Attrs) → fits p v
+      → (l : List ℕ) (c : From (z .insns) x a h l) (L : Limits) → L .worklist ≡ worklistMost → (p : Program) (v : Attrs) → fits p v
       → ifAnswered (went z v m' r) (λ b. each (head l c lt .rest) (act L p) (b .1)) ≡ each l (act L p) (stateView z v m₀ q₀)
   turn lt d l c L room p v u =
       ap (λ (b : Answer (Unit {0} × State)). ifAnswered b (λ y. each (head l c lt .rest) (act L p) (y .1))) (d .is L room p v u)

@@ -83,7 +83,9 @@ pub joined-two : (z : Sizes) (m : List ℕ) (b c : ℕ) (v w : Opnd) {x y : 𝔹
 joined-two z m b c v w {x} {y} {j} {r} ex ey ej er i = record {
   is = λ L p at _ q.
       let s = stateView z at m q in
-      let e : r ≡ cond (getD (s .live) c false) (joinOf (cond (getD (s .live) b false) (joinOf (Of Empty) (kindOf s (opndOf v))) (Of Empty)) (kindOf s (opndOf w))) (cond (getD (s .live) b false) (joinOf (Of Empty) (kindOf s (opndOf v))) (Of Empty)) =
+      let e : r ≡ cond (getD (s .live) c false)
+      (joinOf (cond (getD (s .live) b false) (joinOf (Of Empty) (kindOf s (opndOf v))) (Of Empty)) (kindOf s (opndOf w)))
+      (cond (getD (s .live) b false) (joinOf (Of Empty) (kindOf s (opndOf v))) (Of Empty)) =
       rw (er, ej, ex, ey, kind-of s (opndOf v), kind-of s (opndOf w)) in
       ap (λ (u : Joined). lift (toAnswer u) s) (e ∙ two (getD (s .live) b false) (getD (s .live) c false) s (opndOf v) (opndOf w)) ∙ sym (phi-is L p i b c (opndOf v) (opndOf w) s);
 }

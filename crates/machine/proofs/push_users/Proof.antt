@@ -1,4 +1,4 @@
--- `analysed::push_users` meets its contract. Assumes nothing.
+-- `machine::push_users` meets its contract. Assumes nothing.
 use Rattle.machine.proofs.Storing.{homes-are, at-home, row-below, block-below}
 use Rattle.state.proofs.Lists.{Waking, waking-start, waking-below, waking-fits, waking-more, waking-stop, waking-done}
 use Rattle.machine.specs.Analysed.{homesOf}
@@ -36,16 +36,25 @@ read-insn-requires : tie.Need-read-insn-requires Inv-loop μ-loop
 read-insn-requires c κs =
     let at-loop-test = c .before in
     let at-loop = at-loop-test .before in
-    let start = at-loop .before .before .before .before in
-    (start .pre .1 .0, row-below (start .args .program .now) (start .args .counts) (start .args .sizes) (start .pre .1 .0) (start .pre .1 .1 .0) (waking-below (at-loop .loop .inv) (at-loop-test .loop-test .taken)))
+    let start = at-loop .before .before .before .before in (
+      start .pre .1 .0,
+      row-below (start .args .program .now) (start .args .counts) (start .args .sizes) (start .pre .1 .0) (start .pre .1 .1 .0)
+          (waking-below (at-loop .loop .inv) (at-loop-test .loop-test .taken)),
+    )
 
 push-live-requires : tie.Need-push-live-requires Inv-loop μ-loop
 push-live-requires c κs =
     let at-read-insn = c .before .before in
     let at-loop-test = at-read-insn .before .before in
     let at-loop = at-loop-test .before in
-    let start = at-loop .before .before .before .before in
-    (at-loop .loop .inv .after .ready, (block-below (start .args .program .now) (start .args .counts) (start .args .sizes) (start .pre .1 .0) (start .pre .1 .1 .0) (at-read-insn .read-insn .ensures), waking-below (at-loop .loop .inv) (at-loop-test .loop-test .taken)))
+    let start = at-loop .before .before .before .before in (
+      at-loop .loop .inv .after .ready,
+      (
+        block-below (start .args .program .now) (start .args .counts) (start .args .sizes) (start .pre .1 .0) (start .pre .1 .1 .0)
+            (at-read-insn .read-insn .ensures),
+        waking-below (at-loop .loop .inv) (at-loop-test .loop-test .taken),
+      ),
+    )
 
 enum-known-next : tie.Need-enum-known-next Inv-loop μ-loop
 enum-known-next c = search needs
@@ -65,13 +74,17 @@ returns c =
     let at-loop = at-loop-test .before in
     let start = at-loop .before .before .before .before in
     waking-stop (at-loop .loop .inv) (at-loop-test .loop-test .taken)
-    (at-home (start .args .program .now) (start .args .counts) (start .args .sizes) (start .pre .1 .0) (start .pre .1 .1 .0) (waking-below (at-loop .loop .inv) (at-loop-test .loop-test .taken)) (at-read-insn .read-insn .ensures) (at-push-live .push-live .ensures))
+    (at-home (start .args .program .now) (start .args .counts) (start .args .sizes) (start .pre .1 .0) (start .pre .1 .1 .0)
+    (waking-below (at-loop .loop .inv) (at-loop-test .loop-test .taken)) (at-read-insn .read-insn .ensures) (at-push-live .push-live .ensures))
     (at-n .n .given .1)
 
 add-k : tie.Need-add-k Inv-loop μ-loop
 add-k c =
-    omega
-    (arith, c .before .before .before .before .before .before .before .before .before .before .loop-test .taken, c .before .before .before .before .before .before .before .before .before .before .before .before .before .before .before .good .1 .1 .1 .1 .0)
+    omega (
+      arith,
+      c .before .before .before .before .before .before .before .before .before .before .loop-test .taken,
+      c .before .before .before .before .before .before .before .before .before .before .before .before .before .before .before .good .1 .1 .1 .1 .0,
+    )
 
 loop-less : tie.Need-loop-less Inv-loop μ-loop
 loop-less c = search needs
@@ -80,7 +93,16 @@ loop-again : tie.Need-loop-again Inv-loop μ-loop
 loop-again c =
     waking-more (c .before .before .before .before .before .before .before .before .before .before .before .loop .inv)
     (c .before .before .before .before .before .before .before .before .before .before .loop-test .taken) (search needs)
-    (at-home (c .before .before .before .before .before .before .before .before .before .before .before .before .before .before .before .args .program .now) (c .before .before .before .before .before .before .before .before .before .before .before .before .before .before .before .args .counts) (c .before .before .before .before .before .before .before .before .before .before .before .before .before .before .before .args .sizes) (c .before .before .before .before .before .before .before .before .before .before .before .before .before .before .before .pre .1 .0) (c .before .before .before .before .before .before .before .before .before .before .before .before .before .before .before .pre .1 .1 .0) (waking-below (c .before .before .before .before .before .before .before .before .before .before .before .loop .inv) (c .before .before .before .before .before .before .before .before .before .before .loop-test .taken)) (c .before .before .before .before .before .before .before .before .read-insn .ensures) (c .before .before .before .before .before .push-live .ensures))
+    (at-home
+    (c .before .before .before .before .before .before .before .before .before .before .before .before .before .before .before .args .program .now)
+    (c .before .before .before .before .before .before .before .before .before .before .before .before .before .before .before .args .counts)
+    (c .before .before .before .before .before .before .before .before .before .before .before .before .before .before .before .args .sizes)
+    (c .before .before .before .before .before .before .before .before .before .before .before .before .before .before .before .pre .1 .0)
+    (c .before .before .before .before .before .before .before .before .before .before .before .before .before .before .before .pre .1 .1 .0)
+    (waking-below (c .before .before .before .before .before .before .before .before .before .before .before .loop .inv)
+    (c .before .before .before .before .before .before .before .before .before .before .loop-test .taken))
+    (c .before .before .before .before .before .before .before .before .read-insn .ensures)
+    (c .before .before .before .before .before .push-live .ensures))
     (c .before .next .given .1)
 
 same-length-2 : tie.Need-same-length-2 Inv-loop μ-loop

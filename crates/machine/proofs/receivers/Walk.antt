@@ -27,6 +27,7 @@ use Rattle.state.specs.declared.Acted.the-variants.{On, Refused as No}
 use Rattle.state.specs.View.{Attrs, kindsOf, stateView, StateReady, noEntries}
 use Rattle.state.specs.Changes.{went, StateAfter, StateDid}
 use Rattle.state.proofs.Pushes.{noAttrs}
+use Rattle.memory.specs.Layout.{worklistMost}
 use Rattle.machine.specs.opnds.Reads.{kindIn, StateReads}
 use Rattle.machine.specs.declared.receivers.ReceiverClasses.{ReceiverClasses}
 use Rattle.machine.specs.declared.receivers.ReceiverClasses.the-variants as R
@@ -62,7 +63,7 @@ module _ (z : Sizes) (fits : Program → Attrs → Type 0) (act : Limits → Pro
   pub record Going (s₀ : ℕ) (m₀ : List ℕ) (q₀ : Regs) (m : List ℕ) (q : Regs) (s : ℕ) : Type 0 where
     pub after : StateAfter z q₀ m q
     pub long : length m ≡ length m₀
-    pub same : (L : Limits) → L .worklist ≡ 16384 → (p : Program) (v : Attrs) → fits p v
+    pub same : (L : Limits) → L .worklist ≡ worklistMost → (p : Program) (v : Attrs) → fits p v
         → each (membersOf s) (act L p) (stateView z v m q) ≡ each (membersOf s₀) (act L p) (stateView z v m₀ q₀)
 
   pub going-start : (s : ℕ) (m : List ℕ) (q : Regs) → StateReady z m q → Going s m q m q s
@@ -70,7 +71,7 @@ module _ (z : Sizes) (fits : Program → Attrs → Type 0) (act : Limits → Pro
 
   module _ {s₀ : ℕ} {m₀ : List ℕ} {q₀ : Regs} {m : List ℕ} {q : Regs} {s : ℕ} (g : Going s₀ m₀ q₀ m q s) where
     turn : {c t : ℕ} {w : List ℕ} {r : Acted} → Step s c t → StateDid z fits (λ L p. act L p c) m q w r
-        → (L : Limits) → L .worklist ≡ 16384 → (p : Program) (v : Attrs) → fits p v
+        → (L : Limits) → L .worklist ≡ worklistMost → (p : Program) (v : Attrs) → fits p v
         → ifAnswered (went z v w r) (λ a. each (membersOf t) (act L p) (a .1)) ≡ each (membersOf s₀) (act L p) (stateView z v m₀ q₀)
     turn {c} {t} u d L room p v h =
         ap (λ (a : Answer (Unit {0} × State)). ifAnswered a (λ b. each (membersOf t) (act L p) (b .1))) (d .is L room p v h)
@@ -135,8 +136,13 @@ module _ (z : Sizes) (m : List ℕ) (o : Opnd) {r : ReceiverClasses} (d : Receiv
       listed (answered a) = a .0
       listed (refused n) = []
 
-      go : (x : Option ℕ) → classesIn (kindIn (kindsOf z m) (opndOf o)) ≡ x → _≡_ {A = Answer (List ℕ × State)} (answered (membersOf s, stateView z noAttrs m noEntries)) (classesOf (opndOf o) (stateView z noAttrs m noEntries)) → ClassesBelow (z .classes) s
-      go none h a = let b : _≡_ {A = Answer (List ℕ × State)} (answered (membersOf s, stateView z noAttrs m noEntries)) (refused 14) = a ∙ asked-no (opndOf o) (stateView z noAttrs m noEntries) h in absurd (let y : _≡_ {A = ℕ} 0 1 = cc in omega arith)
+      go : (x : Option ℕ) → classesIn (kindIn (kindsOf z m) (opndOf o)) ≡ x
+          → _≡_ {A = Answer (List ℕ × State)} (answered (membersOf s, stateView z noAttrs m noEntries))
+          (classesOf (opndOf o) (stateView z noAttrs m noEntries))
+          → ClassesBelow (z .classes) s
+      go none h a = let b : _≡_ {A = Answer (List ℕ × State)} (answered (membersOf s, stateView z noAttrs m noEntries)) (refused 14) = a
+          ∙ asked-no (opndOf o) (stateView z noAttrs m noEntries) h in
+          absurd (let y : _≡_ {A = ℕ} 0 1 = cc in omega arith)
       go (some c) h a =
           let l : membersOf s ≡ membersOf c = ap listed (a ∙ asked-yes (opndOf o) (stateView z noAttrs m noEntries) c h) in
           record { below = λ x y. w .classes c h .below x (subst (List·Memᴰ x) l y) }

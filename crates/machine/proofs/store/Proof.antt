@@ -1,4 +1,4 @@
--- `analysed::store` meets its contract. Assumes nothing.
+-- `machine::store` meets its contract. Assumes nothing.
 use Rattle.machine.proofs.Storing.{refused-way, same-way, new-way, put-ready, users-listed, row-below, start-few}
 use native.Mathlib.Omega.{arith}
 use borrow.Author.Needs.{needs}
@@ -48,8 +48,18 @@ shared-slice-read-from c = search needs
 
 add-from-2 : tie.Need-add-from-2
 add-from-2 c =
-    omega
-    (arith, start-few (c .before .before .before .before .before .before .before .before .before .before .before .before .before .before .before .before .before .args .program .now) (c .before .before .before .before .before .before .before .before .before .before .before .before .before .before .before .before .before .args .counts) (c .before .before .before .before .before .before .before .before .before .before .before .before .before .before .before .before .before .args .users .now) (c .before .before .before .before .before .before .before .before .before .before .before .before .before .before .before .before .before .pre .1 .1 .1 .0) (c .before .before .before .before .before .before .before .before .before .before .before .before .before .before .before .before .before .args .sizes) (c .before .before .before .before .before .before .before .before .before .before .before .before .before .before .before .before .before .pre .1 .1 .0) (c .before .before .before .before .before .before .before .before .before .before .before .before .before .before .before .before .before .args .i .0) (c .before .before .before .before .before .before .before .before .before .before .before .before .before .before .before .before .before .pre .1 .1 .1 .1) .0)
+    omega (
+      arith,
+      start-few
+          (c .before .before .before .before .before .before .before .before .before .before .before .before .before .before .before .before .before .args .program .now)
+          (c .before .before .before .before .before .before .before .before .before .before .before .before .before .before .before .before .before .args .counts)
+          (c .before .before .before .before .before .before .before .before .before .before .before .before .before .before .before .before .before .args .users .now)
+          (c .before .before .before .before .before .before .before .before .before .before .before .before .before .before .before .before .before .pre .1 .1 .1 .0)
+          (c .before .before .before .before .before .before .before .before .before .before .before .before .before .before .before .before .before .args .sizes)
+          (c .before .before .before .before .before .before .before .before .before .before .before .before .before .before .before .before .before .pre .1 .1 .0)
+          (c .before .before .before .before .before .before .before .before .before .before .before .before .before .before .before .before .before .args .i .0)
+          (c .before .before .before .before .before .before .before .before .before .before .before .before .before .before .before .before .before .pre .1 .1 .1 .1) .0,
+    )
 
 add-to : tie.Need-add-to
 add-to c = search needs
@@ -65,14 +75,36 @@ shared-slice-read-to c = search needs
 
 add-to-3 : tie.Need-add-to-3
 add-to-3 c =
-    omega
-    (arith, start-few (c .before .before .before .before .before .before .before .before .before .before .before .before .before .before .before .before .before .before .args .program .now) (c .before .before .before .before .before .before .before .before .before .before .before .before .before .before .before .before .before .before .args .counts) (c .before .before .before .before .before .before .before .before .before .before .before .before .before .before .before .before .before .before .args .users .now) (c .before .before .before .before .before .before .before .before .before .before .before .before .before .before .before .before .before .before .pre .1 .1 .1 .0) (c .before .before .before .before .before .before .before .before .before .before .before .before .before .before .before .before .before .before .args .sizes) (c .before .before .before .before .before .before .before .before .before .before .before .before .before .before .before .before .before .before .pre .1 .1 .0) (c .before .before .before .before .before .before .before .before .before .before .before .before .before .before .before .before .before .before .args .i .0) (c .before .before .before .before .before .before .before .before .before .before .before .before .before .before .before .before .before .before .pre .1 .1 .1 .1) .1)
+    omega (
+      arith,
+      start-few
+          (c .before .before .before .before .before .before .before .before .before .before .before .before .before .before .before .before .before .before .args .program .now)
+          (c .before .before .before .before .before .before .before .before .before .before .before .before .before .before .before .before .before .before .args .counts)
+          (c .before .before .before .before .before .before .before .before .before .before .before .before .before .before .before .before .before .before .args .users .now)
+          (c .before .before .before .before .before .before .before .before .before .before .before .before .before .before .before .before .before .before .pre .1 .1 .1 .0)
+          (c .before .before .before .before .before .before .before .before .before .before .before .before .before .before .before .before .before .before .args .sizes)
+          (c .before .before .before .before .before .before .before .before .before .before .before .before .before .before .before .before .before .before .pre .1 .1 .0)
+          (c .before .before .before .before .before .before .before .before .before .before .before .before .before .before .before .before .before .before .args .i .0)
+          (c .before .before .before .before .before .before .before .before .before .before .before .before .before .before .before .before .before .before .pre .1 .1 .1 .1) .1,
+    )
 
 push-users-requires : tie.Need-push-users-requires
 push-users-requires c κs =
     let at-set-kind = c .before .before .before .before .before .before in
-    let start = at-set-kind .before .before .before .before .before .before .before .before .before .before .before .before .before in
-    (put-ready (at-set-kind .set-kind .ensures) (start .pre .0), (start .pre .1 .0, (start .pre .1 .1 .0, users-listed (start .args .program .now) (start .args .counts) (start .args .users .now) (start .pre .1 .1 .1 .0) (start .args .i .0) (row-below (start .args .program .now) (start .args .counts) (start .args .sizes) (start .pre .1 .0) (start .pre .1 .1 .0) (start .pre .1 .1 .1 .1)) (start .args .sizes) (start .pre .1 .1 .0))))
+    let start = at-set-kind .before .before .before .before .before .before .before .before .before .before .before .before .before in (
+      put-ready (at-set-kind .set-kind .ensures) (start .pre .0),
+      (
+        start .pre .1 .0,
+        (
+          start .pre .1 .1 .0,
+          users-listed (start .args .program .now) (start .args .counts) (start .args .users .now) (start .pre .1 .1 .1 .0)
+              (start .args .i .0)
+              (row-below (start .args .program .now) (start .args .counts) (start .args .sizes) (start .pre .1 .0) (start .pre .1 .1 .0)
+              (start .pre .1 .1 .1 .1))
+              (start .args .sizes) (start .pre .1 .1 .0),
+        ),
+      ),
+    )
 
 enum-known-n : tie.Need-enum-known-n
 enum-known-n c = search needs

@@ -12,12 +12,14 @@ use Rattle.state.specs.declared.Acted.{Acted}
 use Rattle.state.specs.declared.Acted.the-variants.{On, Refused}
 use Rattle.state.specs.View.{Attrs, stateView, StateReady}
 use Rattle.state.specs.Changes.{went}
-use Rattle.chains.specs.Chains.{size, ChainIs}
+use Rattle.chains.specs.Chains.{ChainIs}
+use Rattle.memory.specs.Layout.{worklistMost, blocksRoom}
+use Rattle.chains.specs.Layout.{chainsSize}
 
 -- each block has a chain, and there are not too many blocks for the heads
 pub record HasCode (z : Sizes) (x : List ℕ) : Type 0 where
-  pub long : size ≤ length x
-  pub few : z .blocks ≤ 1024
+  pub long : chainsSize ≤ length x
+  pub few : z .blocks ≤ blocksRoom
   pub list : ℕ → List ℕ
   pub held : (b : ℕ) → b < z .blocks → ChainIs x (z .insns) 0 b (list b)
 
@@ -37,7 +39,7 @@ abbrev pub ReadyNext : Sizes → Regs → List ℕ → Acted → Type 0
 ReadyNext z q w (On r) = BlockCounted z q w r
 ReadyNext z q w (Refused n) = Unit {0}
 
--- a step of any program that fits, under limits that let 16,384 entries wait
+-- a step of any program that fits, under limits that let worklistMost entries wait
 pub record BlockStepped (z : Sizes) (fits : Program → Attrs → Type 0) (f : Limits → Program → State → Answer State) (m : List ℕ) (q : Regs) (w : List ℕ) (r : Acted) : Type 0 where
-  pub is : (L : Limits) → L .worklist ≡ 16384 → (p : Program) (v : Attrs) → fits p v → stateOf L p (went z v w r) ≡ f L p (stateView z v m q)
+  pub is : (L : Limits) → L .worklist ≡ worklistMost → (p : Program) (v : Attrs) → fits p v → stateOf L p (went z v w r) ≡ f L p (stateView z v m q)
   pub ok : ReadyNext z q w r

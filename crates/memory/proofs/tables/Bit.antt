@@ -15,6 +15,7 @@ use lib.Count.{trailingZeros, under, trailing-le}
 use lib.ListN.{length, getD, set, length-set}
 use lib.Seq.{getD-set-same, getD-set-other}
 use Rattle.ids.proofs.Bits.{or-low, one-shl}
+use Rattle.memory.specs.Layout.{instructionsMost}
 use Rattle.memory.specs.tables.Bits.{bitAt, withBit}
 
 pub shr-suc : (n j : ℕ) → n / 2 ^ suc j ≡ n / 2 / 2 ^ j
@@ -29,7 +30,7 @@ other-bit (suc k) (suc j) h =
     ap (λ (x : ℕ). x % 2) (shr-suc (2 ^ suc k) j ∙ ap (λ (x : ℕ). x / 2 ^ j) (let p = pow-suc 2 k in let e : 2 ^ suc k / 2 ≡ 2 ^ k = omega arith in e))
     ∙ other-bit k j (λ e. h (ap suc e))
 
-or-bit : (w p j : ℕ) → bitOr w p / 2 ^ j % 2 ≡ max (w / 2 ^ j % 2) (p / 2 ^ j % 2)
+pub or-bit : (w p j : ℕ) → bitOr w p / 2 ^ j % 2 ≡ max (w / 2 ^ j % 2) (p / 2 ^ j % 2)
 or-bit w p j = ap (λ (x : ℕ). x % 2) (or-shr w p j) ∙ or-low (w / 2 ^ j) (p / 2 ^ j)
 
 or-sets : (w k : ℕ) → bitOr w (2 ^ k) / 2 ^ k % 2 ≡ 1
@@ -50,7 +51,9 @@ module _ (m : List ℕ) (base n : ℕ) (fits : base + n / 64 < length m) where
   unfolding bitAt withBit
   bit-other b k h =
       elim (ℕ-discrete (b + k / 64) (base + n / 64)) [
-        | yes e ↦ ap (λ (x : ℕ). not (eqb x 0)) (ap (λ (x : ℕ). x / 2 ^ (k % 64) % 2) (ap (λ (x : ℕ). getD (set m (base + n / 64) (bitOr (getD m (base + n / 64) 0) (2 ^ (n % 64)))) x 0) e ∙ getD-set-same m (base + n / 64) (bitOr (getD m (base + n / 64) 0) (2 ^ (n % 64))) 0 fits)
+        | yes e ↦ ap (λ (x : ℕ). not (eqb x 0)) (ap (λ (x : ℕ). x / 2 ^ (k % 64) % 2)
+            (ap (λ (x : ℕ). getD (set m (base + n / 64) (bitOr (getD m (base + n / 64) 0) (2 ^ (n % 64)))) x 0) e
+            ∙ getD-set-same m (base + n / 64) (bitOr (getD m (base + n / 64) 0) (2 ^ (n % 64))) 0 fits)
             ∙ or-keeps (getD m (base + n / 64) 0) (n % 64) (k % 64) (h e) ∙ ap (λ (x : ℕ). getD m x 0 / 2 ^ (k % 64) % 2) (sym e))
         | no e ↦ ap (λ (x : ℕ). not (eqb (x / 2 ^ (k % 64) % 2) 0)) (getD-set-other m (base + n / 64) (b + k / 64) (bitOr (getD m (base + n / 64) 0) (2 ^ (n % 64))) 0 e)
       ]
@@ -100,7 +103,7 @@ lowest (suc d) s p h = go (s % 2) refl (λ q. lowest d (s / 2) q (let e = pow-su
 pub zeros-fit : (x : ℕ) → Fits w64 (trailingZeros 64 x)
 zeros-fit x = record { fits = omega (arith, trailing-le 64 x) }
 
-pub place-fits : (i n x : ℕ) → i < n → n ≤ 2048 → Fits w64 (i + trailingZeros 64 x)
+pub place-fits : (i n x : ℕ) → i < n → n ≤ instructionsMost → Fits w64 (i + trailingZeros 64 x)
 place-fits i n x h k = record { fits = omega (arith, trailing-le 64 x) }
 
 module _ (m : List ℕ) (base i : ℕ) where

@@ -74,7 +74,8 @@ module _ (row : List 𝔹) where
       from-at k
       ∙ here (getD row k false) (w % 2) (membersFrom d (suc k) (w / 2)) (from (k + suc d))
       (sym (ap (λ (x : ℕ). x % 2) (div-one w)) ∙ h 0 (omega arith) ∙ ap (λ (x : ℕ). bitOf (getD row x false)) (add-zero k))
-      (from-word d (suc k) (w / 2) (λ j lt. ap (λ (x : ℕ). x % 2) (sym (shr-suc w j)) ∙ h (suc j) (omega arith) ∙ ap (λ (x : ℕ). bitOf (getD row x false)) (let e : k + suc j ≡ suc k + j = omega arith in e))
+      (from-word d (suc k) (w / 2) (λ j lt. ap (λ (x : ℕ). x % 2) (sym (shr-suc w j)) ∙ h (suc j) (omega arith)
+      ∙ ap (λ (x : ℕ). bitOf (getD row x false)) (let e : k + suc j ≡ suc k + j = omega arith in e))
       ∙ ap (λ (x : ℕ). membersFrom d (suc k) (w / 2) ++ from x) (let e : suc k + d ≡ k + suc d = omega arith in e))
     where
       here : (b : 𝔹) (r : ℕ) (l m : List ℕ) → r ≡ bitOf b → from (suc k) ≡ l ++ m → consIf b k (from (suc k)) ≡ keep r k l ++ m

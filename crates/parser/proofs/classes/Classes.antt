@@ -2,12 +2,10 @@
 use mathlib.Core.Path.{_≡_, refl, sym, ap, _∙_}
 use mathlib.Core.List.{List}
 use mathlib.Core.Option.{none, some}
-use Prim.Native.Nat.{ℕ, _+_, _≤_, _<_}
+use Prim.Native.Nat.{ℕ, _<_}
 use native.Mathlib.Omega.{arith}
-use lib.ListN.{length}
 use Rattle.ids.specs.declared.ClassId.{ClassId}
 use Rattle.rules.specs.Actions.{answered, refused, loop}
-use Rattle.rules.specs.Reading as R
 use Rattle.rules.specs.Reading.{withClass, newClass, classNamed, turns, parseClassMember, parseClass}
 use Rattle.lookups.specs.Look.{LookKnown}
 use Rattle.lookups.specs.declared.FoundClass.{FoundClass}
@@ -21,13 +19,14 @@ use Rattle.program.specs.declared.NewClass.{NewClass}
 use Rattle.program.specs.declared.NewClass.the-variants as New
 use Rattle.program.specs.declared.Owner.{Owner}
 use Rattle.program.specs.declared.Owner.the-variants as Owner
-use Rattle.cursor.specs.Cursor.{parserOf, moveCur, countCur, CursorReady}
+use Rattle.cursor.specs.Cursor.{parserOf, countCur, CursorReady}
 use Rattle.cursor.specs.Promises.{Idents, movedOf}
 use Rattle.cursor.specs.declared.Cursor.{Cursor}
 use Rattle.cursor.specs.declared.Ident.{Ident}
 use Rattle.cursor.specs.declared.Ident.the-variants as Ident
 use Rattle.cursor.specs.declared.Moved.{Moved}
 use Rattle.cursor.specs.declared.Moved.the-variants.{On, Refused}
+use Rattle.cursor.proofs.Laws.{ident-on, ident-is}
 use Rattle.functions.specs.Bodies.{Rests, Onto, Takes}
 use Rattle.parser.specs.classes.Turning.{classCur}
 use Rattle.parser.proofs.classes.Loops.{rests-moved}
@@ -41,17 +40,8 @@ module _ (l : Limits) {s m w : List ℕ} {c : Cursor} (g : Rests s m w c) {u : I
   class-no f = record { is = let h = rw f at (a .moves .is m w) in rw (← h); ok = tt }
 
   module _ {c1 : Cursor} {n : Name} (f : u ≡ Ident.Found c1 n) where
-    name-on : (c1 ≡ moveCur (c1 .at) c) × ((c .at + 1 ≤ c1 .at) × (c .at ≤ length s → c1 .at ≤ length s))
-    name-on = let h = rw f at (a .moves .ok) in h
-
-    name-is : answered (nameIn s n, parserOf s m w c1) ≡ R.expectIdent s (parserOf s m w c)
-    name-is = rw f at (a .moves .is m w)
-
     name-rests : Rests s m w c1
-    name-rests = rests-moved g (name-on .0) (omega (arith, name-on .1 .0)) (name-on .1 .1 (g .ready .inside))
-
-    pub class-tables : View.ProgramReady m (c1 .counts)
-    class-tables = name-rests .ready .tables
+    name-rests = rests-moved g (ident-on a f .0) (omega (arith, ident-on a f .1 .0)) (ident-on a f .1 .1 (g .ready .inside))
 
     module _ {m1 : List ℕ} {x : NewClass}
         (b : View.ProgramDid (View.classFor (View.limitsOf l) n) View.unchanged (c1 .counts .classes) (View.moreClasses (c1 .counts)) m (c1 .counts) m1 (View.classOf x)) where
@@ -61,7 +51,7 @@ module _ (l : Limits) {s m w : List ℕ} {c : Cursor} (g : Rests s m w c) {u : I
 
       pub class-no2 : {e : ℕ} → x ≡ New.Refused e → Class m1 w (Refused e)
       unfolding parseClass
-      class-no2 i = record { is = rw (← name-is, ← full-is i); ok = tt }
+      class-no2 i = record { is = rw (← ident-is a f m w, ← full-is i); ok = tt }
 
       module _ {k : ClassId} {d : Counts} (i : x ≡ New.Added k d) {c2 c3 : Cursor} (p : c2 ≡ countCur d c1) (q : c3 ≡ classCur (Owner.Class k) c2) where
         added : View.ProgramAfter m1 (c1 .counts .classes) (View.moreClasses (c1 .counts)) (k .0) d
@@ -95,7 +85,7 @@ module _ (l : Limits) {s m w : List ℕ} {c : Cursor} (g : Rests s m w c) {u : I
         module _ {m2 w2 : List ℕ} {y : Moved} (t : Takes (loop (parseClassMember (View.limitsOf l) s (k .0)) (turns s) tt) 0 s m1 w c3 m2 w2 (movedOf y)) where
           pub class-no3 : {e : ℕ} → y ≡ Refused e → Class m2 w2 (Refused e)
           unfolding parseClass
-          class-no3 z = record { is = let h = rw z at (t .is) in let i = rw opened-is at h in rw (← name-is, ← added-is, ← i); ok = tt }
+          class-no3 z = record { is = let h = rw z at (t .is) in let i = rw opened-is at h in rw (← ident-is a f m w, ← added-is, ← i); ok = tt }
 
           module _ {c4 : Cursor} (z : y ≡ On c4) where
             things-ok : Rests s m2 w2 c4 × Onto 0 c3 c4
@@ -122,7 +112,7 @@ module _ (l : Limits) {s m w : List ℕ} {c : Cursor} (g : Rests s m w c) {u : I
 
               pub class-twice : {j : ClassId} → o ≡ Found.At j → Class m2 w2 (Refused 7)
               unfolding parseClass
-              class-twice r = record { is = rw (← name-is, ← added-is, ← things-is, ← found r); ok = tt }
+              class-twice r = record { is = rw (← ident-is a f m w, ← added-is, ← things-is, ← found r); ok = tt }
 
               pub class-yes : {c5 : Cursor} → o ≡ Found.Nothing → c5 ≡ classCur Owner.Nobody c4 → c .class ≡ Owner.Nobody → Class m2 w2 (On c5)
               unfolding parseClass
@@ -130,21 +120,31 @@ module _ (l : Limits) {s m w : List ℕ} {c : Cursor} (g : Rests s m w c) {u : I
                   let q = things-ok .0 .ready in
                   let st = things-ok .1 in
                   rw e (record {
-                    is = rw (shut, ← name-is, ← added-is, ← things-is, ← unknown r);
+                    is = rw (shut, ← ident-is a f m w, ← added-is, ← things-is, ← unknown r);
                     ok = (
                       record {
                         ready = record { script = q .script; inside = q .inside; tables = q .tables; scratch = q .scratch; room = q .room; args = q .args };
                         args = things-ok .0 .args;
                       },
                       record {
-                        on = omega (arith, st .on, opened-at, name-on .1 .0);
+                        on = omega (arith, st .on, opened-at, ident-on a f .1 .0);
                         class = sym nobody;
                         functions =
-                            omega
-                            (arith, st .functions, ap (λ (z : Cursor). z .counts .functions) opened, ap (λ (z : Counts). z .functions) (added .counts), ap (λ (z : Cursor). z .counts .functions) (name-on .0));
+                            omega (
+                              arith,
+                              st .functions,
+                              ap (λ (z : Cursor). z .counts .functions) opened,
+                              ap (λ (z : Counts). z .functions) (added .counts),
+                              ap (λ (z : Cursor). z .counts .functions) (ident-on a f .0),
+                            );
                         classes =
-                            omega
-                            (arith, st .classes, ap (λ (z : Cursor). z .counts .classes) opened, ap (λ (z : Counts). z .classes) (added .counts), ap (λ (z : Cursor). z .counts .classes) (name-on .0));
+                            omega (
+                              arith,
+                              st .classes,
+                              ap (λ (z : Cursor). z .counts .classes) opened,
+                              ap (λ (z : Counts). z .classes) (added .counts),
+                              ap (λ (z : Cursor). z .counts .classes) (ident-on a f .0),
+                            );
                       },
                     );
                   })

@@ -5,15 +5,16 @@ use Prim.Native.Nat.{ℕ, zero, suc, _+_, _-_, _≤_, _<_}
 use native.Mathlib.Omega.{arith}
 use lib.ListN.{length}
 use Rattle.rules.specs.Actions.{Answer, answered, refused, ifAnswered, Turn, again, loop}
-use Rattle.rules.specs.Reading.{Parser, Reads, turns}
+use Rattle.rules.specs.Reading.{Parser, Reads, turns, next}
 use Rattle.lexer.specs.declared.Lexed.{Lexed}
 use Rattle.lexer.specs.declared.Lexed.the-variants.{Found}
 use Rattle.lexer.specs.declared.Word.{Word}
+use Rattle.lexer.specs.Lexed.{wordIn}
 use Rattle.cursor.specs.Cursor.{parserOf, moveCur}
 use Rattle.cursor.specs.Promises.{Out, done, stop, Sees, movedOf}
 use Rattle.cursor.specs.declared.Cursor.{Cursor}
 use Rattle.cursor.specs.declared.Moved.the-variants as Moved
-use Rattle.cursor.proofs.Wording.{word-read}
+use Rattle.cursor.proofs.Wording.{word-read, next-found}
 use Rattle.functions.specs.Bodies.{Rests, Onto, Takes}
 use Rattle.functions.proofs.Laws.{ready-moved}
 use Rattle.parser.specs.declared.classes.Turned.{Turned}
@@ -44,6 +45,10 @@ pub rests-moved : {s m w : List ℕ} {c c1 : Cursor} → Rests s m w c → c1 �
 rests-moved {c1 = c1} g e a b = rw e (rests-move g (c1 .at) a b)
 
 -- over a word that was looked at
+pub next-is : {s : List ℕ} {c c1 : Cursor} {r : Lexed} {x : Word} → Sees s c r → r ≡ Found x → c1 ≡ moveCur (x .next) c → (m w : List ℕ)
+    → answered (wordIn s x, parserOf s m w c1) ≡ next s (parserOf s m w c)
+next-is v f e m w = rw e (next-found v m w f)
+
 module _ {s m w : List ℕ} {c : Cursor} (g : Rests s m w c) {r : Lexed} (v : Sees s c r) {x : Word} (f : r ≡ Found x) {c1 : Cursor} (e : c1 ≡ moveCur (x .next) c) where
   there : c .at ≤ x .next
   there = let h = word-read v f in omega (arith, h .behind, h .next)

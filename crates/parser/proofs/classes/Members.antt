@@ -22,7 +22,6 @@ use Rattle.program.specs.View as View
 use Rattle.program.specs.declared.Function.{Function}
 use Rattle.program.specs.declared.Limits.{Limits}
 use Rattle.program.specs.declared.Name.{Name}
-use Rattle.lexer.specs.Lexed.{wordIn}
 use Rattle.lexer.specs.declared.Lexed.{Lexed}
 use Rattle.lexer.specs.declared.Lexed.the-variants as W
 use Rattle.lexer.specs.declared.Word.{Word}
@@ -34,14 +33,15 @@ use Rattle.cursor.specs.declared.Ident.{Ident}
 use Rattle.cursor.specs.declared.Ident.the-variants as Ident
 use Rattle.cursor.specs.declared.Moved.{Moved}
 use Rattle.cursor.specs.declared.Moved.the-variants.{On, Refused}
-use Rattle.cursor.proofs.Wording.{spelt-end, is-yes, is-no, word-read, next-found, next-none}
+use Rattle.cursor.proofs.Wording.{spelt-end, is-yes, is-no, word-read, next-none}
+use Rattle.cursor.proofs.Laws.{ident-on, ident-is}
 use Rattle.functions.specs.declared.params.OpenedFun.{OpenedFun}
 use Rattle.functions.specs.declared.params.OpenedFun.the-variants as OpenedFun
 use Rattle.functions.specs.Bodies.{Rests, Onto, Takes, Taken}
 use Rattle.parser.specs.declared.classes.Turned.{Turned}
 use Rattle.parser.specs.declared.classes.Turned.the-variants as T
 use Rattle.parser.specs.classes.Turning.{Turns}
-use Rattle.parser.proofs.classes.Loops.{rests-moved, onto-moved, word-on, word-rests, thing-no, thing-on}
+use Rattle.parser.proofs.classes.Loops.{rests-moved, onto-moved, word-on, word-rests, thing-no, thing-on, next-is}
 
 -- ---- parse_method
 
@@ -61,7 +61,8 @@ module _ (l : Limits) {s m w : List ℕ} {c : Cursor} (k : ClassId) {x : OpenedF
     read-is = rw o at (a .takes .is)
 
     module _ {r : Function} (b : View.ReadsFun m1 (c1 .counts) (f .0) r) where
-      named-is : methodNamed (View.programView s m1 (c1 .counts)) (k .0) (nameIn s (r .name)) ≡ methodNamed (View.programView s m1 (c1 .counts)) (k .0) (P.function (View.programView s m1 (c1 .counts)) (f .0) .name)
+      named-is : methodNamed (View.programView s m1 (c1 .counts)) (k .0) (nameIn s (r .name))
+          ≡ methodNamed (View.programView s m1 (c1 .counts)) (k .0) (P.function (View.programView s m1 (c1 .counts)) (f .0) .name)
       named-is = ap (λ (z : P.Function). methodNamed (View.programView s m1 (c1 .counts)) (k .0) (z .name)) (sym (b .is s))
 
       module _ {y : FoundFun} (d : funFound y ≡ methodNamed (View.programView s m1 (c1 .counts)) (k .0) (nameIn s (r .name))) where
@@ -102,17 +103,11 @@ module _ (l : Limits) {s m w : List ℕ} {c : Cursor} (k : ClassId) (g : Rests s
     attr-no2 i = record { is = let h = rw i at (b .moves .is m w) in rw (← colon-is, ← h); ok = tt }
 
     module _ {c2 : Cursor} {n : Name} (i : u ≡ Ident.Found c2 n) where
-      name-on : (c2 ≡ moveCur (c2 .at) c1) × ((c1 .at + 1 ≤ c2 .at) × (c1 .at ≤ length s → c2 .at ≤ length s))
-      name-on = let h = rw i at (b .moves .ok) in h
-
-      name-is : answered (nameIn s n, parserOf s m w c2) ≡ R.expectIdent s (parserOf s m w c1)
-      name-is = rw i at (b .moves .is m w)
-
       whole : c2 ≡ moveCur (c2 .at) c
-      whole = name-on .0 ∙ ap (λ (z : Cursor). moveCur (c2 .at) z) (colon-on .0)
+      whole = ident-on b i .0 ∙ ap (λ (z : Cursor). moveCur (c2 .at) z) (colon-on .0)
 
       attr-rests : Rests s m w c2
-      attr-rests = rests-moved g whole (omega (arith, colon-on .1 .0, name-on .1 .0)) (name-on .1 .1 (colon-on .1 .1 (g .ready .inside)))
+      attr-rests = rests-moved g whole (omega (arith, colon-on .1 .0, ident-on b i .1 .0)) (ident-on b i .1 .1 (colon-on .1 .1 (g .ready .inside)))
 
       pub attr-tables : View.ProgramReady m (c2 .counts)
       attr-tables = attr-rests .ready .tables
@@ -123,20 +118,20 @@ module _ (l : Limits) {s m w : List ℕ} {c : Cursor} (k : ClassId) (g : Rests s
       module _ {m' : List ℕ} {y : Declared} (d : Declares l (k .0) n s m (c2 .counts) m' y) where
         pub attr-no3 : {e : ℕ} → y ≡ Declared.Refused e → Attr m' (Refused e)
         unfolding parseAttr parserOf
-        attr-no3 j = record { is = let h = rw j at (d .is (parserOf s m w c2)) in rw (← colon-is, ← name-is) h; ok = tt }
+        attr-no3 j = record { is = let h = rw j at (d .is (parserOf s m w c2)) in rw (← colon-is, ← ident-is b i m w) h; ok = tt }
 
         pub attr-yes : y ≡ Declared.Done → Attr m' (On c2)
         unfolding parseAttr parserOf
         attr-yes j =
             let q = attr-rests .ready in
             record {
-              is = let h = rw j at (d .is (parserOf s m w c2)) in rw (← colon-is, ← name-is) h;
+              is = let h = rw j at (d .is (parserOf s m w c2)) in rw (← colon-is, ← ident-is b i m w) h;
               ok = (
                 record {
                   ready = record { script = q .script; inside = q .inside; tables = rw j at (d .ok); scratch = q .scratch; room = q .room; args = q .args };
                   args = attr-rests .args;
                 },
-                onto-moved 1 whole (omega (arith, colon-on .1 .0, name-on .1 .0)),
+                onto-moved 1 whole (omega (arith, colon-on .1 .0, ident-on b i .1 .0)),
               );
             }
 
@@ -163,23 +158,20 @@ module _ (l : Limits) {s m w : List ℕ} {c : Cursor} (k : ClassId) (g : Rests s
     abbrev went : Rests s m w c1 × Onto 0 c c1
     went = (word-rests g v f e, word-on g v f e)
 
-    next-is : answered (wordIn s x, parserOf s m w c1) ≡ R.next s (parserOf s m w c)
-    next-is = rw e (next-found v m w f)
-
     pub member-over : x .kind ≡ 0 → Member m w (T.Ends c1)
     unfolding parseClassMember
-    member-over z = record { takes = record { is = rw (← next-is, is-yes x (word-read v f) "" spelt-nothing z); ok = went }; further = tt }
+    member-over z = record { takes = record { is = rw (← next-is v f e m w, is-yes x (word-read v f) "" spelt-nothing z); ok = went }; further = tt }
 
     module _ (n0 : x .kind ≡ 0 → ⊥) where
       pub member-ends : x .kind ≡ 5 → Member m w (T.Ends c1)
       unfolding parseClassMember
-      member-ends z = record { takes = record { is = rw (← next-is, is-no x (word-read v f) "" spelt-nothing n0, is-yes x (word-read v f) "end" spelt-end z); ok = went }; further = tt }
+      member-ends z = record { takes = record { is = rw (← next-is v f e m w, is-no x (word-read v f) "" spelt-nothing n0, is-yes x (word-read v f) "end" spelt-end z); ok = went }; further = tt }
 
       module _ (n5 : x .kind ≡ 5 → ⊥) where
         def-is : x .kind ≡ 3 → ifAnswered {B = Turn (Unit {0}) (Unit {0}) × Parser} (parseMethod (View.limitsOf l) s (k .0) (parserOf s m w c1)) (λ r. answered (again tt, r .1))
             ≡ parseClassMember (View.limitsOf l) s (k .0) tt (parserOf s m w c)
         unfolding parseClassMember
-        def-is z = rw (← next-is, is-no x (word-read v f) "" spelt-nothing n0, is-no x (word-read v f) "end" spelt-end n5, is-yes x (word-read v f) "def" spelt-def z)
+        def-is z = rw (← next-is v f e m w, is-no x (word-read v f) "" spelt-nothing n0, is-no x (word-read v f) "end" spelt-end n5, is-yes x (word-read v f) "def" spelt-def z)
 
         module _ (z : x .kind ≡ 3) {m1 w1 : List ℕ} {y : Moved} (b : Takes (parseMethod (View.limitsOf l) s (k .0)) 1 s m w c1 m1 w1 (movedOf y)) where
           pub member-def-no : {n : ℕ} → y ≡ Refused n → Member m1 w1 (T.Refused n)
@@ -193,8 +185,13 @@ module _ (l : Limits) {s m w : List ℕ} {c : Cursor} (k : ClassId) (g : Rests s
               ≡ parseClassMember (View.limitsOf l) s (k .0) tt (parserOf s m w c)
           unfolding parseClassMember
           attr-is z =
-              rw
-              (← next-is, is-no x (word-read v f) "" spelt-nothing n0, is-no x (word-read v f) "end" spelt-end n5, is-no x (word-read v f) "def" spelt-def n3, is-yes x (word-read v f) "attr_accessor" spelt-attr z)
+              rw (
+                ← next-is v f e m w,
+                is-no x (word-read v f) "" spelt-nothing n0,
+                is-no x (word-read v f) "end" spelt-end n5,
+                is-no x (word-read v f) "def" spelt-def n3,
+                is-yes x (word-read v f) "attr_accessor" spelt-attr z,
+              )
 
           module _ (z : x .kind ≡ 9) {m1 : List ℕ} {y : Moved} (b : Takes (parseAttr (View.limitsOf l) s (k .0)) 1 s m w c1 m1 w (movedOf y)) where
             pub member-attr-no : {n : ℕ} → y ≡ Refused n → Member m1 w (T.Refused n)
@@ -209,8 +206,13 @@ module _ (l : Limits) {s m w : List ℕ} {c : Cursor} (k : ClassId) (g : Rests s
               record {
                 takes = record {
                   is =
-                      rw
-                      (← next-is, is-no x (word-read v f) "" spelt-nothing n0, is-no x (word-read v f) "end" spelt-end n5, is-no x (word-read v f) "def" spelt-def n3, is-no x (word-read v f) "attr_accessor" spelt-attr n9);
+                      rw (
+                        ← next-is v f e m w,
+                        is-no x (word-read v f) "" spelt-nothing n0,
+                        is-no x (word-read v f) "end" spelt-end n5,
+                        is-no x (word-read v f) "def" spelt-def n3,
+                        is-no x (word-read v f) "attr_accessor" spelt-attr n9,
+                      );
                   ok = tt;
                 };
                 further = tt;

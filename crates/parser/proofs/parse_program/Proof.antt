@@ -1,4 +1,4 @@
--- `reader::parse_program` meets its contract. Assumes nothing.
+-- `parser::parse_program` meets its contract. Assumes nothing.
 use Rattle.parser.proofs.classes.Loops.{Going, going-start, going-no, going-ends, going-less, going-on}
 use Rattle.rules.specs.Reading.{parseTop}
 use Rattle.program.specs.View.{limitsOf}

@@ -1,4 +1,4 @@
--- `reader::parse_top` meets its contract. Assumes nothing.
+-- `parser::parse_top` meets its contract. Assumes nothing.
 use Rattle.parser.proofs.classes.Loops.{word-rests}
 use Rattle.parser.proofs.Tops.{top-none, top-nobody, top-ends, top-def-no, top-def, top-class-no, top-class, top-other}
 use borrow.Author.Needs.{needs}
@@ -82,8 +82,14 @@ parse-class-requires c κs =
     let at-move-to = c .before .before .before .before .before .before .before .before in
     let at-x = at-move-to .before .before in
     let at-peek = at-x .before .before in
-    let start = at-peek .before .before .before .before in
-    (word-rests (start .pre .0) (at-peek .peek .ensures) (at-x .x .given .1) (at-move-to .move-to .ensures), (start .pre .1 .0, top-nobody (start .args .limits) (start .pre .0) (at-peek .peek .ensures) (at-x .x .given .1) (at-move-to .move-to .ensures) (start .pre .1 .1)))
+    let start = at-peek .before .before .before .before in (
+      word-rests (start .pre .0) (at-peek .peek .ensures) (at-x .x .given .1) (at-move-to .move-to .ensures),
+      (
+        start .pre .1 .0,
+        top-nobody (start .args .limits) (start .pre .0) (at-peek .peek .ensures) (at-x .x .given .1) (at-move-to .move-to .ensures)
+            (start .pre .1 .1),
+      ),
+    )
 
 enum-known-c2-2 : tie.Need-enum-known-c2-2
 enum-known-c2-2 c = search needs

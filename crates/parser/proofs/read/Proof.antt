@@ -1,4 +1,4 @@
--- `reader::read` meets its contract. Assumes nothing.
+-- `parser::read` meets its contract. Assumes nothing.
 use Rattle.parser.proofs.Laws.{script-small, reads-limited}
 use borrow.Author.Needs.{needs}
 use Rattle.parser.proofs.read.Statement.{statement}

@@ -1,4 +1,4 @@
--- `reader::read_within` meets its contract. Assumes nothing.
+-- `parser::read_within` meets its contract. Assumes nothing.
 use Rattle.parser.proofs.Tops.{start-nobody, read-long, read-rests, read-no, read-yes}
 use native.Mathlib.Omega.{arith}
 use mathlib.Core.Path.{_∙_}
@@ -18,8 +18,16 @@ start-requires : tie.Need-start-requires
 start-requires c κs = search needs
 
 parse-program-requires : tie.Need-parse-program-requires
-parse-program-requires c κs =
-    (read-rests (c .before .before .before .before .before .before .before .before .before .before .before .before .args .limits) _ (omega (arith, c .before .before .before .before .before .before .before .if1 .left)) (c .before .before .before .before .before .before .before .before .before .before .before .before .pre .1 .1 .1) _ (c .before .before .before .before .before .no-program .ensures) (c .before .before .start .ensures) (c .before .before .before .before .before .before .before .before .before .before .before .before .pre .1 .0), (c .before .before .before .before .before .before .before .before .before .before .before .before .pre .1 .1 .0, start-nobody (c .before .before .start .ensures)))
+parse-program-requires c κs = (
+  read-rests (c .before .before .before .before .before .before .before .before .before .before .before .before .args .limits) _
+      (omega (arith, c .before .before .before .before .before .before .before .if1 .left))
+      (c .before .before .before .before .before .before .before .before .before .before .before .before .pre .1 .1 .1) _
+      (c .before .before .before .before .before .no-program .ensures) (c .before .before .start .ensures)
+      (c .before .before .before .before .before .before .before .before .before .before .before .before .pre .1 .0),
+  let at-start = c .before .before in
+      let start = at-start .before .before .before .before .before .before .before .before .before .before in
+      (start .pre .1 .1 .0, start-nobody (at-start .start .ensures)),
+)
 
 enum-known-c1 : tie.Need-enum-known-c1
 enum-known-c1 c = search needs

@@ -6,6 +6,7 @@ use lib.ListN.{length-replicate}
 use borrow.Author.Needs.{needs}
 use Rattle.phis.proofs.join_arms.Statement.{statement}
 use Rattle.phis.proofs.join_arms.Tie as tie
+use Rattle.variables.specs.Layout.{bindingsMost}
 
 add-hi : tie.Need-add-hi
 add-hi c = search needs
@@ -23,8 +24,26 @@ slice-aggregate-join-rows : tie.Need-slice-aggregate-join-rows
 slice-aggregate-join-rows c = search needs
 
 join-rows-requires : tie.Need-join-rows-requires
-join-rows-requires c κs =
-    (search needs, (search needs, (search needs, (search needs, (arms-fit (c .before .before .before .before .before .before .before .before .before .before .before .pre .1 .1 .1 .1 .0) (c .before .before .before .before .before .before .set-aside .ensures), (arms-sorted (c .before .before .before .before .before .before .before .before .before .before .before .pre .1 .1 .1 .1 .0) (c .before .before .before .before .before .before .set-aside .ensures) (c .before .before .before .before .before .before .before .before .before .before .before .pre .1 .1 .1 .1 .1), arms-none (c .before .before .before .before .before .before .before .before .before .before .before .pre .1 .1 .1 .1 .0) (c .before .before .before .before .before .before .set-aside .ensures)))))))
+join-rows-requires c κs = (
+  search needs,
+  (
+    search needs,
+    (
+      search needs,
+      (
+        search needs,
+        let at-set-aside = c .before .before .before .before .before .before in
+            let start = at-set-aside .before .before .before .before .before in (
+              arms-fit (start .pre .1 .1 .1 .1 .0) (at-set-aside .set-aside .ensures),
+              (
+                arms-sorted (start .pre .1 .1 .1 .1 .0) (at-set-aside .set-aside .ensures) (start .pre .1 .1 .1 .1 .1),
+                arms-none (start .pre .1 .1 .1 .1 .0) (at-set-aside .set-aside .ensures),
+              ),
+            ),
+      ),
+    ),
+  ),
+)
 
 same-length : tie.Need-same-length
 same-length c = search needs
@@ -43,15 +62,40 @@ slice-aggregate-note-rows : tie.Need-slice-aggregate-note-rows
 slice-aggregate-note-rows c = search needs
 
 note-rows-requires : tie.Need-note-rows-requires
-note-rows-requires c κs =
-    (omega (arith, length-replicate {A = ℕ} 8192 0), (arms-place (c .before .before .before .before .before .before .before .before .before .before .pre .1 .1 .1 .1 .0) (c .before .before .before .before .before .set-aside .ensures), (arms-sorted (c .before .before .before .before .before .before .before .before .before .before .pre .1 .1 .1 .1 .0) (c .before .before .before .before .before .set-aside .ensures) (c .before .before .before .before .before .before .before .before .before .before .pre .1 .1 .1 .1 .1), zeros-blank 8192)))
+note-rows-requires c κs = (
+  omega (arith, length-replicate {A = ℕ} bindingsMost 0),
+  let at-set-aside = c .before .before .before .before .before in
+      let start = at-set-aside .before .before .before .before .before in (
+        arms-place (start .pre .1 .1 .1 .1 .0) (at-set-aside .set-aside .ensures),
+        (arms-sorted (start .pre .1 .1 .1 .1 .0) (at-set-aside .set-aside .ensures) (start .pre .1 .1 .1 .1 .1), zeros-blank bindingsMost),
+      ),
+)
 
 slice-aggregate-join-rows-2 : tie.Need-slice-aggregate-join-rows-2
 slice-aggregate-join-rows-2 c = search needs
 
 join-rows-requires-2 : tie.Need-join-rows-requires-2
-join-rows-requires-2 c κs =
-    (search needs, (search needs, (search needs, (search needs, (arms-fit (c .before .before .before .before .before .before .before .before .before .before .before .before .before .before .before .pre .1 .1 .1 .1 .0) (c .before .before .before .before .before .before .before .before .before .before .set-aside .ensures), (arms-sorted (c .before .before .before .before .before .before .before .before .before .before .before .before .before .before .before .pre .1 .1 .1 .1 .0) (c .before .before .before .before .before .before .before .before .before .before .set-aside .ensures) (c .before .before .before .before .before .before .before .before .before .before .before .before .before .before .before .pre .1 .1 .1 .1 .1), c .before .before .before .before .note-rows .ensures))))))
+join-rows-requires-2 c κs = (
+  search needs,
+  (
+    search needs,
+    (
+      search needs,
+      (
+        search needs,
+        let at-note-rows = c .before .before .before .before in
+            let at-set-aside = at-note-rows .before .before .before .before .before .before in
+            let start = at-set-aside .before .before .before .before .before in (
+              arms-fit (start .pre .1 .1 .1 .1 .0) (at-set-aside .set-aside .ensures),
+              (
+                arms-sorted (start .pre .1 .1 .1 .1 .0) (at-set-aside .set-aside .ensures) (start .pre .1 .1 .1 .1 .1),
+                at-note-rows .note-rows .ensures,
+              ),
+            ),
+      ),
+    ),
+  ),
+)
 
 same-length-3 : tie.Need-same-length-3
 same-length-3 c = search needs

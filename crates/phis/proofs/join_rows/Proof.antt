@@ -22,8 +22,22 @@ enum-known-y : tie.Need-enum-known-y Inv-loop μ-loop
 enum-known-y c = search needs
 
 join-one-requires : tie.Need-join-one-requires Inv-loop μ-loop
-join-one-requires c κs =
-    (c .before .before .before .before .before .before .before .loop .inv .ready, (search needs, (omega (arith, c .before .before .before .before .before .before .before .loop .inv .grown), omega (arith, c .before .before .before .before .before .before .before .loop .inv .big, c .before .before .before .before .before .before .before .loop .inv .room, c .before .before .before .before .before .before .before .loop .inv .most, c .before .before .before .before .before .next-join .ensures .join _ (c .before .before .before .y .given .1)))))
+join-one-requires c κs = (
+  c .before .before .before .before .before .before .before .loop .inv .ready,
+  (
+    search needs,
+    (
+      omega (arith, c .before .before .before .before .before .before .before .loop .inv .grown),
+      omega (
+        arith,
+        c .before .before .before .before .before .before .before .loop .inv .big,
+        c .before .before .before .before .before .before .before .loop .inv .room,
+        c .before .before .before .before .before .before .before .loop .inv .most,
+        c .before .before .before .before .before .next-join .ensures .join _ (c .before .before .before .y .given .1),
+      ),
+    ),
+  ),
+)
 
 enum-known-n1 : tie.Need-enum-known-n1 Inv-loop μ-loop
 enum-known-n1 c = search needs
@@ -48,8 +62,13 @@ returns c =
 
 add-lo : tie.Need-add-lo Inv-loop μ-loop
 add-lo c =
-    omega
-    (arith, c .before .before .before .before .before .before .before .before .before .before .before .before .before .before .before .before .loop .inv .left, c .before .before .before .before .before .before .before .before .before .before .before .before .before .before .next-join .ensures .join _ (c .before .before .before .before .before .before .before .before .before .before .before .before .y .given .1) .lefts)
+    omega (
+      arith,
+      c .before .before .before .before .before .before .before .before .before .before .before .before .before .before .before .before .loop .inv .left,
+      c .before .before .before .before .before .before .before .before .before .before .before .before .before .before .next-join .ensures .join
+          _
+          (c .before .before .before .before .before .before .before .before .before .before .before .before .y .given .1) .lefts,
+    )
 
 sub-ln : tie.Need-sub-ln Inv-loop μ-loop
 sub-ln c =
@@ -59,8 +78,13 @@ sub-ln c =
 
 add-hi : tie.Need-add-hi Inv-loop μ-loop
 add-hi c =
-    omega
-    (arith, c .before .before .before .before .before .before .before .before .before .before .before .before .before .before .before .before .before .before .loop .inv .right, c .before .before .before .before .before .before .before .before .before .before .before .before .before .before .before .before .next-join .ensures .join _ (c .before .before .before .before .before .before .before .before .before .before .before .before .before .before .y .given .1) .rights)
+    omega (
+      arith,
+      c .before .before .before .before .before .before .before .before .before .before .before .before .before .before .before .before .before .before .loop .inv .right,
+      c .before .before .before .before .before .before .before .before .before .before .before .before .before .before .before .before .next-join .ensures .join
+          _
+          (c .before .before .before .before .before .before .before .before .before .before .before .before .before .before .y .given .1) .rights,
+    )
 
 sub-rn : tie.Need-sub-rn Inv-loop μ-loop
 sub-rn c =
@@ -70,8 +94,18 @@ sub-rn c =
 
 loop-less : tie.Need-loop-less Inv-loop μ-loop
 loop-less c =
-    omega
-    (arith, c .before .before .before .before .before .before .before .before .before .before .before .before .before .before .before .before .before .next-join .ensures .join _ (c .before .before .before .before .before .before .before .before .before .before .before .before .before .before .before .y .given .1) .lefts, c .before .before .before .before .before .before .before .before .before .before .before .before .before .before .before .before .before .next-join .ensures .join _ (c .before .before .before .before .before .before .before .before .before .before .before .before .before .before .before .y .given .1) .rights, c .before .before .before .before .before .before .before .before .before .before .before .before .before .before .before .before .before .next-join .ensures .join _ (c .before .before .before .before .before .before .before .before .before .before .before .before .before .before .before .y .given .1) .some)
+    omega (
+      arith,
+      c .before .before .before .before .before .before .before .before .before .before .before .before .before .before .before .before .before .next-join .ensures .join
+          _
+          (c .before .before .before .before .before .before .before .before .before .before .before .before .before .before .before .y .given .1) .lefts,
+      c .before .before .before .before .before .before .before .before .before .before .before .before .before .before .before .before .before .next-join .ensures .join
+          _
+          (c .before .before .before .before .before .before .before .before .before .before .before .before .before .before .before .y .given .1) .rights,
+      c .before .before .before .before .before .before .before .before .before .before .before .before .before .before .before .before .before .next-join .ensures .join
+          _
+          (c .before .before .before .before .before .before .before .before .before .before .before .before .before .before .before .y .given .1) .some,
+    )
 
 loop-again : tie.Need-loop-again Inv-loop μ-loop
 loop-again c =

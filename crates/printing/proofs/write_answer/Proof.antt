@@ -2,11 +2,12 @@
 use Prim.Native.Nat.{ℕ}
 use lib.ListN.{length-replicate}
 use Rattle.answer.specs.Layout.{answerLen}
-use Rattle.call.specs.Call.{programLen, stateLen}
 use Rattle.printing.proofs.Laws.{answer-told, refusal-told}
 use borrow.Author.Needs.{needs}
 use Rattle.printing.proofs.write_answer.Statement.{statement}
 use Rattle.printing.proofs.write_answer.Tie as tie
+use Rattle.state.specs.Layout.{stateLen}
+use Rattle.chains.specs.Layout.{programLen}
 
 slice-aggregate-analyze : tie.Need-slice-aggregate-analyze
 slice-aggregate-analyze c = search needs
@@ -36,13 +37,17 @@ tell-refusal-requires : tie.Need-tell-refusal-requires
 tell-refusal-requires c κs = search needs
 
 returns : tie.Need-returns
-returns c = let k = c .before .before .before .before .before .before .before .analyze in answer-told _ _ _ _ (k .result) (length-replicate {A = ℕ} answerLen 0) (length-replicate {A = ℕ} programLen 0) (length-replicate {A = ℕ} stateLen 0) (k .ensures) (c .tell-answer .result) (search needs) (search needs) (c .tell-answer .ensures)
+returns c = let k = c .before .before .before .before .before .before .before .analyze in
+    answer-told _ _ _ _ (k .result) (length-replicate {A = ℕ} answerLen 0) (length-replicate {A = ℕ} programLen 0)
+    (length-replicate {A = ℕ} stateLen 0) (k .ensures) (c .tell-answer .result) (search needs) (search needs) (c .tell-answer .ensures)
 
 returns-2 : tie.Need-returns-2
 returns-2 c =
     let at-q = c .before .before in
     let at-analyze = at-q .before .before .before .before .before in
-    let k = at-analyze .analyze in refusal-told _ _ _ _ (k .result) (length-replicate {A = ℕ} answerLen 0) (length-replicate {A = ℕ} programLen 0) (length-replicate {A = ℕ} stateLen 0) (k .ensures) (c .tell-refusal .result) (at-q .q .given .1) (c .tell-refusal .ensures)
+    let k = at-analyze .analyze in
+    refusal-told _ _ _ _ (k .result) (length-replicate {A = ℕ} answerLen 0) (length-replicate {A = ℕ} programLen 0)
+    (length-replicate {A = ℕ} stateLen 0) (k .ensures) (c .tell-refusal .result) (at-q .q .given .1) (c .tell-refusal .ensures)
 
 pub write-answer-spec : {M : Type 1} → statement M
 write-answer-spec =

@@ -26,8 +26,14 @@ add-commit : tie.Need-add-commit
 add-commit c = search needs
 
 commit-requires : tie.Need-commit-requires
-commit-requires c κs =
-    (call-ready _ _ _ _ (c .before .before .before .before .before .before .before .before .before .before .before .before .args .g) _ (c .before .before .before .before .before .before .before .before .before .before .before .before .pre .0) (c .before .before .before .before .before .before .before .before .before .before .before .before .pre .1 .0) (c .before .before .before .before .before .before .before .before .before .before .before .before .pre .1 .1 .0) (c .before .before .before .before .before .before .before .put-given .ensures) (c .before .before .before .copy-opnds .ensures), search needs)
+commit-requires c κs = (
+  let at-copy-opnds = c .before .before .before in
+      let at-put-given = at-copy-opnds .before .before .before .before in
+      let start = at-put-given .before .before .before .before .before in
+      call-ready _ _ _ _ (start .args .g) _ (start .pre .0) (start .pre .1 .0) (start .pre .1 .1 .0) (at-put-given .put-given .ensures)
+      (at-copy-opnds .copy-opnds .ensures),
+  search needs,
+)
 
 same-length : tie.Need-same-length
 same-length c = search needs

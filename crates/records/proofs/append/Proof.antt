@@ -1,4 +1,5 @@
--- `records::append` meets its contract: a walk of its MIR, by hand. The place of `t[n]` is computed, the borrow is opened, element n is taken out of the row and stored over, and the borrow is closed at the list with the record in it.
+-- `records::append` meets its contract: a walk of its MIR, by hand. The place of `t[n]` is computed, the borrow is opened, element n is taken out of
+-- the row and stored over, and the borrow is closed at the list with the record in it.
 -- Assumes nothing.
 use mathlib.Core.Path.{_≡_, refl, sym, ap, subst}
 use Prim.Native.Nat.{ℕ, _<_, _^_, _*_, _+_}
@@ -60,7 +61,8 @@ place-fits i n l room = omega (arith, l, room .1)
 next-fits : (i n : ℕ) → i < n → Room T.the-row n → i + 1 < 2 ^ 64
 next-fits i n l room = omega (arith, l, room .1)
 
-module _ {M : Type 1} (𝓤 : URA M) (H : Heap 𝓤) (A : Atoms 𝓤) (W : Given 𝓤 H A) (mem : Memory → SProp 𝓤) (run : Routine → Fun 𝓤) (κ : Lft) (q : Share) (b o : ℕ) (γ : GName) (ys : List Record) (n : ℕ) (new : Record) where
+module _ {M : Type 1} (𝓤 : URA M) (H : Heap 𝓤) (A : Atoms 𝓤) (W : Given 𝓤 H A) (mem : Memory → SProp 𝓤) (run : Routine → Fun 𝓤) (κ : Lft) (q : Share)
+    (b o : ℕ) (γ : GName) (ys : List Record) (n : ℕ) (new : Record) where
   abbrev x : RefT (List Record) × (ℕ × (Record × Unit {0}))
   x = (record { ptr = (b, o); name = γ; now = ys }, (n, (new, tt)))
 

@@ -54,6 +54,7 @@ use Rattle.program.specs.View.{ProgramReady}
 use Rattle.program.specs.declared.Counts.{Counts}
 use Rattle.program.proofs.Counts as C
 use Rattle.program.proofs.Counts.Laws as C′
+use Rattle.memory.specs.Layout.{instructionsMost}
 use Rattle.records.specs.Records.{recordAt, Holds}
 use Rattle.records.specs.declared.Record.{Record}
 use Rattle.records.proofs.Again.{LentAgain, lends-again, comes-back}
@@ -105,7 +106,10 @@ more = mapBody (spell mir.table) (seq (call #records·drafted (copy (place 2 [])
     (seq (assign (place 8 []) (aggregate (copy (place 7 []) ∷ copy (place 1 (field 1 ∷ [])) ∷ [])))
     (call #records·append (copy (place 8 []) ∷ copy (place 4 []) ∷ copy (place 5 []) ∷ []) (place 4 [])))))
 
-module _ {M : Type 1} (𝓤 : URA M) (H : Heap 𝓤) (A : Atoms 𝓤) (W : Given 𝓤 H A) (mem : Memory → SProp 𝓤) (run : Routine → Fun 𝓤) (κ κ′ : Lft) (q q′ : Share) (b o : ℕ) (γ : GName) (ts : List Record) (s : RefT (List ℕ)) (c : Counts) (ready : ProgramReady (s .now) c) (len-ts : length ts ≡ 2048) (room : Room R.the-row (length ts)) (m-room : Room usize (length (s .now))) (made : Is C.the-row c (spelled c)) where
+module _ {M : Type 1} (𝓤 : URA M) (H : Heap 𝓤) (A : Atoms 𝓤) (W : Given 𝓤 H A) (mem : Memory → SProp 𝓤) (run : Routine → Fun 𝓤) (κ κ′ : Lft)
+    (q q′ : Share) (b o : ℕ) (γ : GName) (ts : List Record) (s : RefT (List ℕ)) (c : Counts) (ready : ProgramReady (s .now) c)
+    (len-ts : length ts ≡ instructionsMost) (room : Room R.the-row (length ts)) (m-room : Room usize (length (s .now)))
+    (made : Is C.the-row c (spelled c)) where
   -- t under the name δ at the list l
   abbrev x : GName → List Record → RefT (List Record)
   x δ l = record { ptr = (b, o); name = δ; now = l }
@@ -181,7 +185,8 @@ module _ {M : Type 1} (𝓤 : URA M) (H : Heap 𝓤) (A : Atoms 𝓤) (W : Given
   Nearer-wf : WellFounded Nearer
   Nearer-wf = InvImage·wf (λ (k : Upto). c .insns - k .0) (Nat·lt-wfRel .wf)
 
-  module _ (𝓣 : Tables 𝓤 H) (fm : FmC 𝓤 H (W .laws) (𝓣 .C)) (known-drafted : Triple 𝓤 (𝓣 .C #records·drafted) (Drafted 𝓤 H A mem run)) (known-append : Triple 𝓤 (𝓣 .C #records·append) (Append 𝓤 H A mem run)) (l₀ l₁ l₂ l₃ l₄ l₅ l₆ l₇ l₈ : ℕ) where
+  module _ (𝓣 : Tables 𝓤 H) (fm : FmC 𝓤 H (W .laws) (𝓣 .C)) (known-drafted : Triple 𝓤 (𝓣 .C #records·drafted) (Drafted 𝓤 H A mem run))
+      (known-append : Triple 𝓤 (𝓣 .C #records·append) (Append 𝓤 H A mem run)) (l₀ l₁ l₂ l₃ l₄ l₅ l₆ l₇ l₈ : ℕ) where
     abbrev tyT : Ty
     tyT = sliceTy (tyRef (named 0) mut (pointee (R.the-row .written)))
 
@@ -215,8 +220,15 @@ module _ {M : Type 1} (𝓤 : URA M) (H : Heap 𝓤) (A : Atoms 𝓤) (W : Given
         -- `drafted` has the token and a copy of what m owns
         move ! (19 ∷ []) $ use1 W (‵ OwnM ⊛ ‵ OwnM) (shr-slice-copy 𝓤 H A W (named 1) κ′ usize .twice s (vm ∷ [])) $ split ! $ move ! (20 ∷ 0 ∷ []) $
         use2 W (raw (Drafted 𝓤 H A mem run .pre (to-drafted (k .0)))) (goes-drafted (k .0) (fits k) (ltb→lt (k .0) (c .insns) less)) $
-        calls-at ! fm (Drafted 𝓤 H A mem run) known-drafted (to-drafted (k .0)) (and-then ! (load ! (from ! (stop !)) (look ! 14 refl)) (and-then ! (load ! (from ! (stop !)) (look ! 12 refl)) (and-then ! (load ! (from ! (stop !)) (look ! 10 refl)) (no-more !)))) (λ u.
-        use1 W (later (some (λ (r : Record). ((‵ (flft κ′ q′) ⊛ ‵ ftrue) ⊛ ‵ (R.the-row .own r (u ∷ []))) ⊛ raw (ensured 𝓤 H A drafted.ended (drafted.clauses 𝓤 H A mem run) (κ′, tt) (s, (c, (k .0, tt))) tt r)))) (id⊢ 𝓤 _) $ await ! tt $ pick ! (λ r.
+        calls-at ! fm (Drafted 𝓤 H A mem run) known-drafted (to-drafted (k .0))
+        (and-then ! (load ! (from ! (stop !)) (look ! 14 refl))
+        (and-then ! (load ! (from ! (stop !)) (look ! 12 refl)) (and-then ! (load ! (from ! (stop !)) (look ! 10 refl)) (no-more !))))
+        (λ u.
+        use1 W
+        (later (some (λ (r : Record). ((‵ (flft κ′ q′) ⊛ ‵ ftrue) ⊛ ‵ (R.the-row .own r (u ∷ [])))
+        ⊛ raw (ensured 𝓤 H A drafted.ended (drafted.clauses 𝓤 H A mem run) (κ′, tt) (s, (c, (k .0, tt))) tt r))))
+        (id⊢ 𝓤 _) $
+        await ! tt $ pick ! (λ r.
         split ! $ move ! (1 ∷ []) $ use1 W (raw (fact 𝓤 (r ≡ recordAt (s .now) (k .0)))) (drafted-said (k .0) r) $ heard ! (r ≡ recordAt (s .now) (k .0)) (λ e. split ! $ move ! (1 ∷ []) $
         -- [what the record owns; m's token; what m owns; _8; …; …; _0; …; t's token; what t owns]
         peeks ! R.the-row (Is R.the-row) (shows 𝓤 H A R.the-row) r (u ∷ []) (λ is.
@@ -226,13 +238,27 @@ module _ {M : Type 1} (𝓤 : URA M) (H : Heap 𝓤) (A : Atoms 𝓤) (W : Given
         (from ! (stop !)) (init ! 3 refl (tt, (tt, (record { fits = room .0 }, tt)))) $
         -- t is lent again, for a lifetime ν of the call
         lft-new ! tt (λ ν. rewrite ! 23 (λ (n : ℕ). ‵ (OwnT (now k) n)) (sym (same k)) refl $ move ! (23 ∷ 22 ∷ []) $
-        use2 W (later (some (λ (δ : GName). ‵ (OwnAgain ν δ (now k) (length (now k))) ⊛ ‵ (LentAgain R.the-row κ (ν ∷ []) q γ b o δ (now k))))) (lends-again R.the-row κ (ν ∷ []) q γ b o 𝓤 H A W (named 0) (named 0) (now k)) $ await ! tt $ pick ! (λ δ. split ! $
+        use2 W (later (some (λ (δ : GName). ‵ (OwnAgain ν δ (now k) (length (now k))) ⊛ ‵ (LentAgain R.the-row κ (ν ∷ []) q γ b o δ (now k)))))
+        (lends-again R.the-row κ (ν ∷ []) q γ b o 𝓤 H A W (named 0) (named 0) (now k)) $
+        await ! tt $ pick ! (λ δ. split ! $
         rewrite ! 0 (λ (n : ℕ). ‵ (OwnAgain ν δ (now k) n)) (same k) refl $ move ! (2 ∷ 0 ∷ 3 ∷ []) $
         use3 W (raw (Append 𝓤 H A mem run .pre (to-append ν δ (now k) (k .0) r u))) (goes-append ν δ (now k) (k .0) r u (fits k) (there less)) $
         -- [what `append` asks; what is lent; m's token; what m owns; _8; …; …; _0; …]
-        calls-at-last ! fm (Append 𝓤 H A mem run) known-append (to-append ν δ (now k) (k .0) r u) (and-then ! (load ! (from ! (stop !)) (look ! 4 refl)) (and-then ! (load ! (from ! (stop !)) (look ! 12 refl)) (and-then ! (load ! (from ! (stop !)) (look ! 10 refl)) (no-more !)))) (λ u′.
-        use1 W (later (some (λ (z : ℕ). ((‵ (flft (ν ∷ []) fullShare) ⊛ ‵ ftrue) ⊛ ‵ (usize .own z (u′ ∷ []))) ⊛ raw (ensured 𝓤 H A append.ended (append.clauses 𝓤 H A mem run) (ν ∷ [], tt) (x δ (now k), (k .0, (r, tt))) tt z)))) (id⊢ 𝓤 _) $ await ! tt $ pick ! (λ z.
-        split ! $ move ! (1 ∷ []) $ use1 W (some (λ (zs : List Record × (Unit {0} × (Unit {0} × Unit {0}))). ‵ (lasts append.ended (ν ∷ [], tt) (x δ (now k), (k .0, (r, tt))) zs) ⊛ raw (fact 𝓤 ((z ≡ k .0 + 1) × (zs .0 ≡ set (now k) (k .0) r))))) (id⊢ 𝓤 _) $ pick ! (λ zs.
+        calls-at-last ! fm (Append 𝓤 H A mem run) known-append (to-append ν δ (now k) (k .0) r u)
+        (and-then ! (load ! (from ! (stop !)) (look ! 4 refl))
+        (and-then ! (load ! (from ! (stop !)) (look ! 12 refl)) (and-then ! (load ! (from ! (stop !)) (look ! 10 refl)) (no-more !))))
+        (λ u′.
+        use1 W
+        (later (some (λ (z : ℕ). ((‵ (flft (ν ∷ []) fullShare) ⊛ ‵ ftrue) ⊛ ‵ (usize .own z (u′ ∷ [])))
+        ⊛ raw (ensured 𝓤 H A append.ended (append.clauses 𝓤 H A mem run) (ν ∷ [], tt) (x δ (now k), (k .0, (r, tt))) tt z))))
+        (id⊢ 𝓤 _) $
+        await ! tt $ pick ! (λ z.
+        split ! $ move ! (1 ∷ []) $
+        use1 W
+        (some (λ (zs : List Record × (Unit {0} × (Unit {0} × Unit {0}))). ‵ (lasts append.ended (ν ∷ [], tt) (x δ (now k), (k .0, (r, tt))) zs)
+        ⊛ raw (fact 𝓤 ((z ≡ k .0 + 1) × (zs .0 ≡ set (now k) (k .0) r)))))
+        (id⊢ 𝓤 _) $
+        pick ! (λ zs.
         split ! $ move ! (1 ∷ []) $ heard ! ((z ≡ k .0 + 1) × (zs .0 ≡ set (now k) (k .0) r)) (λ e′. fsplit ! $ fsplit ! $ move ! (1 ∷ []) $ feqL ! (λ len.
         -- [what says the last list; true; the token of ν and what the result owns; what is lent; m's token; what m owns; _8; …]
         move ! (2 ∷ []) $ split ! $ move ! (1 ∷ []) $ peeks ! usize (Is usize) (shows 𝓤 H A usize) z (u′ ∷ []) (λ is′.
@@ -252,7 +278,8 @@ module _ {M : Type 1} (𝓤 : URA M) (H : Heap 𝓤) (A : Atoms 𝓤) (W : Given
         forget ! 4 refl $ forget ! 8 refl $ forget ! 10 refl $ forget ! 12 refl $ forget ! 14 refl $ forget ! 16 refl $
         move ! (16 ∷ 17 ∷ []) $ free1 ! $ move ! (14 ∷ 15 ∷ []) $ free1 ! $ move ! (12 ∷ 13 ∷ []) $ free1 ! $ move ! (10 ∷ 11 ∷ []) $ free1 ! $ move ! (8 ∷ 9 ∷ []) $ free1 ! $ move ! (6 ∷ 7 ∷ []) $
         free1 ! $ move ! (4 ∷ 5 ∷ []) $ free1 ! $ move ! (2 ∷ 3 ∷ []) $ free1 ! $ free1 ! $ free0 ! $
-        by ! (exits (now k) (same k) (subst (λ (n : ℕ). Holds (committed ts (s .now) n) (s .now) c) (sym (le-antisymm (k .1) (nltb→le (k .0) (c .insns) over))) (committed-holds ts (s .now) ready len-ts))))
+        by ! (exits (now k) (same k) (subst (λ (n : ℕ). Holds (committed ts (s .now) n) (s .now) c)
+        (sym (le-antisymm (k .1) (nltb→le (k .0) (c .insns) over))) (committed-holds ts (s .now) ready len-ts))))
       where
         now : Upto → List Record
         now j = committed ts (s .now) (j .0)
@@ -269,7 +296,8 @@ module _ {M : Type 1} (𝓤 : URA M) (H : Heap 𝓤) (A : Atoms 𝓤) (W : Given
         next : T (ltb (k .0) (c .insns)) → Upto
         next less = (k .0 + 1, add-one-le (ltb→lt (k .0) (c .insns) less))
 
-  module _ (𝓣 : Tables 𝓤 H) (fm : FmC 𝓤 H (W .laws) (𝓣 .C)) (known-drafted : Triple 𝓤 (𝓣 .C #records·drafted) (Drafted 𝓤 H A mem run)) (known-append : Triple 𝓤 (𝓣 .C #records·append) (Append 𝓤 H A mem run)) where
+  module _ (𝓣 : Tables 𝓤 H) (fm : FmC 𝓤 H (W .laws) (𝓣 .C)) (known-drafted : Triple 𝓤 (𝓣 .C #records·drafted) (Drafted 𝓤 H A mem run))
+      (known-append : Triple 𝓤 (𝓣 .C #records·append) (Append 𝓤 H A mem run)) where
     walk : ent 𝓤 (onEntry 𝓤 H A commit.signature (κ, (κ′, tt)) (q, (q′, tt)) a vals) (WpFn 𝓤 H (𝓣 .C) (𝓣 .Λ) code.function (vt ∷ vm ∷ C′.lowered c ∷ []) Post)
     walk =
         qed W ((‵ (flft κ q) ⊛ ‵ (flft κ′ q′) ⊛ ‵ ftrue) ∷ ‵ (owns (MutSlice (named 0) κ R.the-row ∷ ShrSlice (named 1) κ′ usize ∷ C.the-row ∷ []) a vals) ∷ []) ∵ enter ! (𝓣 .C) (𝓣 .Λ) code.function
@@ -283,12 +311,15 @@ module _ {M : Type 1} (𝓤 : URA M) (H : Heap 𝓤) (A : Atoms 𝓤) (W : Given
         keep ! (4 ∷ 5 ∷ 6 ∷ 7 ∷ 8 ∷ 9 ∷ 10 ∷ 11 ∷ 12 ∷ 13 ∷ 14 ∷ 15 ∷ 16 ∷ 17 ∷ 18 ∷ 19 ∷ 20 ∷ 21 ∷ 1 ∷ 2 ∷ 0 ∷ 3 ∷ []) $ first ! $ blocks ! $
         loops ! 𝓣 Nearer Nearer-wf (At 𝓣 fm known-drafted known-append l₀ l₁ l₂ l₃ l₄ l₅ l₆ l₇ l₈) (turns 𝓣 fm known-drafted known-append l₀ l₁ l₂ l₃ l₄ l₅ l₆ l₇ l₈) (0, zero-le))))))))))
 
-module _ {M : Type 1} (𝓤 : URA M) (H : Heap 𝓤) (A : Atoms 𝓤) (W : Given 𝓤 H A) (mem : Memory → SProp 𝓤) (run : Routine → Fun 𝓤) (𝓣 : Tables 𝓤 H) (known-drafted : Triple 𝓤 (𝓣 .C #records·drafted) (Drafted 𝓤 H A mem run)) (known-append : Triple 𝓤 (𝓣 .C #records·append) (Append 𝓤 H A mem run)) where
+module _ {M : Type 1} (𝓤 : URA M) (H : Heap 𝓤) (A : Atoms 𝓤) (W : Given 𝓤 H A) (mem : Memory → SProp 𝓤) (run : Routine → Fun 𝓤) (𝓣 : Tables 𝓤 H)
+    (known-drafted : Triple 𝓤 (𝓣 .C #records·drafted) (Drafted 𝓤 H A mem run))
+    (known-append : Triple 𝓤 (𝓣 .C #records·append) (Append 𝓤 H A mem run)) where
   commit-walks : Walks 𝓤 H A commit.ended stayed (WpFn 𝓤 H (𝓣 .C) (𝓣 .Λ) code.function) (commit.clauses 𝓤 H A mem run)
   commit-walks = walked 𝓤 H A commit.ended stayed (commit.clauses 𝓤 H A mem run) (WpFn 𝓤 H (𝓣 .C) (𝓣 .Λ) code.function) (λ κs. (slice-vals, (slice-vals, (spelled, tt))))
       (λ κs. (mut-slice-tells (named 0) (κs .0) R.the-row, (shr-slice-tells (named 1) (κs .1 .0) usize, (LL.tells C.the-type C′.the-laws, tt))))
-      (λ κs qs bounds a g are. needs 𝓤 (ProgramReady (a .1 .0 .now) (a .1 .1 .0) × (length (a .0 .now) ≡ 2048)) _ (λ pre.
-      walk 𝓤 H A W mem run (κs .0) (κs .1 .0) (qs .0) (qs .1 .0) (a .0 .ptr .0) (a .0 .ptr .1) (a .0 .name) (a .0 .now) (a .1 .0) (a .1 .1 .0) (pre .0) (pre .1) (are .0 .0 .1) (are .1 .0 .0 .1) (are .1 .1 .0) 𝓣 (fmOf 𝓤 H (W .laws) 𝓣) known-drafted known-append))
+      (λ κs qs bounds a g are. needs 𝓤 (ProgramReady (a .1 .0 .now) (a .1 .1 .0) × (length (a .0 .now) ≡ instructionsMost)) _ (λ pre.
+      walk 𝓤 H A W mem run (κs .0) (κs .1 .0) (qs .0) (qs .1 .0) (a .0 .ptr .0) (a .0 .ptr .1) (a .0 .name) (a .0 .now) (a .1 .0) (a .1 .1 .0)
+      (pre .0) (pre .1) (are .0 .0 .1) (are .1 .0 .0 .1) (are .1 .1 .0) 𝓣 (fmOf 𝓤 H (W .laws) 𝓣) known-drafted known-append))
 
   commit-meets : Meets 𝓤 H A commit.signature (WpFn 𝓤 H (𝓣 .C) (𝓣 .Λ) code.function) (commit.spec 𝓤 H A mem run)
   commit-meets =

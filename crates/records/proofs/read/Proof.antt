@@ -55,7 +55,8 @@ spelled = LL.vals T.the-type T′.the-laws
 place-fits : (i n : ℕ) → i < n → Room T.the-row n → i * 48 < 2 ^ 64
 place-fits i n l room = omega (arith, l, room .1)
 
-module _ {M : Type 1} (𝓤 : URA M) (H : Heap 𝓤) (A : Atoms 𝓤) (W : Given 𝓤 H A) (mem : Memory → SProp 𝓤) (run : Routine → Fun 𝓤) (κ : Lft) (q : Share) (b o : ℕ) (γ : GName) (ys : List Record) (i : ℕ) where
+module _ {M : Type 1} (𝓤 : URA M) (H : Heap 𝓤) (A : Atoms 𝓤) (W : Given 𝓤 H A) (mem : Memory → SProp 𝓤) (run : Routine → Fun 𝓤) (κ : Lft) (q : Share)
+    (b o : ℕ) (γ : GName) (ys : List Record) (i : ℕ) where
   abbrev x : RefT (List Record) × (ℕ × Unit {0})
   x = (record { ptr = (b, o); name = γ; now = ys }, (i, tt))
 

@@ -1,4 +1,4 @@
--- `steps::advance` meets its contract. Assumes nothing.
+-- `run::advance` meets its contract. Assumes nothing.
 use native.Mathlib.Omega.{arith}
 use lib.Seq.{length-take-le}
 use mathlib.Core.Path.{sym}
@@ -6,6 +6,7 @@ use Rattle.run.proofs.Running.{going-count, under-no, turn-ready, turn-
 use borrow.Author.Needs.{needs}
 use Rattle.run.proofs.advance.Statement.{statement}
 use Rattle.run.proofs.advance.Tie as tie
+use Rattle.state.specs.Layout.{stampsAt}
 
 enum-known-w : tie.Need-enum-known-w
 enum-known-w c = search needs
@@ -13,29 +14,67 @@ enum-known-w c = search needs
 step-requires : tie.Need-step-requires
 step-requires c κs =
     let at-w = c .before .before in
-    let start = at-w .before .before .before .before .before .before .before in
-    (start .pre .0, (turn-steady (start .pre .1 .0) (at-w .w .given .1) (start .pre .1 .1 .0) (start .pre .0), (turn-ready (start .pre .1 .0) (at-w .w .given .1) (start .pre .1 .1 .0) (start .pre .0), (turn-small (start .pre .1 .0) (at-w .w .given .1) (start .pre .1 .1 .0) (start .pre .0), (turn-record (start .pre .1 .0) (at-w .w .given .1) (start .pre .1 .1 .0) (start .pre .0) (start .pre .1 .1 .1), (turn-front (start .pre .1 .0) (at-w .w .given .1) (start .pre .1 .1 .0) (start .pre .0), turn-stamped (start .pre .1 .0) (at-w .w .given .1) (start .pre .1 .1 .0) (start .pre .0)))))))
+    let start = at-w .before .before .before .before .before .before .before in (
+      start .pre .0,
+      (
+        turn-steady (start .pre .1 .0) (at-w .w .given .1) (start .pre .1 .1 .0) (start .pre .0),
+        (
+          turn-ready (start .pre .1 .0) (at-w .w .given .1) (start .pre .1 .1 .0) (start .pre .0),
+          (
+            turn-small (start .pre .1 .0) (at-w .w .given .1) (start .pre .1 .1 .0) (start .pre .0),
+            (
+              turn-record (start .pre .1 .0) (at-w .w .given .1) (start .pre .1 .1 .0) (start .pre .0) (start .pre .1 .1 .1),
+              (
+                turn-front (start .pre .1 .0) (at-w .w .given .1) (start .pre .1 .1 .0) (start .pre .0),
+                turn-stamped (start .pre .1 .0) (at-w .w .given .1) (start .pre .1 .1 .0) (start .pre .0),
+              ),
+            ),
+          ),
+        ),
+      ),
+    )
 
 enum-known-went : tie.Need-enum-known-went
 enum-known-went c = search needs
 
 slice-reshare-prefix-ahead : tie.Need-slice-reshare-prefix-ahead
 slice-reshare-prefix-ahead c =
-    omega
-    (arith, turn-stamped (c .before .before .before .before .before .before .before .before .before .before .before .before .before .before .before .pre .1 .0) (c .before .before .before .before .before .before .before .before .w .given .1) (c .before .before .before .before .before .before .before .before .before .before .before .before .before .before .before .pre .1 .1 .0) (c .before .before .before .before .before .before .before .before .before .before .before .before .before .before .before .pre .0) .dated .long, c .before .before .before .before .before .step .kept .1 .1 .1 .1 .1 .0)
+    omega (
+      arith,
+      turn-stamped
+          (c .before .before .before .before .before .before .before .before .before .before .before .before .before .before .before .pre .1 .0)
+          (c .before .before .before .before .before .before .before .before .w .given .1)
+          (c .before .before .before .before .before .before .before .before .before .before .before .before .before .before .before .pre .1 .1 .0)
+          (c .before .before .before .before .before .before .before .before .before .before .before .before .before .before .before .pre .0) .dated .long,
+      c .before .before .before .before .before .step .kept .1 .1 .1 .1 .1 .0,
+    )
 
 slice-aggregate-ahead : tie.Need-slice-aggregate-ahead
 slice-aggregate-ahead c =
     sym
-    (length-take-le 52224 (c .before .before .before .before .before .before .step .last .1 .1 .1 .1 .1 .0) (omega (arith, turn-stamped (c .before .before .before .before .before .before .before .before .before .before .before .before .before .before .before .before .pre .1 .0) (c .before .before .before .before .before .before .before .before .before .w .given .1) (c .before .before .before .before .before .before .before .before .before .before .before .before .before .before .before .before .pre .1 .1 .0) (c .before .before .before .before .before .before .before .before .before .before .before .before .before .before .before .before .pre .0) .dated .long, c .before .before .before .before .before .before .step .kept .1 .1 .1 .1 .1 .0)))
+    (length-take-le stampsAt (c .before .before .before .before .before .before .step .last .1 .1 .1 .1 .1 .0) (omega (
+      arith,
+      turn-stamped
+          (c .before .before .before .before .before .before .before .before .before .before .before .before .before .before .before .before .pre .1 .0)
+          (c .before .before .before .before .before .before .before .before .before .w .given .1)
+          (c .before .before .before .before .before .before .before .before .before .before .before .before .before .before .before .before .pre .1 .1 .0)
+          (c .before .before .before .before .before .before .before .before .before .before .before .before .before .before .before .before .pre .0) .dated .long,
+      c .before .before .before .before .before .before .step .kept .1 .1 .1 .1 .1 .0,
+    )))
 
 ahead-requires : tie.Need-ahead-requires
 ahead-requires c κs =
     let at-went = c .before .before in
     let at-step = at-went .before .before .before .before in
     let at-w = at-step .before .before .before in
-    let start = at-w .before .before .before .before .before .before .before in
-    (turn-on (start .pre .1 .0) (at-w .w .given .1) (start .pre .1 .1 .0) (start .pre .0) (at-step .step .ensures) (at-went .went .given .1) .ready, going-count (turn-on (start .pre .1 .0) (at-w .w .given .1) (start .pre .1 .1 .0) (start .pre .0) (at-step .step .ensures) (at-went .went .given .1)) (start .pre .0))
+    let start = at-w .before .before .before .before .before .before .before in (
+      turn-on (start .pre .1 .0) (at-w .w .given .1) (start .pre .1 .1 .0) (start .pre .0) (at-step .step .ensures)
+          (at-went .went .given .1) .ready,
+      going-count
+          (turn-on (start .pre .1 .0) (at-w .w .given .1) (start .pre .1 .1 .0) (start .pre .0) (at-step .step .ensures)
+          (at-went .went .given .1))
+          (start .pre .0),
+    )
 
 enum-known-went-2 : tie.Need-enum-known-went-2
 enum-known-went-2 c = search needs

@@ -1,4 +1,4 @@
--- `steps::ahead` meets its contract. Assumes nothing.
+-- `run::ahead` meets its contract. Assumes nothing.
 use Rattle.run.proofs.Running.{ahead-at}
 use borrow.Author.Needs.{needs}
 use Rattle.run.proofs.ahead.Statement.{statement}

@@ -1,5 +1,5 @@
--- `steps::front` meets its contract. Assumes nothing.
-use Rattle.run.proofs.Stepping.{some-insn, front-block, front-insn}
+-- `run::front` meets its contract. Assumes nothing.
+use Rattle.steps.proofs.Stepping.{some-insn, front-block, front-insn}
 use borrow.Author.Needs.{needs}
 use Rattle.run.proofs.front.Statement.{statement}
 use Rattle.run.proofs.front.Tie as tie

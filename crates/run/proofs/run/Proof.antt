@@ -1,4 +1,4 @@
--- `steps::run` meets its contract: a walk of its MIR, by hand, with the loop by `Types/Run.antt`'s `loops`.
+-- `run::run` meets its contract: a walk of its MIR, by hand, with the loop by `Types/Run.antt`'s `loops`.
 -- The invariant `At k` is the whole context at the head of the loop: the locals, the tokens, what the lent slices own, and what m owns at the stage k that the run has come to (`Stage`).
 -- The facts enter by the laws of `Running.antt`. Assumes nothing.
 use mathlib.Core.Bool.{Bool as 𝔹, true, false, not}
@@ -56,11 +56,11 @@ use Rattle.records.specs.declared.Record.{Record}
 use Rattle.state.specs.declared.Sizes.{Sizes}
 use Rattle.state.specs.declared.Regs.{Regs}
 use Rattle.machine.specs.Analysed.{Analysed}
-use Rattle.run.specs.Stamps.{tablesOf as wordsOf, StampsFresh}
+use Rattle.steps.specs.Stamps.{tablesOf as wordsOf, StampsFresh}
 use Rattle.run.specs.Runs.{Reaching, RunRan, Ahead, Under, left, Turned}
 use Rattle.run.specs.declared.Turn.{Turn}
 use Rattle.records.proofs.Again.{LentAgain, lends-again, comes-back}
-use Rattle.run.proofs.Stamps.{fresh-stamped}
+use Rattle.steps.proofs.Stamps.{fresh-stamped}
 use Rattle.run.proofs.Running.{going-count, under-at, under-over, turn-place, turn-read}
 use Rattle.run.proofs.Shared.{LentShared, lends-shared, comes-back as is-back}
 use Rattle.run.proofs.Facts.{says2, says4, needs4}
@@ -82,21 +82,41 @@ use Rattle.records.proofs.read.Symbol.{name as #records·read}
 use Rattle.records.proofs.read.Met as read-thm
 use Rattle.run.proofs.enter as enters
 use Rattle.run.proofs.enter.Symbol as enters-def
-use Rattle.run.proofs.enter.Symbol.{name as #steps·enter}
+use Rattle.run.proofs.enter.Symbol.{name as #run·enter}
 use Rattle.run.proofs.enter.Met as enters-thm
 use Rattle.run.proofs.advance as advance
 use Rattle.run.proofs.advance.Symbol as advance-def
-use Rattle.run.proofs.advance.Symbol.{name as #steps·advance}
+use Rattle.run.proofs.advance.Symbol.{name as #run·advance}
 use Rattle.run.proofs.advance.Met as advance-thm
-use Rattle.run.proofs.run.Key.{name as #steps·run}
+use Rattle.run.proofs.run.Key.{name as #run·run}
 use Rattle.run.proofs.run as runs-to
 use Rattle.run.proofs.run.Statement as stated
 use Rattle.run.proofs.run.Code as code
 use Rattle.run.proofs.run.Code.Mir as mir
 
 abbrev stayed : Stays (runs-to.ended .signature .params) (runs-to.ended .kept)
-stayed =
-    (stay-none-slice (0 ∷ []) tt (plain (λ _. I.the-row)) yes, (stay-none-slice (1 ∷ []) tt (plain (λ _. u8)) yes, (stay-none-slice (2 ∷ []) tt (plain (λ _. usize)) yes, (stay-none (λ _. C.the-row) yes, (stay-none-slice (3 ∷ []) tt (plain (λ _. usize)) yes, (stay-none-slice (4 ∷ []) tt (plain (λ _. usize)) yes, (stay-slice (5 ∷ []) tt (plain (λ _. usize)), (stay-none (λ _. Z.the-row) yes, (stay-none (λ _. Q.the-row) yes, tt)))))))))
+stayed = (
+  stay-none-slice (0 ∷ []) tt (plain (λ _. I.the-row)) yes,
+  (
+    stay-none-slice (1 ∷ []) tt (plain (λ _. u8)) yes,
+    (
+      stay-none-slice (2 ∷ []) tt (plain (λ _. usize)) yes,
+      (
+        stay-none (λ _. C.the-row) yes,
+        (
+          stay-none-slice (3 ∷ []) tt (plain (λ _. usize)) yes,
+          (
+            stay-none-slice (4 ∷ []) tt (plain (λ _. usize)) yes,
+            (
+              stay-slice (5 ∷ []) tt (plain (λ _. usize)),
+              (stay-none (λ _. Z.the-row) yes, (stay-none (λ _. Q.the-row) yes, tt)),
+            ),
+          ),
+        ),
+      ),
+    ),
+  ),
+)
 
 -- the machine values of what is passed by value
 abbrev of-counts : Counts → List Val
@@ -159,7 +179,10 @@ abbrev more : Body
 more = seq (call #records·read (copy (place 1 []) ∷ copy (place 10 (field 1 ∷ [])) ∷ []) (place 11 []))
     (seq (assign (place 15 []) (addrOf (place 7 (field 0 ∷ deref word ∷ []))))
     (seq (assign (place 16 []) (aggregate (copy (place 15 []) ∷ copy (place 7 (field 1 ∷ [])) ∷ [])))
-    (call #steps·advance (copy (place 2 []) ∷ copy (place 3 []) ∷ copy (place 4 []) ∷ copy (place 5 []) ∷ copy (place 6 []) ∷ copy (place 16 []) ∷ copy (place 8 []) ∷ copy (place 10 []) ∷ copy (place 11 []) ∷ []) (place 10 []))))
+    (call #run·advance
+    (copy (place 2 []) ∷ copy (place 3 []) ∷ copy (place 4 []) ∷ copy (place 5 []) ∷ copy (place 6 []) ∷ copy (place 16 []) ∷ copy (place 8 [])
+    ∷ copy (place 10 []) ∷ copy (place 11 []) ∷ [])
+    (place 10 []))))
 
 module _ {M : Type 1} (𝓤 : URA M) (H : Heap 𝓤) (A : Atoms 𝓤) (W : Given 𝓤 H A) (mem : Memory → SProp 𝓤) (run : Routine → Fun 𝓤) (κt κs κp κx κu κm : Lft) (qt qs qp qx qu qm : Share)
     (t : RefT (List Record)) (s p : RefT (List ℕ)) (c : Counts) (x u : RefT (List ℕ)) (b o : ℕ) (γ : GName) (ws : List ℕ) (z : Sizes) (q : Regs)
@@ -305,7 +328,8 @@ module _ {M : Type 1} (𝓤 : URA M) (H : Heap 𝓤) (A : Atoms 𝓤) (W : Given
       → ent 𝓤 (⋆ 𝓤 H A ((‵ (flft κt qt) ⊛ ‵ ftrue) ∷ ‵ OwnT ∷ ‵ Toks ∷ ‵ Owns ∷ ‵ (flft κm qm) ∷ ‵ (OwnM l (length ws)) ∷ [])) (Post (went-val n))
   exits l n long n-is ran =
       qed W ((‵ (flft κt qt) ⊛ ‵ ftrue) ∷ ‵ OwnT ∷ ‵ Toks ∷ ‵ Owns ∷ ‵ (flft κm qm) ∷ ‵ (OwnM l (length ws)) ∷ []) ∵
-      suffices ! _ (ends-at 𝓤 H A runs-to.ended stayed (runs-to.clauses 𝓤 H A mem run) W (((κt, (κs, (κp, (κx, (κu, (κm, tt)))))), (qt, (qs, (qp, (qx, (qu, (qm, tt)))))), tt, a, vals), tt) (went-val n) (n .went)
+      suffices ! _ (ends-at 𝓤 H A runs-to.ended stayed (runs-to.clauses 𝓤 H A mem run) W
+      (((κt, (κs, (κp, (κx, (κu, (κm, tt)))))), (qt, (qs, (qp, (qx, (qu, (qm, tt)))))), tt, a, vals), tt) (went-val n) (n .went)
       (tt, (tt, (tt, (tt, (tt, (tt, (l, (tt, (tt, tt))))))))) (tt, (tt, (tt, (tt, (tt, (tt, (long, (tt, (tt, tt)))))))))) $ says ! ran $
       -- the tokens
       split ! $ move ! (5 ∷ 1 ∷ []) $ join ! $ move ! (3 ∷ []) $ fsplit ! $ move ! (1 ∷ []) $ fsplit ! $ move ! (1 ∷ []) $ fsplit ! $
@@ -335,7 +359,8 @@ module _ {M : Type 1} (𝓤 : URA M) (H : Heap 𝓤) (A : Atoms 𝓤) (W : Given
   Nearer-wf : WellFounded Nearer
   Nearer-wf = InvImage·wf todo (Nat·lt-wfRel .wf)
 
-  module _ (𝓣 : Tables 𝓤 H) (fm : FmC 𝓤 H (W .laws) (𝓣 .C)) (known-read : Triple 𝓤 (𝓣 .C #records·read) (Read 𝓤 H A mem run)) (known-advance : Triple 𝓤 (𝓣 .C #steps·advance) (Advance 𝓤 H A mem run)) (l₀ l₁ l₂ l₃ l₄ l₅ l₆ l₇ l₈ l₉ l₁₀ l₁₁ l₁₂ l₁₃ l₁₄ l₁₅ l₁₆ : ℕ) where
+  module _ (𝓣 : Tables 𝓤 H) (fm : FmC 𝓤 H (W .laws) (𝓣 .C)) (known-read : Triple 𝓤 (𝓣 .C #records·read) (Read 𝓤 H A mem run))
+      (known-advance : Triple 𝓤 (𝓣 .C #run·advance) (Advance 𝓤 H A mem run)) (l₀ l₁ l₂ l₃ l₄ l₅ l₆ l₇ l₈ l₉ l₁₀ l₁₁ l₁₂ l₁₃ l₁₄ l₁₅ l₁₆ : ℕ) where
     abbrev tyT : Ty
     tyT = sliceTy (tyRef (named 0) imm (pointee (I.the-row .written)))
 
@@ -362,7 +387,9 @@ module _ {M : Type 1} (𝓤 : URA M) (H : Heap 𝓤) (A : Atoms 𝓤) (W : Given
 
     abbrev En : Env 𝓤 H
     En =
-        (G′.mir, l₀) ∷ (tyT, l₁) ∷ (tyS, l₂) ∷ (tyP, l₃) ∷ (C′.mir, l₄) ∷ (tyX, l₅) ∷ (tyU, l₆) ∷ (tyM, l₇) ∷ (Z′.mir, l₈) ∷ (Q′.mir, l₉) ∷ (N′.mir, l₁₀) ∷ (I′.mir, l₁₁) ∷ ((tyRef erased imm word), l₁₂) ∷ (tyB, l₁₃) ∷ (tyBool, l₁₄) ∷ ((tyRef erased mut word), l₁₅) ∷ (tyA, l₁₆) ∷ []
+        (G′.mir, l₀) ∷ (tyT, l₁) ∷ (tyS, l₂) ∷ (tyP, l₃) ∷ (C′.mir, l₄) ∷ (tyX, l₅) ∷ (tyU, l₆) ∷ (tyM, l₇) ∷ (Z′.mir, l₈) ∷ (Q′.mir, l₉)
+        ∷ (N′.mir, l₁₀) ∷ (I′.mir, l₁₁) ∷ ((tyRef erased imm word), l₁₂) ∷ (tyB, l₁₃) ∷ (tyBool, l₁₄) ∷ ((tyRef erased mut word), l₁₅)
+        ∷ (tyA, l₁₆) ∷ []
 
     abbrev At : At-stage → List (Item 𝓤)
     At k =
@@ -388,9 +415,17 @@ module _ {M : Type 1} (𝓤 : URA M) (H : Heap 𝓤) (A : Atoms 𝓤) (W : Given
         -- `read` has its token and a copy of what t owns
         move ! (35 ∷ []) $ use1 W (‵ OwnT ⊛ ‵ OwnT) (shr-slice-copy 𝓤 H A W (named 0) κt I.the-row .twice t (vt ∷ [])) $ split ! $ move ! (36 ∷ 0 ∷ []) $
         use2 W (raw (Read 𝓤 H A mem run .pre (to-read (k .turn .insn)))) (goes-read (k .turn .insn) (LL.owed N.the-type N′.the-laws (k .turn) _ (k .is) .1 .0) (turn-place holds (k .under))) $
-        calls-at ! fm (Read 𝓤 H A mem run) known-read (to-read (k .turn .insn)) (and-then ! (load ! (from ! (stop !)) (look ! 32 refl)) (and-then ! (load ! (from ! (fld ! refl (stop !))) (look-in ! 14 (sub ! 1 refl (whole !)))) (no-more !))) (λ v.
-        use1 W (later (some (λ (r : Record). ((‵ (flft κt qt) ⊛ ‵ ftrue) ⊛ ‵ (I.the-row .own r (v ∷ []))) ⊛ raw (ensured 𝓤 H A read.ended (read.clauses 𝓤 H A mem run) (κt, tt) (t, (k .turn .insn, tt)) tt r)))) (id⊢ 𝓤 _) $ await ! tt $ pick ! (λ r.
-        split ! $ move ! (1 ∷ []) $ use1 W (raw (fact 𝓤 (r ≡ getD (t .now) (k .turn .insn) none))) (read-said (k .turn .insn) r) $ heard ! (r ≡ getD (t .now) (k .turn .insn) none) (λ e. split ! $ move ! (1 ∷ []) $
+        calls-at ! fm (Read 𝓤 H A mem run) known-read (to-read (k .turn .insn))
+        (and-then ! (load ! (from ! (stop !)) (look ! 32 refl))
+        (and-then ! (load ! (from ! (fld ! refl (stop !))) (look-in ! 14 (sub ! 1 refl (whole !)))) (no-more !)))
+        (λ v.
+        use1 W
+        (later (some (λ (r : Record). ((‵ (flft κt qt) ⊛ ‵ ftrue) ⊛ ‵ (I.the-row .own r (v ∷ [])))
+        ⊛ raw (ensured 𝓤 H A read.ended (read.clauses 𝓤 H A mem run) (κt, tt) (t, (k .turn .insn, tt)) tt r))))
+        (id⊢ 𝓤 _) $
+        await ! tt $ pick ! (λ r.
+        split ! $ move ! (1 ∷ []) $ use1 W (raw (fact 𝓤 (r ≡ getD (t .now) (k .turn .insn) none))) (read-said (k .turn .insn) r) $
+        heard ! (r ≡ getD (t .now) (k .turn .insn) none) (λ e. split ! $ move ! (1 ∷ []) $
         facts ! I.the-row (Is I.the-row) (shows 𝓤 H A I.the-row) r (v ∷ []) (λ r-is.
         -- [t's token; what t owns; _16; …; _0; …; the tokens; what s, p, x, u own; m's token; what m owns]
         land ! (from ! (stop !)) (init ! 12 refl (LL.lawful I.the-type I′.the-laws 𝓤 H A W .typed r _ r-is .0)) $
@@ -399,16 +434,35 @@ module _ {M : Type 1} (𝓤 : URA M) (H : Heap 𝓤) (A : Atoms 𝓤) (W : Given
         (from ! (stop !)) (init ! 2 refl (tt, (tt, (record { fits = room .0 }, tt)))) $
         -- m is lent again, for a lifetime ν of the call
         lft-new ! tt (λ ν. rewrite ! 40 (λ (n : ℕ). ‵ (OwnM (k .list) n)) (sym (k .long)) refl $ move ! (40 ∷ 39 ∷ []) $
-        use2 W (later (some (λ (δ : GName). ‵ (OwnAgain ν δ (k .list) (length (k .list))) ⊛ ‵ (LentAgain usize κm (ν ∷ []) qm γ b o δ (k .list))))) (lends-again usize κm (ν ∷ []) qm γ b o 𝓤 H A W (named 5) (named 4) (k .list)) $ await ! tt $ pick ! (λ δ. split ! $
+        use2 W (later (some (λ (δ : GName). ‵ (OwnAgain ν δ (k .list) (length (k .list))) ⊛ ‵ (LentAgain usize κm (ν ∷ []) qm γ b o δ (k .list)))))
+        (lends-again usize κm (ν ∷ []) qm γ b o 𝓤 H A W (named 5) (named 4) (k .list)) $
+        await ! tt $ pick ! (λ δ. split ! $
         rewrite ! 0 (λ (n : ℕ). ‵ (OwnAgain ν δ (k .list) n)) (k .long) refl $
         move ! (40 ∷ []) $ use1 W (‵ Owns ⊛ ‵ Owns) owns-twice $ split ! $ move ! (41 ∷ 4 ∷ []) $ join ! $ move ! (0 ∷ 1 ∷ 3 ∷ []) $
         use3 W (raw (Advance 𝓤 H A mem run .pre (to-advance ν δ (k .list) (k .turn) r v)))
         (goes-advance ν δ (k .list) (k .turn) r v (k .is) r-is (k .under) (so (k .turn .going) goes) (turn-read holds (k .turn .insn) e)) $
         -- [what `advance` asks; what s, p, x, u own; what is lent; t's token; what t owns; _16; …; _0; …]
-        calls-at-last ! fm (Advance 𝓤 H A mem run) known-advance (to-advance ν δ (k .list) (k .turn) r v) (and-then ! (load ! (from ! (stop !)) (look ! 33 refl)) (and-then ! (load ! (from ! (stop !)) (look ! 31 refl)) (and-then ! (load ! (from ! (stop !)) (look ! 29 refl)) (and-then ! (load ! (from ! (stop !)) (look ! 27 refl)) (and-then ! (load ! (from ! (stop !)) (look ! 25 refl)) (and-then ! (load ! (from ! (stop !)) (look ! 5 refl)) (and-then ! (load ! (from ! (stop !)) (look ! 21 refl)) (and-then ! (load ! (from ! (stop !)) (look ! 17 refl)) (and-then ! (load ! (from ! (stop !)) (look ! 15 refl)) (no-more !)))))))))) (λ v′.
-        use1 W (later (some (λ (n : Turn). ((‵ (flft κs qs) ⊛ ‵ (flft κp qp) ⊛ ‵ (flft κx qx) ⊛ ‵ (flft κu qu) ⊛ ‵ (flft (ν ∷ []) fullShare) ⊛ ‵ ftrue) ⊛ ‵ (N.the-row .own n (v′ ∷ []))) ⊛ raw (ensured 𝓤 H A advance.ended (advance.clauses 𝓤 H A mem run) (ends ν) (passed δ (k .list) (k .turn) r) tt n)))) (id⊢ 𝓤 _) $ await ! tt $ pick ! (λ n.
-        split ! $ move ! (1 ∷ []) $ use1 W (some (λ (l : Left). ‵ (lasts advance.ended (ends ν) (passed δ (k .list) (k .turn) r) l) ⊛ raw (fact 𝓤 (Turned (s .now) (p .now) c z (k .turn) (last l) n)))) (id⊢ 𝓤 _) $ pick ! (λ l.
-        split ! $ move ! (1 ∷ []) $ heard ! (Turned (s .now) (p .now) c z (k .turn) (last l) n) (λ turned. fsplit ! $ drop ! $ fsplit ! $ drop ! $ fsplit ! $ drop ! $ fsplit ! $ drop ! $ fsplit ! $ drop ! $ fsplit ! $ fsplit ! $ move ! (1 ∷ []) $ feqL ! (λ len.
+        calls-at-last ! fm (Advance 𝓤 H A mem run) known-advance (to-advance ν δ (k .list) (k .turn) r v)
+        (and-then ! (load ! (from ! (stop !)) (look ! 33 refl)) (and-then ! (load ! (from ! (stop !)) (look ! 31 refl))
+        (and-then ! (load ! (from ! (stop !)) (look ! 29 refl)) (and-then ! (load ! (from ! (stop !)) (look ! 27 refl))
+        (and-then ! (load ! (from ! (stop !)) (look ! 25 refl)) (and-then ! (load ! (from ! (stop !)) (look ! 5 refl))
+        (and-then ! (load ! (from ! (stop !)) (look ! 21 refl))
+        (and-then ! (load ! (from ! (stop !)) (look ! 17 refl)) (and-then ! (load ! (from ! (stop !)) (look ! 15 refl)) (no-more !))))))))))
+        (λ v′.
+        use1 W
+        (later (some (λ (n : Turn). ((‵ (flft κs qs) ⊛ ‵ (flft κp qp) ⊛ ‵ (flft κx qx) ⊛ ‵ (flft κu qu) ⊛ ‵ (flft (ν ∷ []) fullShare) ⊛ ‵ ftrue)
+        ⊛ ‵ (N.the-row .own n (v′ ∷ [])))
+        ⊛ raw (ensured 𝓤 H A advance.ended (advance.clauses 𝓤 H A mem run) (ends ν) (passed δ (k .list) (k .turn) r) tt n))))
+        (id⊢ 𝓤 _) $
+        await ! tt $ pick ! (λ n.
+        split ! $ move ! (1 ∷ []) $
+        use1 W
+        (some (λ (l : Left). ‵ (lasts advance.ended (ends ν) (passed δ (k .list) (k .turn) r) l)
+        ⊛ raw (fact 𝓤 (Turned (s .now) (p .now) c z (k .turn) (last l) n))))
+        (id⊢ 𝓤 _) $
+        pick ! (λ l.
+        split ! $ move ! (1 ∷ []) $ heard ! (Turned (s .now) (p .now) c z (k .turn) (last l) n) (λ turned. fsplit ! $ drop ! $ fsplit ! $ drop ! $
+        fsplit ! $ drop ! $ fsplit ! $ drop ! $ fsplit ! $ drop ! $ fsplit ! $ fsplit ! $ move ! (1 ∷ []) $ feqL ! (λ len.
         -- [what says the last list; what is left of the last values; the tokens and what the result owns; …]
         move ! (1 ∷ []) $ drop ! $ move ! (1 ∷ []) $ split ! $ move ! (1 ∷ []) $ facts ! N.the-row (Is N.the-row) (shows 𝓤 H A N.the-row) n (v′ ∷ []) (λ n-is.
         split ! $ move ! (1 ∷ []) $ split ! $ move ! (1 ∷ []) $ split ! $ move ! (1 ∷ []) $ split ! $ move ! (2 ∷ 0 ∷ []) $ fjoin ! $ move ! (2 ∷ 0 ∷ []) $ fjoin ! $ move ! (2 ∷ 0 ∷ []) $ fjoin ! $
@@ -423,7 +477,8 @@ module _ {M : Type 1} (𝓤 : URA M) (H : Heap 𝓤) (A : Atoms 𝓤) (W : Given
         rewrite ! 19 (λ (j : Val). ‵ (fat fullShare N′.mir l₁₀ 0 j)) (ap only (LL.tells N.the-type N′.the-laws n _ n-is)) refl $
         forget ! 7 refl $ forget ! 9 refl $ forget ! 11 refl $ forget ! 17 refl $
         keep !
-        (7 ∷ 8 ∷ 9 ∷ 10 ∷ 11 ∷ 12 ∷ 13 ∷ 14 ∷ 15 ∷ 16 ∷ 17 ∷ 18 ∷ 19 ∷ 20 ∷ 21 ∷ 22 ∷ 23 ∷ 24 ∷ 25 ∷ 26 ∷ 27 ∷ 28 ∷ 29 ∷ 30 ∷ 31 ∷ 32 ∷ 33 ∷ 34 ∷ 35 ∷ 36 ∷ 37 ∷ 38 ∷ 39 ∷ 40 ∷ 5 ∷ 6 ∷ 3 ∷ 4 ∷ 1 ∷ 0 ∷ [])
+        (7 ∷ 8 ∷ 9 ∷ 10 ∷ 11 ∷ 12 ∷ 13 ∷ 14 ∷ 15 ∷ 16 ∷ 17 ∷ 18 ∷ 19 ∷ 20 ∷ 21 ∷ 22 ∷ 23 ∷ 24 ∷ 25 ∷ 26 ∷ 27 ∷ 28 ∷ 29 ∷ 30 ∷ 31 ∷ 32 ∷ 33 ∷ 34 ∷ 35
+        ∷ 36 ∷ 37 ∷ 38 ∷ 39 ∷ 40 ∷ 5 ∷ 6 ∷ 3 ∷ 4 ∷ 1 ∷ 0 ∷ [])
         $
         again ! Nearer At k (next k v′ n (last l) len n-is turned) (turned .less))))))))))))))
         (λ over. jumps ! $ exec ! (𝓣 .C) (𝓣 .Λ) En mir.t-5 (atRet En Post) $
@@ -440,7 +495,13 @@ module _ {M : Type 1} (𝓤 : URA M) (H : Heap 𝓤) (A : Atoms 𝓤) (W : Given
     -- ---- up to the loop
 
     abbrev begin : (v : Val) (n : Turn) → Is N.the-row n (v ∷ []) → Ahead z (wordsOf ws) q 1 n → At-stage
-    begin v n n-is h = record { list = ws; turn = n; long = refl; is = subst (Is N.the-row n) (LL.tells N.the-type N′.the-laws n _ n-is) n-is; under = under-at (record { ready = fresh .ready; reaching = reaching }) h (fresh-stamped fresh) }
+    begin v n n-is h = record {
+      list = ws;
+      turn = n;
+      long = refl;
+      is = subst (Is N.the-row n) (LL.tells N.the-type N′.the-laws n _ n-is) n-is;
+      under = under-at (record { ready = fresh .ready; reaching = reaching }) h (fresh-stamped fresh);
+    }
 
     -- the context once m is ready to be lent to `enter`
     abbrev Begun : List (Item 𝓤)
@@ -454,33 +515,54 @@ module _ {M : Type 1} (𝓤 : URA M) (H : Heap 𝓤) (A : Atoms 𝓤) (W : Given
         ∷ ‵ (fat fullShare C′.mir l₄ 0 (C′.lowered c)) ∷ ‵ (fdies C′.mir l₄) ∷ ‵ (fat fullShare tyP l₃ 0 vp) ∷ ‵ (fdies tyP l₃) ∷ ‵ (fat fullShare tyS l₂ 0 vs) ∷ ‵ (fdies tyS l₂) ∷ ‵
         (fat fullShare tyT l₁ 0 vt) ∷ ‵ (fdies tyT l₁) ∷ ‵ (froom G′.mir l₀ 0) ∷ ‵ (fdies G′.mir l₀) ∷ []
 
-    begins : Triple 𝓤 (𝓣 .C #steps·enter) (Enters 𝓤 H A mem run) → Sq W Begun (runs (𝓣 .C) (𝓣 .Λ) En mir.t-3 (atRet En Post))
+    begins : Triple 𝓤 (𝓣 .C #run·enter) (Enters 𝓤 H A mem run) → Sq W Begun (runs (𝓣 .C) (𝓣 .Λ) En mir.t-3 (atRet En Post))
     begins known-enter =
         -- m is lent for a lifetime ν of the call
         lft-new ! tt (λ ν. move ! (5 ∷ 2 ∷ []) $
-        use2 W (later (some (λ (δ : GName). ‵ (OwnShared ν δ) ⊛ ‵ (LentShared usize κm (ν ∷ []) qm γ b o ws)))) (lends-shared usize κm (ν ∷ []) qm γ b o 𝓤 H A W (named 5) (named 0) ws) $ await ! tt $ pick ! (λ δ. split ! $ move ! (2 ∷ 0 ∷ []) $
+        use2 W (later (some (λ (δ : GName). ‵ (OwnShared ν δ) ⊛ ‵ (LentShared usize κm (ν ∷ []) qm γ b o ws))))
+        (lends-shared usize κm (ν ∷ []) qm γ b o 𝓤 H A W (named 5) (named 0) ws) $
+        await ! tt $ pick ! (λ δ. split ! $ move ! (2 ∷ 0 ∷ []) $
         use2 W (raw (Enters 𝓤 H A mem run .pre (to-enter ν δ))) (goes-enter ν δ) $
         -- [what `enter` asks; what is lent; t's token; the tokens; what s, p, x, u own; what t owns; _16; …; _0; …]
-        calls-at ! fm (Enters 𝓤 H A mem run) known-enter (to-enter ν δ) (and-then ! (load ! (from ! (stop !)) (look ! 12 refl)) (and-then ! (load ! (from ! (stop !)) (look ! 22 refl)) (and-then ! (load ! (from ! (stop !)) (look ! 20 refl)) (no-more !)))) (λ v.
-        use1 W (later (some (λ (n : Turn). ((‵ (flft (ν ∷ []) fullShare) ⊛ ‵ ftrue) ⊛ ‵ (N.the-row .own n (v ∷ []))) ⊛ raw (ensured 𝓤 H A enters.ended (enters.clauses 𝓤 H A mem run) (ν ∷ [], tt) (words δ ws, (z, (q, tt))) tt n)))) (id⊢ 𝓤 _) $ await ! tt $ pick ! (λ n.
-        split ! $ move ! (1 ∷ []) $ use1 W (raw (fact 𝓤 (Ahead z (wordsOf ws) q 1 n))) (enter-said ν δ n) $ heard ! (Ahead z (wordsOf ws) q 1 n) (λ h. split ! $ move ! (1 ∷ []) $ facts ! N.the-row (Is N.the-row) (shows 𝓤 H A N.the-row) n (v ∷ []) (λ n-is.
+        calls-at ! fm (Enters 𝓤 H A mem run) known-enter (to-enter ν δ)
+        (and-then ! (load ! (from ! (stop !)) (look ! 12 refl))
+        (and-then ! (load ! (from ! (stop !)) (look ! 22 refl)) (and-then ! (load ! (from ! (stop !)) (look ! 20 refl)) (no-more !))))
+        (λ v.
+        use1 W
+        (later (some (λ (n : Turn). ((‵ (flft (ν ∷ []) fullShare) ⊛ ‵ ftrue) ⊛ ‵ (N.the-row .own n (v ∷ [])))
+        ⊛ raw (ensured 𝓤 H A enters.ended (enters.clauses 𝓤 H A mem run) (ν ∷ [], tt) (words δ ws, (z, (q, tt))) tt n))))
+        (id⊢ 𝓤 _) $
+        await ! tt $ pick ! (λ n.
+        split ! $ move ! (1 ∷ []) $ use1 W (raw (fact 𝓤 (Ahead z (wordsOf ws) q 1 n))) (enter-said ν δ n) $
+        heard ! (Ahead z (wordsOf ws) q 1 n) (λ h. split ! $ move ! (1 ∷ []) $
+        facts ! N.the-row (Is N.the-row) (shows 𝓤 H A N.the-row) n (v ∷ []) (λ n-is.
         split ! $ lft-end ! tt $ move ! (0 ∷ 2 ∷ []) $ use2 W (later (‵ (OwnM ws (length ws)) ⊛ ‵ (flft κm qm))) (is-back usize κm (ν ∷ []) qm γ b o 𝓤 H A W (named 5) (named 0) ws room) $ await ! tt $
         split ! $
         -- [what m owns; its token; true; t's token; the tokens; what s, p, x, u own; what t owns; _16; …; _0; …]
         land ! (from ! (stop !)) (init ! 19 refl (LL.lawful N.the-type N′.the-laws 𝓤 H A W .typed n _ n-is .0)) $
         rewrite ! 19 (λ (j : Val). ‵ (fat fullShare N′.mir l₁₀ 0 j)) (ap only (LL.tells N.the-type N′.the-laws n _ n-is)) refl $
         forget ! 13 refl $ forget ! 15 refl $ keep !
-        (7 ∷ 8 ∷ 9 ∷ 10 ∷ 11 ∷ 12 ∷ 13 ∷ 14 ∷ 15 ∷ 16 ∷ 17 ∷ 18 ∷ 19 ∷ 20 ∷ 21 ∷ 22 ∷ 23 ∷ 24 ∷ 25 ∷ 26 ∷ 27 ∷ 28 ∷ 29 ∷ 30 ∷ 31 ∷ 32 ∷ 33 ∷ 34 ∷ 35 ∷ 36 ∷ 37 ∷ 38 ∷ 39 ∷ 40 ∷ 3 ∷ 6 ∷ 4 ∷ 5 ∷ 1 ∷ 0 ∷ [])
+        (7 ∷ 8 ∷ 9 ∷ 10 ∷ 11 ∷ 12 ∷ 13 ∷ 14 ∷ 15 ∷ 16 ∷ 17 ∷ 18 ∷ 19 ∷ 20 ∷ 21 ∷ 22 ∷ 23 ∷ 24 ∷ 25 ∷ 26 ∷ 27 ∷ 28 ∷ 29 ∷ 30 ∷ 31 ∷ 32 ∷ 33 ∷ 34 ∷ 35
+        ∷ 36 ∷ 37 ∷ 38 ∷ 39 ∷ 40 ∷ 3 ∷ 6 ∷ 4 ∷ 5 ∷ 1 ∷ 0 ∷ [])
         $ first ! $ blocks ! $
         loops ! 𝓣 Nearer Nearer-wf At turns (begin v n n-is h)))))))
 
-  module _ (𝓣 : Tables 𝓤 H) (fm : FmC 𝓤 H (W .laws) (𝓣 .C)) (known-read : Triple 𝓤 (𝓣 .C #records·read) (Read 𝓤 H A mem run)) (known-enter : Triple 𝓤 (𝓣 .C #steps·enter) (Enters 𝓤 H A mem run)) (known-advance : Triple 𝓤 (𝓣 .C #steps·advance) (Advance 𝓤 H A mem run)) where
-    walk : ent 𝓤 (onEntry 𝓤 H A runs-to.signature (κt, (κs, (κp, (κx, (κu, (κm, tt)))))) (qt, (qs, (qp, (qx, (qu, (qm, tt)))))) a vals) (WpFn 𝓤 H (𝓣 .C) (𝓣 .Λ) code.function (vt ∷ vs ∷ vp ∷ C′.lowered c ∷ vx ∷ vu ∷ vm ∷ Z′.lowered z ∷ Q′.lowered q ∷ []) Post)
+  module _ (𝓣 : Tables 𝓤 H) (fm : FmC 𝓤 H (W .laws) (𝓣 .C)) (known-read : Triple 𝓤 (𝓣 .C #records·read) (Read 𝓤 H A mem run))
+      (known-enter : Triple 𝓤 (𝓣 .C #run·enter) (Enters 𝓤 H A mem run)) (known-advance : Triple 𝓤 (𝓣 .C #run·advance) (Advance 𝓤 H A mem run)) where
+    walk : ent 𝓤 (onEntry 𝓤 H A runs-to.signature (κt, (κs, (κp, (κx, (κu, (κm, tt)))))) (qt, (qs, (qp, (qx, (qu, (qm, tt)))))) a vals)
+        (WpFn 𝓤 H (𝓣 .C) (𝓣 .Λ) code.function (vt ∷ vs ∷ vp ∷ C′.lowered c ∷ vx ∷ vu ∷ vm ∷ Z′.lowered z ∷ Q′.lowered q ∷ []) Post)
     walk =
         qed W
-        ((‵ (flft κt qt) ⊛ ‵ (flft κs qs) ⊛ ‵ (flft κp qp) ⊛ ‵ (flft κx qx) ⊛ ‵ (flft κu qu) ⊛ ‵ (flft κm qm) ⊛ ‵ ftrue) ∷ ‵ (owns (ShrSlice (named 0) κt I.the-row ∷ ShrSlice (named 1) κs u8 ∷ ShrSlice (named 2) κp usize ∷ C.the-row ∷ ShrSlice (named 3) κx usize ∷ ShrSlice (named 4) κu usize ∷ MutSlice (named 5) κm usize ∷ Z.the-row ∷ Q.the-row ∷ []) a vals) ∷ [])
+        ((‵ (flft κt qt) ⊛ ‵ (flft κs qs) ⊛ ‵ (flft κp qp) ⊛ ‵ (flft κx qx) ⊛ ‵ (flft κu qu) ⊛ ‵ (flft κm qm) ⊛ ‵ ftrue)
+        ∷ ‵ (owns (ShrSlice (named 0) κt I.the-row ∷ ShrSlice (named 1) κs u8 ∷ ShrSlice (named 2) κp usize ∷ C.the-row
+        ∷ ShrSlice (named 3) κx usize ∷ ShrSlice (named 4) κu usize ∷ MutSlice (named 5) κm usize ∷ Z.the-row ∷ Q.the-row ∷ [])
+        a vals)
+        ∷ [])
         ∵ enter ! (𝓣 .C) (𝓣 .Λ) code.function (vt ∷ vs ∷ vp ∷ C′.lowered c ∷ vx ∷ vu ∷ vm ∷ Z′.lowered z ∷ Q′.lowered q ∷ []) _ $
-        alloc1 ! (λ l₀. alloc1 ! (λ l₁. alloc1 ! (λ l₂. alloc1 ! (λ l₃. alloc1 ! (λ l₄. alloc1 ! (λ l₅. alloc1 ! (λ l₆. alloc1 ! (λ l₇. alloc1 ! (λ l₈. alloc1 ! (λ l₉. alloc1 ! (λ l₁₀. alloc1 ! (λ l₁₁. alloc1 ! (λ l₁₂. alloc1 ! (λ l₁₃. alloc1 ! (λ l₁₄. alloc1 ! (λ l₁₅. alloc1 ! (λ l₁₆. alloc0 ! $ params1 ! $
+        alloc1 ! (λ l₀. alloc1 ! (λ l₁. alloc1 ! (λ l₂. alloc1 ! (λ l₃. alloc1 ! (λ l₄. alloc1 ! (λ l₅. alloc1 ! (λ l₆. alloc1 ! (λ l₇.
+        alloc1 ! (λ l₈. alloc1 ! (λ l₉. alloc1 ! (λ l₁₀. alloc1 ! (λ l₁₁. alloc1 ! (λ l₁₂. alloc1 ! (λ l₁₃. alloc1 ! (λ l₁₄. alloc1 ! (λ l₁₅.
+        alloc1 ! (λ l₁₆. alloc0 ! $
+        params1 ! $
         pass1 ! (init ! 30 refl (tt, (tt, (record { fits = t-room .0 }, tt)))) $ pass1 ! (init ! 28 refl (tt, (tt, (record { fits = s-room .0 }, tt)))) $ pass1 !
         (init ! 26 refl (tt, (tt, (record { fits = p-room .0 }, tt)))) $ pass1 ! (init ! 24 refl (LL.lawful C.the-type C′.the-laws 𝓤 H A W .typed c _ c-is .0)) $ pass1 !
         (init ! 22 refl (tt, (tt, (record { fits = x-room .0 }, tt)))) $ pass1 ! (init ! 20 refl (tt, (tt, (record { fits = u-room .0 }, tt)))) $ pass1 !
@@ -499,13 +581,42 @@ module _ {M : Type 1} (𝓤 : URA M) (H : Heap 𝓤) (A : Atoms 𝓤) (W : Given
         move ! (1 ∷ []) $ split ! $ move ! (3 ∷ 1 ∷ []) $ join ! $
         begins 𝓣 fm known-read known-advance l₀ l₁ l₂ l₃ l₄ l₅ l₆ l₇ l₈ l₉ l₁₀ l₁₁ l₁₂ l₁₃ l₁₄ l₁₅ l₁₆ known-enter)))))))))))))))))
 
-module _ {M : Type 1} (𝓤 : URA M) (H : Heap 𝓤) (A : Atoms 𝓤) (W : Given 𝓤 H A) (mem : Memory → SProp 𝓤) (run : Routine → Fun 𝓤) (𝓣 : Tables 𝓤 H) (known-read : Triple 𝓤 (𝓣 .C #records·read) (Read 𝓤 H A mem run)) (known-enter : Triple 𝓤 (𝓣 .C #steps·enter) (Enters 𝓤 H A mem run)) (known-advance : Triple 𝓤 (𝓣 .C #steps·advance) (Advance 𝓤 H A mem run)) where
+module _ {M : Type 1} (𝓤 : URA M) (H : Heap 𝓤) (A : Atoms 𝓤) (W : Given 𝓤 H A) (mem : Memory → SProp 𝓤) (run : Routine → Fun 𝓤) (𝓣 : Tables 𝓤 H)
+    (known-read : Triple 𝓤 (𝓣 .C #records·read) (Read 𝓤 H A mem run)) (known-enter : Triple 𝓤 (𝓣 .C #run·enter) (Enters 𝓤 H A mem run))
+    (known-advance : Triple 𝓤 (𝓣 .C #run·advance) (Advance 𝓤 H A mem run)) where
   run-walks : Walks 𝓤 H A runs-to.ended stayed (WpFn 𝓤 H (𝓣 .C) (𝓣 .Λ) code.function) (runs-to.clauses 𝓤 H A mem run)
   run-walks = walked 𝓤 H A runs-to.ended stayed (runs-to.clauses 𝓤 H A mem run) (WpFn 𝓤 H (𝓣 .C) (𝓣 .Λ) code.function)
       (λ κ. (slice-vals, (slice-vals, (slice-vals, (of-counts, (slice-vals, (slice-vals, (slice-vals, (of-sizes, (of-regs, tt))))))))))
-      (λ κ. (shr-slice-tells (named 0) (κ .0) I.the-row, (shr-slice-tells (named 1) (κ .1 .0) u8, (shr-slice-tells (named 2) (κ .1 .1 .0) usize, (LL.tells C.the-type C′.the-laws, (shr-slice-tells (named 3) (κ .1 .1 .1 .0) usize, (shr-slice-tells (named 4) (κ .1 .1 .1 .1 .0) usize, (mut-slice-tells (named 5) (κ .1 .1 .1 .1 .1 .0) usize, (LL.tells Z.the-type Z′.the-laws, (LL.tells Q.the-type Q′.the-laws, tt))))))))))
-      (λ κ q bounds a g are. needs4 𝓤 (Analysed (a .1 .0 .now) (a .1 .1 .0 .now) (a .1 .1 .1 .0) (a .1 .1 .1 .1 .0 .now) (a .1 .1 .1 .1 .1 .0 .now) (a .1 .1 .1 .1 .1 .1 .1 .0)) (Holds (a .0 .now) (a .1 .1 .0 .now) (a .1 .1 .1 .0))
-      (StampsFresh (a .1 .1 .1 .1 .1 .1 .1 .0) (a .1 .1 .1 .1 .1 .1 .0 .now) (a .1 .1 .1 .1 .1 .1 .1 .1 .0)) (Reaching (a .1 .0 .now) (a .1 .1 .0 .now) (a .1 .1 .1 .0) (a .1 .1 .1 .1 .1 .1 .1 .0) (wordsOf (a .1 .1 .1 .1 .1 .1 .0 .now)) (a .1 .1 .1 .1 .1 .1 .1 .1 .0)) _ (λ analysed holds fresh reaching.
+      (λ κ. (
+        shr-slice-tells (named 0) (κ .0) I.the-row,
+        (
+          shr-slice-tells (named 1) (κ .1 .0) u8,
+          (
+            shr-slice-tells (named 2) (κ .1 .1 .0) usize,
+            (
+              LL.tells C.the-type C′.the-laws,
+              (
+                shr-slice-tells (named 3) (κ .1 .1 .1 .0) usize,
+                (
+                  shr-slice-tells (named 4) (κ .1 .1 .1 .1 .0) usize,
+                  (
+                    mut-slice-tells (named 5) (κ .1 .1 .1 .1 .1 .0) usize,
+                    (LL.tells Z.the-type Z′.the-laws, (LL.tells Q.the-type Q′.the-laws, tt)),
+                  ),
+                ),
+              ),
+            ),
+          ),
+        ),
+      ))
+      (λ κ q bounds a g are. needs4 𝓤
+      (Analysed (a .1 .0 .now) (a .1 .1 .0 .now) (a .1 .1 .1 .0) (a .1 .1 .1 .1 .0 .now) (a .1 .1 .1 .1 .1 .0 .now) (a .1 .1 .1 .1 .1 .1 .1 .0))
+      (Holds (a .0 .now) (a .1 .1 .0 .now) (a .1 .1 .1 .0))
+      (StampsFresh (a .1 .1 .1 .1 .1 .1 .1 .0) (a .1 .1 .1 .1 .1 .1 .0 .now) (a .1 .1 .1 .1 .1 .1 .1 .1 .0))
+      (Reaching (a .1 .0 .now) (a .1 .1 .0 .now) (a .1 .1 .1 .0) (a .1 .1 .1 .1 .1 .1 .1 .0) (wordsOf (a .1 .1 .1 .1 .1 .1 .0 .now))
+      (a .1 .1 .1 .1 .1 .1 .1 .1 .0))
+      _
+      (λ analysed holds fresh reaching.
       walk 𝓤 H A W mem run (κ .0) (κ .1 .0) (κ .1 .1 .0) (κ .1 .1 .1 .0) (κ .1 .1 .1 .1 .0) (κ .1 .1 .1 .1 .1 .0) (q .0) (q .1 .0) (q .1 .1 .0) (q .1 .1 .1 .0) (q .1 .1 .1 .1 .0) (q .1 .1 .1 .1 .1 .0)
       (a .0) (a .1 .0) (a .1 .1 .0) (a .1 .1 .1 .0) (a .1 .1 .1 .1 .0) (a .1 .1 .1 .1 .1 .0) (a .1 .1 .1 .1 .1 .1 .0 .ptr .0) (a .1 .1 .1 .1 .1 .1 .0 .ptr .1) (a .1 .1 .1 .1 .1 .1 .0 .name)
       (a .1 .1 .1 .1 .1 .1 .0 .now) (a .1 .1 .1 .1 .1 .1 .1 .0) (a .1 .1 .1 .1 .1 .1 .1 .1 .0)
@@ -522,7 +633,19 @@ module _ {M : Type 1} (𝓤 : URA M) (H : Heap 𝓤) (A : Atoms 𝓤) (W : Given
         goes-none-slice 𝓤 H A W 6 (2 ∷ []) tt (plain (λ _. usize)) yes,
         (
           goes-none 𝓤 H A W 6 (λ _. C.the-row) yes (λ κs x f. refl),
-          (goes-none-slice 𝓤 H A W 6 (3 ∷ []) tt (plain (λ _. usize)) yes, (goes-none-slice 𝓤 H A W 6 (4 ∷ []) tt (plain (λ _. usize)) yes, (goes-slice 𝓤 H A W 6 5 tt (plain (λ _. usize)), (goes-none 𝓤 H A W 6 (λ _. Z.the-row) yes (λ κs x f. refl), (goes-none 𝓤 H A W 6 (λ _. Q.the-row) yes (λ κs x f. refl), tt))))),
+          (
+            goes-none-slice 𝓤 H A W 6 (3 ∷ []) tt (plain (λ _. usize)) yes,
+            (
+              goes-none-slice 𝓤 H A W 6 (4 ∷ []) tt (plain (λ _. usize)) yes,
+              (
+                goes-slice 𝓤 H A W 6 5 tt (plain (λ _. usize)),
+                (
+                  goes-none 𝓤 H A W 6 (λ _. Z.the-row) yes (λ κs x f. refl),
+                  (goes-none 𝓤 H A W 6 (λ _. Q.the-row) yes (λ κs x f. refl), tt),
+                ),
+              ),
+            ),
+          ),
         ),
       ),
     ),
@@ -533,8 +656,8 @@ pub run-spec : {M : Type 1} → stated.statement M
 unfolding code.routine tablesOf
 run-spec 𝓤 H 𝓜 𝓖 𝓡 =
     entered 𝓤 H (tripleOf 𝓤 H (𝓖 .A) runs-to.signature (runs-to.spec 𝓤 H (𝓖 .A) (𝓜 .mem) (𝓡 .run)))
-    (tables 𝓤 H 𝓜 𝓡 code.env .C) (tables 𝓤 H 𝓜 𝓡 code.env .Λ) #steps·run code.function (code.unfolded 𝓤 H 𝓜 𝓡)
+    (tables 𝓤 H 𝓜 𝓡 code.env .C) (tables 𝓤 H 𝓜 𝓡 code.env .Λ) #run·run code.function (code.unfolded 𝓤 H 𝓜 𝓡)
     (run-meets 𝓤 H (𝓖 .A) (givenOf 𝓤 H 𝓜 𝓖) (𝓜 .mem) (𝓡 .run) (tablesOf 𝓤 H 𝓜 (tables 𝓤 H 𝓜 𝓡 code.env))
     (cited 𝓤 H (Read 𝓤 H (𝓖 .A) (𝓜 .mem) (𝓡 .run)) 𝓜 𝓡 code.env #records·read read-def.routine code.calls-records·read (read-thm.met 𝓤 H 𝓜 𝓖 𝓡))
-    (cited 𝓤 H (Enters 𝓤 H (𝓖 .A) (𝓜 .mem) (𝓡 .run)) 𝓜 𝓡 code.env #steps·enter enters-def.routine code.calls-run·enter (enters-thm.met 𝓤 H 𝓜 𝓖 𝓡))
-    (cited 𝓤 H (Advance 𝓤 H (𝓖 .A) (𝓜 .mem) (𝓡 .run)) 𝓜 𝓡 code.env #steps·advance advance-def.routine code.calls-run·advance (advance-thm.met 𝓤 H 𝓜 𝓖 𝓡)))
+    (cited 𝓤 H (Enters 𝓤 H (𝓖 .A) (𝓜 .mem) (𝓡 .run)) 𝓜 𝓡 code.env #run·enter enters-def.routine code.calls-run·enter (enters-thm.met 𝓤 H 𝓜 𝓖 𝓡))
+    (cited 𝓤 H (Advance 𝓤 H (𝓖 .A) (𝓜 .mem) (𝓡 .run)) 𝓜 𝓡 code.env #run·advance advance-def.routine code.calls-run·advance (advance-thm.met 𝓤 H 𝓜 𝓖 𝓡)))

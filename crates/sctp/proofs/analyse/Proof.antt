@@ -1,28 +1,42 @@
 -- `sctp::analyse` meets its contract. Assumes nothing.
 use Rattle.sctp.proofs.Whole.{started-reaching, begun-tables, begun-fresh, cleared-same, run-ended, start-ended, users-kept}
-use Rattle.run.proofs.Stamps.{back-long}
+use Rattle.steps.proofs.Stamps.{back-long}
 use lib.Seq.{length-take-le}
 use mathlib.Core.Path.{sym}
 use native.Mathlib.Omega.{arith}
 use borrow.Author.Needs.{needs}
 use Rattle.sctp.proofs.analyse.Statement.{statement}
 use Rattle.sctp.proofs.analyse.Tie as tie
+use Rattle.state.specs.Layout.{stateSize}
 
 slice-relend-prefix-begin : tie.Need-slice-relend-prefix-begin
 slice-relend-prefix-begin c = search needs
 
 slice-aggregate-begin : tie.Need-slice-aggregate-begin
 slice-aggregate-begin c =
-    sym (length-take-le 52224 (c .before .before .before .before .before .before .before .args .state .now) (omega (arith, c .before .before .before .before .before .before .before .pre .1 .1)))
+    sym (length-take-le stateSize (c .before .before .before .before .before .before .before .args .state .now) (omega (arith, c .before .before .before .before .before .before .before .pre .1 .1)))
 
 begin-requires : tie.Need-begin-requires
-begin-requires c κs =
-    (c .before .before .before .before .before .before .before .pre .0 .indexed, (c .before .before .before .before .before .before .before .pre .1 .0, length-take-le 52224 (c .before .before .before .before .before .before .before .args .state .now) (omega (arith, c .before .before .before .before .before .before .before .pre .1 .1))))
+begin-requires c κs = (
+  c .before .before .before .before .before .before .before .pre .0 .indexed,
+  (
+    c .before .before .before .before .before .before .before .pre .1 .0,
+    length-take-le stateSize (c .before .before .before .before .before .before .before .args .state .now)
+        (omega (arith, c .before .before .before .before .before .before .before .pre .1 .1)),
+  ),
+)
 
 fill-requires : tie.Need-fill-requires
 fill-requires c κs =
-    omega
-    (arith, back-long (c .before .before .before .before .before .before .before .before .before .before .before .before .before .args .state .now) (c .before .before .before .before .before .begin .last .1 .1 .1 .1 .1 .0) (c .before .before .before .before .before .before .before .before .before .before .before .before .before .pre .1 .1) (c .before .before .before .before .before .begin .kept .1 .1 .1 .1 .1 .0), c .before .before .before .before .before .before .before .before .before .before .before .before .before .pre .0 .indexed .ready .insns, c .before .before .before .before .before .before .before .before .before .before .before .before .before .pre .0 .indexed .sized .insns)
+    omega (
+      arith,
+      back-long (c .before .before .before .before .before .before .before .before .before .before .before .before .before .args .state .now)
+          (c .before .before .before .before .before .begin .last .1 .1 .1 .1 .1 .0)
+          (c .before .before .before .before .before .before .before .before .before .before .before .before .before .pre .1 .1)
+          (c .before .before .before .before .before .begin .kept .1 .1 .1 .1 .1 .0),
+      c .before .before .before .before .before .before .before .before .before .before .before .before .before .pre .0 .indexed .ready .insns,
+      c .before .before .before .before .before .before .before .before .before .before .before .before .before .pre .0 .indexed .sized .insns,
+    )
 
 enum-known-b : tie.Need-enum-known-b
 enum-known-b c = search needs
@@ -32,8 +46,19 @@ run-lent-requires c κs =
     let at-b = c .before .before .before in
     let at-fill = at-b .before .before .before .before in
     let at-begin = at-fill .before .before .before .before .before .before in
-    let start = at-begin .before .before .before .before .before .before .before .before in
-    (record { indexed = start .pre .0 .indexed; users = users-kept (start .pre .0 .indexed .ready .insns) (at-begin .begin .kept .1 .1 .1 .1 .0) (at-begin .begin .ensures .aside) (start .pre .0 .users) }, begun-fresh (start .args .state .now) (at-begin .begin .last .1 .1 .1 .1 .1 .0) (at-fill .fill .last .0) (start .pre .1 .1) (at-begin .begin .kept .1 .1 .1 .1 .1 .0) (at-fill .fill .ensures) (at-begin .begin .ensures) (at-b .b .given .1), started-reaching (begun-tables (start .args .state .now) (at-begin .begin .last .1 .1 .1 .1 .1 .0) (at-fill .fill .last .0) (start .pre .1 .1) (at-begin .begin .kept .1 .1 .1 .1 .1 .0) (at-fill .fill .ensures) (at-begin .begin .ensures) .started) (at-b .b .given .1))
+    let start = at-begin .before .before .before .before .before .before .before .before in (
+      record {
+        indexed = start .pre .0 .indexed;
+        users = users-kept (start .pre .0 .indexed .ready .insns) (at-begin .begin .kept .1 .1 .1 .1 .0) (at-begin .begin .ensures .aside)
+            (start .pre .0 .users);
+      },
+      begun-fresh (start .args .state .now) (at-begin .begin .last .1 .1 .1 .1 .1 .0) (at-fill .fill .last .0) (start .pre .1 .1)
+          (at-begin .begin .kept .1 .1 .1 .1 .1 .0) (at-fill .fill .ensures) (at-begin .begin .ensures) (at-b .b .given .1),
+      started-reaching
+          (begun-tables (start .args .state .now) (at-begin .begin .last .1 .1 .1 .1 .1 .0) (at-fill .fill .last .0) (start .pre .1 .1)
+          (at-begin .begin .kept .1 .1 .1 .1 .1 .0) (at-fill .fill .ensures) (at-begin .begin .ensures) .started)
+          (at-b .b .given .1),
+    )
 
 enum-known-b-2 : tie.Need-enum-known-b-2
 enum-known-b-2 c = search needs
@@ -52,7 +77,8 @@ returns c =
     let at-begin = at-fill .before .before .before .before .before .before in
     let start = at-begin .before .before .before .before .before .before .before .before in
     run-ended
-    (begun-tables (start .args .state .now) (at-begin .begin .last .1 .1 .1 .1 .1 .0) (at-fill .fill .last .0) (start .pre .1 .1) (at-begin .begin .kept .1 .1 .1 .1 .1 .0) (at-fill .fill .ensures) (at-begin .begin .ensures))
+    (begun-tables (start .args .state .now) (at-begin .begin .last .1 .1 .1 .1 .1 .0) (at-fill .fill .last .0) (start .pre .1 .1)
+    (at-begin .begin .kept .1 .1 .1 .1 .1 .0) (at-fill .fill .ensures) (at-begin .begin .ensures))
     (at-b .b .given .1) (at-run-lent .run-lent .ensures)
 
 same-length-3 : tie.Need-same-length-3
@@ -72,7 +98,8 @@ returns-2 c =
     let at-begin = at-fill .before .before .before .before .before .before in
     let start = at-begin .before .before .before .before .before .before .before .before in
     start-ended
-    (begun-tables (start .args .state .now) (at-begin .begin .last .1 .1 .1 .1 .1 .0) (at-fill .fill .last .0) (start .pre .1 .1) (at-begin .begin .kept .1 .1 .1 .1 .1 .0) (at-fill .fill .ensures) (at-begin .begin .ensures))
+    (begun-tables (start .args .state .now) (at-begin .begin .last .1 .1 .1 .1 .1 .0) (at-fill .fill .last .0) (start .pre .1 .1)
+    (at-begin .begin .kept .1 .1 .1 .1 .1 .0) (at-fill .fill .ensures) (at-begin .begin .ensures))
     (at-b2 .b2 .given .1)
 
 pub analyse-spec : {M : Type 1} → statement M

@@ -6,9 +6,10 @@ use native.Mathlib.Omega.{arith}
 use borrow.Author.Needs.{needs}
 use Rattle.sctp.proofs.analyse_parts.Statement.{statement}
 use Rattle.sctp.proofs.analyse_parts.Tie as tie
+use Rattle.program.specs.Layout.{programSize}
 
 slice-aggregate-analyse : tie.Need-slice-aggregate-analyse
-slice-aggregate-analyse c = sym (length-take-le 47872 (c .before .before .before .before .before .args .program .now) (omega (arith, c .before .before .before .before .before .pre .1 .0)))
+slice-aggregate-analyse c = sym (length-take-le programSize (c .before .before .before .before .before .args .program .now) (omega (arith, c .before .before .before .before .before .pre .1 .0)))
 
 sub-analyse : tie.Need-sub-analyse
 sub-analyse c = search needs

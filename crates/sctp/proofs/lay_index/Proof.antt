@@ -6,22 +6,30 @@ use native.Mathlib.Omega.{arith}
 use borrow.Author.Needs.{needs}
 use Rattle.sctp.proofs.lay_index.Statement.{statement}
 use Rattle.sctp.proofs.lay_index.Tie as tie
+use Rattle.program.specs.Layout.{programSize}
+use Rattle.chains.specs.Layout.{chainsSize}
 
 slice-reshare-prefix-build-index : tie.Need-slice-reshare-prefix-build-index
 slice-reshare-prefix-build-index c = search needs
 
 slice-aggregate-build-index : tie.Need-slice-aggregate-build-index
-slice-aggregate-build-index c = sym (length-take-le 47872 (c .before .before .before .args .program .now) (omega (arith, c .before .before .before .pre .1 .0)))
+slice-aggregate-build-index c = sym (length-take-le programSize (c .before .before .before .args .program .now) (omega (arith, c .before .before .before .pre .1 .0)))
 
 slice-relend-prefix-build-index : tie.Need-slice-relend-prefix-build-index
 slice-relend-prefix-build-index c = search needs
 
 slice-aggregate-build-index-2 : tie.Need-slice-aggregate-build-index-2
-slice-aggregate-build-index-2 c = sym (length-take-le 9216 (c .before .before .before .before .args .state .now) (omega (arith, c .before .before .before .before .pre .1 .1)))
+slice-aggregate-build-index-2 c = sym (length-take-le chainsSize (c .before .before .before .before .args .state .now) (omega (arith, c .before .before .before .before .pre .1 .1)))
 
 build-index-requires : tie.Need-build-index-requires
-build-index-requires c κs =
-    (c .before .before .before .before .pre .0, omega (arith, length-take-le 9216 (c .before .before .before .before .args .state .now) (omega (arith, c .before .before .before .before .pre .1 .1))))
+build-index-requires c κs = (
+  c .before .before .before .before .pre .0,
+  omega (
+    arith,
+    length-take-le chainsSize (c .before .before .before .before .args .state .now)
+        (omega (arith, c .before .before .before .before .pre .1 .1)),
+  ),
+)
 
 slice-reshare-prefix-copy-index : tie.Need-slice-reshare-prefix-copy-index
 slice-reshare-prefix-copy-index c = search needs
@@ -33,8 +41,19 @@ slice-aggregate-copy-index c =
     sym (built-taken (start .args .state .now) (at-build-index .build-index .last .1 .1 .0) (start .pre .1 .1) (at-build-index .build-index .kept .1 .1 .0))
 
 copy-index-requires : tie.Need-copy-index-requires
-copy-index-requires c κs =
-    ((omega (arith, built-taken (c .before .before .before .before .before .before .before .before .before .args .state .now) (c .before .before .before .before .build-index .last .1 .1 .0) (c .before .before .before .before .before .before .before .before .before .pre .1 .1) (c .before .before .before .before .build-index .kept .1 .1 .0)), c .before .before .before .before .before .before .before .before .before .pre .0 .insns), omega (arith, c .before .before .before .before .before .before .before .before .before .pre .1 .0))
+copy-index-requires c κs = (
+  (
+    omega (
+      arith,
+      built-taken (c .before .before .before .before .before .before .before .before .before .args .state .now)
+          (c .before .before .before .before .build-index .last .1 .1 .0)
+          (c .before .before .before .before .before .before .before .before .before .pre .1 .1)
+          (c .before .before .before .before .build-index .kept .1 .1 .0),
+    ),
+    c .before .before .before .before .before .before .before .before .before .pre .0 .insns,
+  ),
+  omega (arith, c .before .before .before .before .before .before .before .before .before .pre .1 .0),
+)
 
 same-length : tie.Need-same-length
 same-length c = search needs

@@ -1,4 +1,5 @@
--- `sctp::run_lent` meets its contract: a walk of its MIR, by hand. The table is a local array: it is lent as a `&mut [Record]` for the call of `commit`, comes back, is lent as a `&[Record]` for the call of `run`, comes back, and is freed.
+-- `sctp::run_lent` meets its contract: a walk of its MIR, by hand. The table is a local array: it is lent as a `&mut [Record]` for the call of
+-- `commit`, comes back, is lent as a `&[Record]` for the call of `run`, comes back, and is freed.
 -- What the parameters own goes to `run` as a whole; of m its last list is left.
 -- Assumes nothing.
 use mathlib.Core.Path.{_≡_, refl, sym, ap, subst}
@@ -72,32 +73,43 @@ use Rattle.state.proofs.Regs.Laws as Q′
 use Rattle.state.proofs.Acted as G
 use Rattle.state.proofs.Acted.Laws as G′
 use Rattle.machine.specs.Analysed.{Analysed}
-use Rattle.run.specs.Stamps.{tablesOf as wordsOf, StampsFresh}
-use Rattle.run.specs.Runs.{Reaching, RunRan}
+use Rattle.run.specs.Runs.{tablesOf as wordsOf, StampsFresh, Reaching, RunRan}
 use Rattle.records.proofs.Local.{laid, freed, big-lit}
 use Rattle.run.proofs.Facts.{says4}
 use Rattle.run.proofs.run as run-fn
 use Rattle.run.proofs.run.Symbol as run-def
-use Rattle.run.proofs.run.Symbol.{name as #steps·run}
+use Rattle.run.proofs.run.Symbol.{name as #run·run}
 use Rattle.run.proofs.run.Met as run-thm
 use Rattle.sctp.proofs.run_lent.Key.{name as #sctp·run-lent}
 use Rattle.sctp.proofs.run_lent as lent
 use Rattle.sctp.proofs.run_lent.Statement as stated
 use Rattle.sctp.proofs.run_lent.Code as code
+use Rattle.memory.specs.Layout.{instructionsMost}
 
 abbrev stayed : Stays (lent.ended .signature .params) (lent.ended .kept)
-stayed =
-    (stay-dropped _ yes, (stay-dropped _ yes, (stay-dropped _ yes, (stay-dropped _ yes, (stay-dropped _ yes, (gave-slice (4 ∷ []) tt (plain (λ _. usize)), (stay-dropped _ yes, (stay-dropped _ yes, tt))))))))
+stayed = (
+  stay-dropped _ yes,
+  (
+    stay-dropped _ yes,
+    (
+      stay-dropped _ yes,
+      (
+        stay-dropped _ yes,
+        (stay-dropped _ yes, (gave-slice (4 ∷ []) tt (plain (λ _. usize)), (stay-dropped _ yes, (stay-dropped _ yes, tt)))),
+      ),
+    ),
+  ),
+)
 
 -- the table by value
 abbrev Tab : RattleType
-Tab = Array R.the-row 2048
+Tab = Array R.the-row instructionsMost
 
 -- the count in the machine, and that so many records have room
-count-fits : 2048 < 2 ^ 64
+count-fits : instructionsMost < 2 ^ 64
 count-fits = lit< tt
 
-table-room : (l : List Record) → length l ≡ 2048 → Room R.the-row (length l)
+table-room : (l : List Record) → length l ≡ instructionsMost → Room R.the-row (length l)
 table-room l e = subst (Room R.the-row) (sym e) (lit< tt, lit< tt)
 
 module _ {M : Type 1} (𝓤 : URA M) (H : Heap 𝓤) (A : Atoms 𝓤) (mem : Memory → SProp 𝓤) (run : Routine → Fun 𝓤) where
@@ -111,7 +123,8 @@ module _ {M : Type 1} (𝓤 : URA M) (H : Heap 𝓤) (A : Atoms 𝓤) (mem : Mem
   abbrev Run : Contract 𝓤
   Run = tripleOf 𝓤 H A run-fn.signature (run-fn.spec 𝓤 H A mem run)
 
-module _ {M : Type 1} (𝓤 : URA M) (H : Heap 𝓤) (A : Atoms 𝓤) (W : Given 𝓤 H A) (mem : Memory → SProp 𝓤) (run : Routine → Fun 𝓤) (κs κp κx κu κm : Lft) (qs qp qx qu qm : Share) (s p : RefT (List ℕ)) (c : Counts) (x u m : RefT (List ℕ)) (z : Sizes) (q : Regs)
+module _ {M : Type 1} (𝓤 : URA M) (H : Heap 𝓤) (A : Atoms 𝓤) (W : Given 𝓤 H A) (mem : Memory → SProp 𝓤) (run : Routine → Fun 𝓤) (κs κp κx κu κm : Lft)
+    (qs qp qx qu qm : Share) (s p : RefT (List ℕ)) (c : Counts) (x u m : RefT (List ℕ)) (z : Sizes) (q : Regs)
     (pre : Analysed (s .now) (p .now) c (x .now) (u .now) z × StampsFresh z (m .now) q × Reaching (s .now) (p .now) c z (wordsOf (m .now)) q)
     (made : Is C.the-row c (LL.vals C.the-type C′.the-laws c)) where
   -- the machine value of a slice
@@ -155,7 +168,7 @@ module _ {M : Type 1} (𝓤 : URA M) (H : Heap 𝓤) (A : Atoms 𝓤) (W : Given
     tab γ ts = record { ptr = (l, 0); name = γ; now = ts }
 
     abbrev vt : Val
-    vt = sliceVal (l, 0) 2048
+    vt = sliceVal (l, 0) instructionsMost
 
     -- ---- the call of `commit`: the table is lent for ν
     abbrev OwnT : ℕ → GName → List Record → ℕ → Fml
@@ -164,10 +177,10 @@ module _ {M : Type 1} (𝓤 : URA M) (H : Heap 𝓤) (A : Atoms 𝓤) (W : Given
     abbrev to-commit : ℕ → GName → List Record → Commit 𝓤 H A mem run .Ghost
     to-commit ν γ ts = (((ν ∷ [], (κp, tt)), (fullShare, (qp, tt)), tt, (tab γ ts, (p, (c, tt))), (vt ∷ [], (val p ∷ [], (LL.vals C.the-type C′.the-laws c, tt)))), tt)
 
-    goes-commit : (ν : ℕ) (γ : GName) (ts : List Record) → length ts ≡ 2048
-        → ent 𝓤 (⋆ 𝓤 H A ((‵ (flft (ν ∷ []) fullShare) ⊛ ‵ (flft κp qp)) ∷ ‵ (OwnT ν γ ts 2048) ∷ ‵ OwnP ∷ [])) (Commit 𝓤 H A mem run .pre (to-commit ν γ ts))
+    goes-commit : (ν : ℕ) (γ : GName) (ts : List Record) → length ts ≡ instructionsMost
+        → ent 𝓤 (⋆ 𝓤 H A ((‵ (flft (ν ∷ []) fullShare) ⊛ ‵ (flft κp qp)) ∷ ‵ (OwnT ν γ ts instructionsMost) ∷ ‵ OwnP ∷ [])) (Commit 𝓤 H A mem run .pre (to-commit ν γ ts))
     goes-commit ν γ ts e =
-        qed W ((‵ (flft (ν ∷ []) fullShare) ⊛ ‵ (flft κp qp)) ∷ ‵ (OwnT ν γ ts 2048) ∷ ‵ OwnP ∷ []) ∵ says ! (pre .0 .indexed .ready, e) $
+        qed W ((‵ (flft (ν ∷ []) fullShare) ⊛ ‵ (flft κp qp)) ∷ ‵ (OwnT ν γ ts instructionsMost) ∷ ‵ OwnP ∷ []) ∵ says ! (pre .0 .indexed .ready, e) $
         split ! $ nothing ! $ move ! (2 ∷ 0 ∷ []) $ join ! $ move ! (1 ∷ 0 ∷ []) $ join ! $ frame ! $
         -- [what t owns; what p owns]
         nothing ! $ owned ! C.the-row (Is C.the-row) (LL.makes C.the-type C′.the-plain 𝓤 H A) c _ made $ fjoin ! $ move ! (2 ∷ 0 ∷ []) $ fjoin ! $ move ! (1 ∷ 0 ∷ []) $ fjoin ! $ done !
@@ -180,30 +193,37 @@ module _ {M : Type 1} (𝓤 : URA M) (H : Heap 𝓤) (A : Atoms 𝓤) (W : Given
     to-run ν γ ts = (((ν ∷ [], (κs, (κp, (κx, (κu, (κm, tt)))))), (fullShare, (qs, (qp, (qx, (qu, (qm, tt)))))), tt, (tab γ ts, a), (vt ∷ [], vals)), tt)
 
     goes-run : (ν : ℕ) (γ : GName) (ts : List Record) → Holds ts (p .now) c
-        → ent 𝓤 (⋆ 𝓤 H A ((‵ (flft (ν ∷ []) fullShare) ⊛ Toks) ∷ ‵ (OwnS ν γ ts 2048) ∷ ‵ Owns ∷ [])) (Run 𝓤 H A mem run .pre (to-run ν γ ts))
-    goes-run ν γ ts holds = qed W ((‵ (flft (ν ∷ []) fullShare) ⊛ Toks) ∷ ‵ (OwnS ν γ ts 2048) ∷ ‵ Owns ∷ []) ∵ says4 ! (pre .0) holds (pre .1) (pre .2) $ frame ! $ fjoin ! $ done !
+        → ent 𝓤 (⋆ 𝓤 H A ((‵ (flft (ν ∷ []) fullShare) ⊛ Toks) ∷ ‵ (OwnS ν γ ts instructionsMost) ∷ ‵ Owns ∷ [])) (Run 𝓤 H A mem run .pre (to-run ν γ ts))
+    goes-run ν γ ts holds = qed W ((‵ (flft (ν ∷ []) fullShare) ⊛ Toks) ∷ ‵ (OwnS ν γ ts instructionsMost) ∷ ‵ Owns ∷ []) ∵ says4 ! (pre .0) holds (pre .1) (pre .2) $ frame ! $ fjoin ! $ done !
 
   exits : (ms : List ℕ) (r : Acted) (v : Val) → length ms ≡ length (m .now) → RunRan (s .now) (p .now) c z (wordsOf ms) r
       → ent 𝓤 (⋆ 𝓤 H A (Toks ∷ ‵ (finally usize (m .name) ms) ∷ ‵ (G.the-row .own r (v ∷ [])) ∷ [])) (Post v)
   exits ms r v e ran =
       qed W (Toks ∷ ‵ (finally usize (m .name) ms) ∷ ‵ (G.the-row .own r (v ∷ [])) ∷ []) ∵
       suffices ! _
-      (ends-at 𝓤 H A lent.ended stayed (lent.clauses 𝓤 H A mem run) W (((κs, (κp, (κx, (κu, (κm, tt))))), (qs, (qp, (qx, (qu, (qm, tt))))), tt, a, vals), tt) v r (tt, (tt, (tt, (tt, (tt, (ms, (tt, (tt, tt)))))))) (tt, (tt, (tt, (tt, (tt, (e, (tt, (tt, tt)))))))))
+      (ends-at 𝓤 H A lent.ended stayed (lent.clauses 𝓤 H A mem run) W
+      (((κs, (κp, (κx, (κu, (κm, tt))))), (qs, (qp, (qx, (qu, (qm, tt))))), tt, a, vals), tt) v r
+      (tt, (tt, (tt, (tt, (tt, (ms, (tt, (tt, tt)))))))) (tt, (tt, (tt, (tt, (tt, (e, (tt, (tt, tt)))))))))
       $ says ! ran $ frame ! $
       nothing ! $ nothing ! $ fjoin ! $ nothing ! $ fjoin ! $ move ! (1 ∷ 0 ∷ []) $ fjoin ! $ nothing ! $ fjoin ! $ nothing ! $ fjoin ! $ nothing ! $ fjoin ! $ nothing ! $ fjoin ! $ nothing ! $ fjoin
       ! $ frame ! $ done !
 
-  module _ (𝓣 : Tables 𝓤 H) (fm : FmC 𝓤 H (W .laws) (𝓣 .C)) (known-empty : Triple 𝓤 (𝓣 .C #records·empty) (Empty 𝓤 H A mem run)) (known-commit : Triple 𝓤 (𝓣 .C #records·commit) (Commit 𝓤 H A mem run)) (known-run : Triple 𝓤 (𝓣 .C #steps·run) (Run 𝓤 H A mem run))
+  module _ (𝓣 : Tables 𝓤 H) (fm : FmC 𝓤 H (W .laws) (𝓣 .C)) (known-empty : Triple 𝓤 (𝓣 .C #records·empty) (Empty 𝓤 H A mem run))
+      (known-commit : Triple 𝓤 (𝓣 .C #records·commit) (Commit 𝓤 H A mem run)) (known-run : Triple 𝓤 (𝓣 .C #run·run) (Run 𝓤 H A mem run))
       (s-room : Room u8 (length (s .now))) (p-room : Room usize (length (p .now))) (x-room : Room usize (length (x .now))) (u-room : Room usize (length (u .now)))
       (m-room : Room usize (length (m .now)))
       (made-z : Is Z.the-row z (LL.vals Z.the-type Z′.the-laws z)) (made-q : Is Q.the-row q (LL.vals Q.the-type Q′.the-laws q)) where
-    typed : (ts : List Record) (v : Val) → Is Tab ts (v ∷ []) → T (hasTy (tyArray (lone (R.the-row .mir)) 2048) v) × WT v
-    typed ts v is = array-typed R.the-row (LL.lawful R.the-type R′.the-laws 𝓤 H A W .typed) 2048 ts (v ∷ []) is .0
+    typed : (ts : List Record) (v : Val) → Is Tab ts (v ∷ []) → T (hasTy (tyArray (lone (R.the-row .mir)) instructionsMost) v) × WT v
+    typed ts v is = array-typed R.the-row (LL.lawful R.the-type R′.the-laws 𝓤 H A W .typed) instructionsMost ts (v ∷ []) is .0
 
-    walk : ent 𝓤 (onEntry 𝓤 H A lent.signature (κs, (κp, (κx, (κu, (κm, tt))))) (qs, (qp, (qx, (qu, (qm, tt))))) a vals) (WpFn 𝓤 H (𝓣 .C) (𝓣 .Λ) code.function (val s ∷ val p ∷ C′.lowered c ∷ val x ∷ val u ∷ val m ∷ Z′.lowered z ∷ Q′.lowered q ∷ []) Post)
+    walk : ent 𝓤 (onEntry 𝓤 H A lent.signature (κs, (κp, (κx, (κu, (κm, tt))))) (qs, (qp, (qx, (qu, (qm, tt))))) a vals)
+        (WpFn 𝓤 H (𝓣 .C) (𝓣 .Λ) code.function (val s ∷ val p ∷ C′.lowered c ∷ val x ∷ val u ∷ val m ∷ Z′.lowered z ∷ Q′.lowered q ∷ []) Post)
     walk =
         qed W (Toks ∷ ‵ Owns ∷ []) ∵ enter ! (𝓣 .C) (𝓣 .Λ) code.function (val s ∷ val p ∷ C′.lowered c ∷ val x ∷ val u ∷ val m ∷ Z′.lowered z ∷ Q′.lowered q ∷ []) _ $
-        alloc1 ! (λ l₀. alloc1 ! (λ l₁. alloc1 ! (λ l₂. alloc1 ! (λ l₃. alloc1 ! (λ l₄. alloc1 ! (λ l₅. alloc1 ! (λ l₆. alloc1 ! (λ l₇. alloc1 ! (λ l₈. alloc1 ! (λ l₉. alloc1 ! (λ l₁₀. alloc1 ! (λ l₁₁. alloc1 ! (λ l₁₂. alloc1 ! (λ l₁₃. alloc1 ! (λ l₁₄. alloc1 ! (λ l₁₅. alloc1 ! (λ l₁₆. alloc1 ! (λ l₁₇. alloc0 ! $ params1 ! $
+        alloc1 ! (λ l₀. alloc1 ! (λ l₁. alloc1 ! (λ l₂. alloc1 ! (λ l₃. alloc1 ! (λ l₄. alloc1 ! (λ l₅. alloc1 ! (λ l₆. alloc1 ! (λ l₇.
+        alloc1 ! (λ l₈. alloc1 ! (λ l₉. alloc1 ! (λ l₁₀. alloc1 ! (λ l₁₁. alloc1 ! (λ l₁₂. alloc1 ! (λ l₁₃. alloc1 ! (λ l₁₄. alloc1 ! (λ l₁₅.
+        alloc1 ! (λ l₁₆. alloc1 ! (λ l₁₇. alloc0 ! $
+        params1 ! $
         pass1 ! (init ! 32 refl (tt, (tt, (record { fits = s-room .0 }, tt)))) $ pass1 ! (init ! 30 refl (tt, (tt, (record { fits = p-room .0 }, tt)))) $ pass1 !
         (init ! 28 refl (LL.lawful C.the-type C′.the-laws 𝓤 H A W .typed c _ made .0)) $
         pass1 ! (init ! 26 refl (tt, (tt, (record { fits = x-room .0 }, tt)))) $ pass1 ! (init ! 24 refl (tt, (tt, (record { fits = u-room .0 }, tt)))) $ pass1 !
@@ -211,15 +231,24 @@ module _ {M : Type 1} (𝓤 : URA M) (H : Heap 𝓤) (A : Atoms 𝓤) (W : Given
         pass1 ! (init ! 20 refl (LL.lawful Z.the-type Z′.the-laws 𝓤 H A W .typed z _ made-z .0)) $ pass1 ! (init ! 18 refl (LL.lawful Q.the-type Q′.the-laws 𝓤 H A W .typed q _ made-q .0)) $ pass0 ! $
         -- [_17; …; …; _0; …; the tokens; what the parameters own]
         use0 W (raw (Empty 𝓤 H A mem run .pre to-empty)) goes-empty $ calls-at ! fm (Empty 𝓤 H A mem run) known-empty to-empty (no-more !) (λ v₀.
-        use1 W (later (some (λ (ts : List Record). (‵ ftrue ⊛ ‵ (Tab .own ts (v₀ ∷ []))) ⊛ raw (ensured 𝓤 H A empty.ended (empty.clauses 𝓤 H A mem run) tt tt tt ts)))) (id⊢ 𝓤 _) $ await ! tt $ pick ! (λ ts.
+        use1 W
+        (later (some (λ (ts : List Record). (‵ ftrue ⊛ ‵ (Tab .own ts (v₀ ∷ [])))
+        ⊛ raw (ensured 𝓤 H A empty.ended (empty.clauses 𝓤 H A mem run) tt tt tt ts))))
+        (id⊢ 𝓤 _) $
+        await ! tt $ pick ! (λ ts.
         split ! $ move ! (1 ∷ []) $ drop ! $ split ! $ drop ! $ peeks ! Tab (Is Tab) (shows 𝓤 H A Tab) ts (v₀ ∷ []) (λ is.
         land ! (from ! (stop !)) (init ! 15 refl (typed ts v₀ is)) $ assigns ! (of-opd ! (load ! (from ! (stop !)) (look ! 15 refl))) (from ! (stop !)) (init ! 17 refl (typed ts v₀ is)) $
         assigns ! (addr ! (from ! (stop !))) (from ! (stop !)) (init ! 11 refl (tt, tt)) $
         assigns ! (agg ! (and-then ! (load ! (from ! (stop !)) (look ! 11 refl)) (and-then ! (big-lit ! (record { fits = count-fits })) (no-more !)))) (from ! (stop !))
         (init ! 9 refl (tt, (tt, (record { fits = count-fits }, tt)))) $
         -- the table is lent as a `&mut [Record]`, for a lifetime ν of the call
-        move ! (17 ∷ 0 ∷ []) $ use2 W (‵ (feq ℕ (length ts) 2048) ⊛ ‵ (cells (in-memory R.the-row) ts l₉ 0)) (laid 𝓤 H A W R.the-row 2048 ts l₉ tt v₀) $ split ! $ feqL ! (λ e. lft-new ! tt (λ ν. move ! (1 ∷ []) $
-        use1 W (later (some (λ (γ : GName). ‵ (OwnT l₉ ν γ ts (length ts)) ⊛ ‵ (flent (ν ∷ []) (Held R.the-row (length ts) l₉ 0 γ))))) (lends-slice 𝓤 H A W R.the-row (named 0) (ν ∷ []) ts l₉ 0 (table-room ts e)) $ await ! tt $ pick ! (λ γ. split ! $
+        move ! (17 ∷ 0 ∷ []) $
+        use2 W (‵ (feq ℕ (length ts) instructionsMost) ⊛ ‵ (cells (in-memory R.the-row) ts l₉ 0))
+        (laid 𝓤 H A W R.the-row instructionsMost ts l₉ tt v₀) $
+        split ! $ feqL ! (λ e. lft-new ! tt (λ ν. move ! (1 ∷ []) $
+        use1 W (later (some (λ (γ : GName). ‵ (OwnT l₉ ν γ ts (length ts)) ⊛ ‵ (flent (ν ∷ []) (Held R.the-row (length ts) l₉ 0 γ)))))
+        (lends-slice 𝓤 H A W R.the-row (named 0) (ν ∷ []) ts l₉ 0 (table-room ts e)) $
+        await ! tt $ pick ! (λ γ. split ! $
         rewrite ! 0 (λ (n : ℕ). ‵ (OwnT l₉ ν γ ts n)) e refl $
         -- [what t owns; what is lent; the token of ν; the locals; the tokens; what the parameters own]: p's token, and a copy of what p owns
         move ! (38 ∷ []) $ split ! $ move ! (1 ∷ []) $ split ! $ move ! (41 ∷ []) $ fsplit ! $ move ! (1 ∷ []) $ fsplit ! $
@@ -227,9 +256,21 @@ module _ {M : Type 1} (𝓤 : URA M) (H : Heap 𝓤) (A : Atoms 𝓤) (W : Given
         -- [what the parameters own; what p owns; p's token; the tokens behind it; s's token; what t owns; what is lent; the token of ν; the locals]
         move ! (7 ∷ 2 ∷ []) $ join ! $ move ! (0 ∷ 5 ∷ 2 ∷ []) $
         use3 W (raw (Commit 𝓤 H A mem run .pre (to-commit l₉ ν γ ts))) (goes-commit l₉ ν γ ts e) $
-        calls-at ! fm (Commit 𝓤 H A mem run) known-commit (to-commit l₉ ν γ ts) (and-then ! (load ! (from ! (stop !)) (look ! 13 refl)) (and-then ! (load ! (from ! (stop !)) (look ! 34 refl)) (and-then ! (load ! (from ! (stop !)) (look ! 32 refl)) (no-more !)))) (λ v₁.
-        use1 W (later (some (λ (r : Unit {0}). ((‵ (flft (ν ∷ []) fullShare) ⊛ ‵ (flft κp qp) ⊛ ‵ ftrue) ⊛ ‵ (unit .own r (v₁ ∷ []))) ⊛ raw (ensured 𝓤 H A commit.ended (commit.clauses 𝓤 H A mem run) (ν ∷ [], (κp, tt)) (tab l₉ γ ts, (p, (c, tt))) tt r)))) (id⊢ 𝓤 _) $ await ! tt $ pick ! (λ r₁.
-        split ! $ move ! (1 ∷ []) $ use1 W (some (λ (ws : List Record × (Unit {0} × (Unit {0} × Unit {0}))). ‵ (lasts commit.ended (ν ∷ [], (κp, tt)) (tab l₉ γ ts, (p, (c, tt))) ws) ⊛ raw (fact 𝓤 (Holds (ws .0) (p .now) c)))) (id⊢ 𝓤 _) $ pick ! (λ ws.
+        calls-at ! fm (Commit 𝓤 H A mem run) known-commit (to-commit l₉ ν γ ts)
+        (and-then ! (load ! (from ! (stop !)) (look ! 13 refl))
+        (and-then ! (load ! (from ! (stop !)) (look ! 34 refl)) (and-then ! (load ! (from ! (stop !)) (look ! 32 refl)) (no-more !))))
+        (λ v₁.
+        use1 W
+        (later (some (λ (r : Unit {0}). ((‵ (flft (ν ∷ []) fullShare) ⊛ ‵ (flft κp qp) ⊛ ‵ ftrue) ⊛ ‵ (unit .own r (v₁ ∷ [])))
+        ⊛ raw (ensured 𝓤 H A commit.ended (commit.clauses 𝓤 H A mem run) (ν ∷ [], (κp, tt)) (tab l₉ γ ts, (p, (c, tt))) tt r))))
+        (id⊢ 𝓤 _) $
+        await ! tt $ pick ! (λ r₁.
+        split ! $ move ! (1 ∷ []) $
+        use1 W
+        (some (λ (ws : List Record × (Unit {0} × (Unit {0} × Unit {0}))). ‵ (lasts commit.ended (ν ∷ [], (κp, tt)) (tab l₉ γ ts, (p, (c, tt))) ws)
+        ⊛ raw (fact 𝓤 (Holds (ws .0) (p .now) c))))
+        (id⊢ 𝓤 _) $
+        pick ! (λ ws.
         split ! $ move ! (1 ∷ []) $ heard ! (Holds (ws .0) (p .now) c) (λ holds. fsplit ! $ fsplit ! $ move ! (1 ∷ []) $ feqL ! (λ len.
         -- [what says the last list; true; the tokens and the unit; what the parameters own; the tokens behind p's; s's token; what is lent; the locals]
         move ! (2 ∷ []) $ split ! $ move ! (1 ∷ []) $ feqL ! (λ is₁. land ! (from ! (stop !)) (init ! 19 refl (subst (λ (v : Val). T (hasTy tyUnit v) × WT v) (sym (ap only is₁)) (tt, tt))) $
@@ -238,7 +279,11 @@ module _ {M : Type 1} (𝓤 : URA M) (H : Heap 𝓤) (A : Atoms 𝓤) (W : Given
         fsplit ! $ drop ! $ use1 W (‵ (row R.the-row fullShare (ws .0) l₉ 0)) (whole-out 𝓤 H A W R.the-row (ws .0) l₉ 0) $ feqI ! ℕ (length (ws .0)) (length (ws .0)) refl $ fjoin ! $
         -- the table is lent as a `&[Record]`, for a lifetime ν′ of the call
         lft-new ! tt (λ ν′. move ! (1 ∷ []) $
-        use1 W (later (some (λ (γ′ : GName). ‵ (OwnS l₉ ν′ γ′ (ws .0) (length (ws .0))) ⊛ ‵ (flent (ν′ ∷ []) (arr-parts (shares R.the-row) (length (ws .0)) .part fullShare (ws .0) l₉ 0))))) (lends-shr-slice 𝓤 H A W R.the-row (named 0) (ν′ ∷ []) fullShare (ws .0) l₉ 0 (table-room (ws .0) (holds .len-table))) $ await ! tt $ pick ! (λ γ′. split ! $
+        use1 W
+        (later (some (λ (γ′ : GName). ‵ (OwnS l₉ ν′ γ′ (ws .0) (length (ws .0)))
+        ⊛ ‵ (flent (ν′ ∷ []) (arr-parts (shares R.the-row) (length (ws .0)) .part fullShare (ws .0) l₉ 0)))))
+        (lends-shr-slice 𝓤 H A W R.the-row (named 0) (ν′ ∷ []) fullShare (ws .0) l₉ 0 (table-room (ws .0) (holds .len-table))) $
+        await ! tt $ pick ! (λ γ′. split ! $
         rewrite ! 0 (λ (n : ℕ). ‵ (OwnS l₉ ν′ γ′ (ws .0) n)) (holds .len-table) refl $
         -- [what t owns; what is lent; the token of ν′; p's token; true; what the parameters own; the tokens behind p's; s's token; the locals]
         assigns ! (addr ! (from ! (stop !))) (from ! (stop !)) (init ! 14 refl (tt, tt)) $
@@ -251,16 +296,33 @@ module _ {M : Type 1} (𝓤 : URA M) (H : Heap 𝓤) (A : Atoms 𝓤) (W : Given
         use3 W (raw (Run 𝓤 H A mem run .pre (to-run l₉ ν′ γ′ (ws .0)))) (goes-run l₉ ν′ γ′ (ws .0) holds) $
         -- [what `run` asks; true; what is lent; true; the locals]
         calls-at ! fm (Run 𝓤 H A mem run) known-run (to-run l₉ ν′ γ′ (ws .0))
-        (and-then ! (load ! (from ! (stop !)) (look ! 8 refl)) (and-then ! (load ! (from ! (stop !)) (look ! 35 refl)) (and-then ! (load ! (from ! (stop !)) (look ! 33 refl)) (and-then ! (load ! (from ! (stop !)) (look ! 31 refl)) (and-then ! (load ! (from ! (stop !)) (look ! 29 refl))
-        (and-then ! (load ! (from ! (stop !)) (look ! 27 refl)) (and-then ! (load ! (from ! (stop !)) (look ! 4 refl)) (and-then ! (load ! (from ! (stop !)) (look ! 23 refl)) (and-then ! (load ! (from ! (stop !)) (look ! 21 refl)) (no-more !)))))))))) (λ v₂.
-        use1 W (later (some (λ (r : Acted). ((‵ (flft (ν′ ∷ []) fullShare) ⊛ Toks) ⊛ ‵ (G.the-row .own r (v₂ ∷ []))) ⊛ raw (ensured 𝓤 H A run-fn.ended (run-fn.clauses 𝓤 H A mem run) (to-run l₉ ν′ γ′ (ws .0) .0 .0) (tab l₉ γ′ (ws .0), a) tt r)))) (id⊢ 𝓤 _) $ await ! tt $ pick ! (λ r.
-        split ! $ move ! (1 ∷ []) $ use1 W (some (λ (ys : Unit {0} × (Unit {0} × (Unit {0} × (Unit {0} × (Unit {0} × (Unit {0} × (List ℕ × (Unit {0} × (Unit {0} × Unit {0}))))))))). ‵ (lasts run-fn.ended (to-run l₉ ν′ γ′ (ws .0) .0 .0) (tab l₉ γ′ (ws .0), a) ys) ⊛ raw (fact 𝓤 (RunRan (s .now) (p .now) c z (wordsOf (ys .1 .1 .1 .1 .1 .1 .0)) r)))) (id⊢ 𝓤 _) $ pick ! (λ ys.
-        split ! $ move ! (1 ∷ []) $ heard ! (RunRan (s .now) (p .now) c z (wordsOf (ys .1 .1 .1 .1 .1 .1 .0)) r) (λ ran. fsplit ! $ drop ! $ fsplit ! $ drop ! $ fsplit ! $ drop ! $ fsplit ! $ drop ! $ fsplit ! $ drop ! $ fsplit ! $ drop ! $ fsplit ! $ fsplit ! $ move ! (1 ∷ []) $ feqL ! (λ same.
+        (and-then ! (load ! (from ! (stop !)) (look ! 8 refl)) (and-then ! (load ! (from ! (stop !)) (look ! 35 refl)) (and-then !
+        (load ! (from ! (stop !)) (look ! 33 refl)) (and-then ! (load ! (from ! (stop !)) (look ! 31 refl)) (and-then !
+        (load ! (from ! (stop !)) (look ! 29 refl))
+        (and-then ! (load ! (from ! (stop !)) (look ! 27 refl)) (and-then ! (load ! (from ! (stop !)) (look ! 4 refl))
+        (and-then ! (load ! (from ! (stop !)) (look ! 23 refl)) (and-then ! (load ! (from ! (stop !)) (look ! 21 refl)) (no-more !))))))))))
+        (λ v₂.
+        use1 W
+        (later (some (λ (r : Acted). ((‵ (flft (ν′ ∷ []) fullShare) ⊛ Toks) ⊛ ‵ (G.the-row .own r (v₂ ∷ [])))
+        ⊛ raw (ensured 𝓤 H A run-fn.ended (run-fn.clauses 𝓤 H A mem run) (to-run l₉ ν′ γ′ (ws .0) .0 .0) (tab l₉ γ′ (ws .0), a) tt r))))
+        (id⊢ 𝓤 _) $
+        await ! tt $ pick ! (λ r.
+        split ! $ move ! (1 ∷ []) $
+        use1 W
+        (some (λ (ys : Unit {0} × (Unit {0} × (Unit {0} × (Unit {0} × (Unit {0} × (Unit {0} × (List ℕ × (Unit {0} × (Unit {0} × Unit {0}))))))))).
+        ‵ (lasts run-fn.ended (to-run l₉ ν′ γ′ (ws .0) .0 .0) (tab l₉ γ′ (ws .0), a) ys)
+        ⊛ raw (fact 𝓤 (RunRan (s .now) (p .now) c z (wordsOf (ys .1 .1 .1 .1 .1 .1 .0)) r))))
+        (id⊢ 𝓤 _) $
+        pick ! (λ ys.
+        split ! $ move ! (1 ∷ []) $ heard ! (RunRan (s .now) (p .now) c z (wordsOf (ys .1 .1 .1 .1 .1 .1 .0)) r) (λ ran. fsplit ! $ drop ! $
+        fsplit ! $ drop ! $ fsplit ! $ drop ! $ fsplit ! $ drop ! $ fsplit ! $ drop ! $ fsplit ! $ drop ! $ fsplit ! $ fsplit ! $
+        move ! (1 ∷ []) $ feqL ! (λ same.
         -- [what says m's last list; true; the tokens and the result; true; what is lent; true; the locals]
         move ! (2 ∷ []) $ split ! $ split ! $ lft-end ! tt $ move ! (0 ∷ 6 ∷ []) $ lent-back ! tt $
         use1 W (‵ (froom (tyArray (lone (R.the-row .mir)) (length (ws .0))) l₉ 0)) (freed 𝓤 H A W R.the-row (length (ws .0)) (ws .0) l₉) $ rewrite ! 0
         (λ (n : ℕ). ‵ (froom (tyArray (lone (R.the-row .mir)) n) l₉ 0)) (holds .len-table) refl $
-        move ! (2 ∷ []) $ peeks ! G.the-row (Is G.the-row) (shows 𝓤 H A G.the-row) r (v₂ ∷ []) (λ is₂. land ! (from ! (stop !)) (init ! 40 refl (EL.lawful G.the-type G′.the-laws 𝓤 H A W tt .typed r _ is₂ .0)) $
+        move ! (2 ∷ []) $ peeks ! G.the-row (Is G.the-row) (shows 𝓤 H A G.the-row) r (v₂ ∷ []) (λ is₂.
+        land ! (from ! (stop !)) (init ! 40 refl (EL.lawful G.the-type G′.the-laws 𝓤 H A W tt .typed r _ is₂ .0)) $
         -- [what the result owns; _9; the tokens; what says m's last list; true; true; true; the other locals]
         returns ! (look ! 40 refl) $ forget ! 7 refl $ forget ! 9 refl $ forget ! 11 refl $ forget ! 13 refl $ forget ! 15 refl $ forget ! 17 refl $ forget ! 19 refl $ forget ! 21 refl $
         forget ! 24 refl $ forget ! 26 refl $ forget ! 28 refl $ forget ! 30 refl $ forget ! 32 refl $ forget ! 34 refl $ forget ! 36 refl $ forget ! 38 refl $ forget ! 40 refl $
@@ -270,12 +332,38 @@ module _ {M : Type 1} (𝓤 : URA M) (H : Heap 𝓤) (A : Atoms 𝓤) (W : Given
         $ free1 ! $ move ! (8 ∷ 9 ∷ []) $ free1 ! $ move ! (6 ∷ 7 ∷ []) $ free1 ! $ free0 ! $
         keep ! (1 ∷ 2 ∷ 0 ∷ []) $ by ! (exits (ys .1 .1 .1 .1 .1 .1 .0) r v₂ same ran)))))))))))))))))))))))))))))))))))))))
 
-module _ {M : Type 1} (𝓤 : URA M) (H : Heap 𝓤) (A : Atoms 𝓤) (W : Given 𝓤 H A) (mem : Memory → SProp 𝓤) (run : Routine → Fun 𝓤) (𝓣 : Tables 𝓤 H) (known-empty : Triple 𝓤 (𝓣 .C #records·empty) (Empty 𝓤 H A mem run)) (known-commit : Triple 𝓤 (𝓣 .C #records·commit) (Commit 𝓤 H A mem run)) (known-run : Triple 𝓤 (𝓣 .C #steps·run) (Run 𝓤 H A mem run)) where
+module _ {M : Type 1} (𝓤 : URA M) (H : Heap 𝓤) (A : Atoms 𝓤) (W : Given 𝓤 H A) (mem : Memory → SProp 𝓤) (run : Routine → Fun 𝓤) (𝓣 : Tables 𝓤 H)
+    (known-empty : Triple 𝓤 (𝓣 .C #records·empty) (Empty 𝓤 H A mem run)) (known-commit : Triple 𝓤 (𝓣 .C #records·commit) (Commit 𝓤 H A mem run))
+    (known-run : Triple 𝓤 (𝓣 .C #run·run) (Run 𝓤 H A mem run)) where
   lent-walks : Walks 𝓤 H A lent.ended stayed (WpFn 𝓤 H (𝓣 .C) (𝓣 .Λ) code.function) (lent.clauses 𝓤 H A mem run)
   lent-walks = walked 𝓤 H A lent.ended stayed (lent.clauses 𝓤 H A mem run) (WpFn 𝓤 H (𝓣 .C) (𝓣 .Λ) code.function)
       (λ κs. (slice-vals, (slice-vals, (LL.vals C.the-type C′.the-laws, (slice-vals, (slice-vals, (slice-vals, (LL.vals Z.the-type Z′.the-laws, (LL.vals Q.the-type Q′.the-laws, tt)))))))))
-      (λ κs. (shr-slice-tells (named 0) (κs .0) u8, (shr-slice-tells (named 1) (κs .1 .0) usize, (LL.tells C.the-type C′.the-laws, (shr-slice-tells (named 2) (κs .1 .1 .0) usize, (shr-slice-tells (named 3) (κs .1 .1 .1 .0) usize, (mut-slice-tells (named 4) (κs .1 .1 .1 .1 .0) usize, (LL.tells Z.the-type Z′.the-laws, (LL.tells Q.the-type Q′.the-laws, tt)))))))))
-      (λ κs qs bounds a g are. needs 𝓤 (Analysed (a .0 .now) (a .1 .0 .now) (a .1 .1 .0) (a .1 .1 .1 .0 .now) (a .1 .1 .1 .1 .0 .now) (a .1 .1 .1 .1 .1 .1 .0) × StampsFresh (a .1 .1 .1 .1 .1 .1 .0) (a .1 .1 .1 .1 .1 .0 .now) (a .1 .1 .1 .1 .1 .1 .1 .0) × Reaching (a .0 .now) (a .1 .0 .now) (a .1 .1 .0) (a .1 .1 .1 .1 .1 .1 .0) (wordsOf (a .1 .1 .1 .1 .1 .0 .now)) (a .1 .1 .1 .1 .1 .1 .1 .0)) _ (λ pre.
+      (λ κs. (
+        shr-slice-tells (named 0) (κs .0) u8,
+        (
+          shr-slice-tells (named 1) (κs .1 .0) usize,
+          (
+            LL.tells C.the-type C′.the-laws,
+            (
+              shr-slice-tells (named 2) (κs .1 .1 .0) usize,
+              (
+                shr-slice-tells (named 3) (κs .1 .1 .1 .0) usize,
+                (
+                  mut-slice-tells (named 4) (κs .1 .1 .1 .1 .0) usize,
+                  (LL.tells Z.the-type Z′.the-laws, (LL.tells Q.the-type Q′.the-laws, tt)),
+                ),
+              ),
+            ),
+          ),
+        ),
+      ))
+      (λ κs qs bounds a g are. needs 𝓤
+      (Analysed (a .0 .now) (a .1 .0 .now) (a .1 .1 .0) (a .1 .1 .1 .0 .now) (a .1 .1 .1 .1 .0 .now) (a .1 .1 .1 .1 .1 .1 .0)
+      × StampsFresh (a .1 .1 .1 .1 .1 .1 .0) (a .1 .1 .1 .1 .1 .0 .now) (a .1 .1 .1 .1 .1 .1 .1 .0)
+      × Reaching (a .0 .now) (a .1 .0 .now) (a .1 .1 .0) (a .1 .1 .1 .1 .1 .1 .0) (wordsOf (a .1 .1 .1 .1 .1 .0 .now))
+      (a .1 .1 .1 .1 .1 .1 .1 .0))
+      _
+      (λ pre.
       walk 𝓤 H A W mem run (κs .0) (κs .1 .0) (κs .1 .1 .0) (κs .1 .1 .1 .0) (κs .1 .1 .1 .1 .0) (qs .0) (qs .1 .0) (qs .1 .1 .0) (qs .1 .1 .1 .0) (qs .1 .1 .1 .1 .0)
       (a .0) (a .1 .0) (a .1 .1 .0) (a .1 .1 .1 .0) (a .1 .1 .1 .1 .0) (a .1 .1 .1 .1 .1 .0) (a .1 .1 .1 .1 .1 .1 .0) (a .1 .1 .1 .1 .1 .1 .1 .0) pre (are .1 .1 .0) 𝓣 (fmOf 𝓤 H (W .laws) 𝓣)
       known-empty known-commit known-run
@@ -292,7 +380,13 @@ module _ {M : Type 1} (𝓤 : URA M) (H : Heap 𝓤) (A : Atoms 𝓤) (W : Given
           goes-dropped 𝓤 H A W 5 (SliceRefOf (2 ∷ []) tt (plain (λ _. usize)) (λ _. tt)) yes (λ κs x f. refl),
           (
             goes-dropped 𝓤 H A W 5 (SliceRefOf (3 ∷ []) tt (plain (λ _. usize)) (λ _. tt)) yes (λ κs x f. refl),
-            (goes-gave-slice 𝓤 H A W 5 4 tt (plain (λ _. usize)), (goes-dropped 𝓤 H A W 5 (plain (λ _. Z.the-row)) yes (λ κs x f. refl), (goes-dropped 𝓤 H A W 5 (plain (λ _. Q.the-row)) yes (λ κs x f. refl), tt))),
+            (
+              goes-gave-slice 𝓤 H A W 5 4 tt (plain (λ _. usize)),
+              (
+                goes-dropped 𝓤 H A W 5 (plain (λ _. Z.the-row)) yes (λ κs x f. refl),
+                (goes-dropped 𝓤 H A W 5 (plain (λ _. Q.the-row)) yes (λ κs x f. refl), tt),
+              ),
+            ),
           ),
         ),
       ),
@@ -308,4 +402,4 @@ run-lent-spec 𝓤 H 𝓜 𝓖 𝓡 =
     (lent-meets 𝓤 H (𝓖 .A) (givenOf 𝓤 H 𝓜 𝓖) (𝓜 .mem) (𝓡 .run) (tablesOf 𝓤 H 𝓜 (tables 𝓤 H 𝓜 𝓡 code.env))
     (cited 𝓤 H (Empty 𝓤 H (𝓖 .A) (𝓜 .mem) (𝓡 .run)) 𝓜 𝓡 code.env #records·empty empty-def.routine code.calls-records·empty (empty-thm.met 𝓤 H 𝓜 𝓖 𝓡))
     (cited 𝓤 H (Commit 𝓤 H (𝓖 .A) (𝓜 .mem) (𝓡 .run)) 𝓜 𝓡 code.env #records·commit commit-def.routine code.calls-records·commit (commit-thm.met 𝓤 H 𝓜 𝓖 𝓡))
-    (cited 𝓤 H (Run 𝓤 H (𝓖 .A) (𝓜 .mem) (𝓡 .run)) 𝓜 𝓡 code.env #steps·run run-def.routine code.calls-run·run (run-thm.met 𝓤 H 𝓜 𝓖 𝓡)))
+    (cited 𝓤 H (Run 𝓤 H (𝓖 .A) (𝓜 .mem) (𝓡 .run)) 𝓜 𝓡 code.env #run·run run-def.routine code.calls-run·run (run-thm.met 𝓤 H 𝓜 𝓖 𝓡)))

@@ -23,6 +23,8 @@ use Rattle.state.specs.View.{Attrs, stateView, StateHeld, StateCleared, noEntri
 use Rattle.state.proofs.Blank.{blank-view}
 use Rattle.constructors.specs.firsts.Firsts.{FirstsOnly, allKindsAt}
 use Rattle.machine.specs.Analysed.{MachineSized, MachineFits}
+use Rattle.memory.specs.Layout.{classesMost, ivarsMost}
+use Rattle.state.specs.Layout.{liveBlocksAt, ivarKindsAt, ivarBitsAt, calledAt, readsAt, stateSize}
 
 -- ---- lists of kinds
 
@@ -51,7 +53,7 @@ module _ (s p : List ℕ) (c : Counts) (z : Sizes) (e : MachineSized c z) where
   unfolding classesOf classAt
   attrs-at v f k h = f .attrs k ∙ ap (λ (x : R.Class). length (x .ivars)) (tab-at (classAt s p) (c .classes) k R.builtIn h) ∙ tab-length _ (ivarsOf p k)
 
-  pub held-at : (m : List ℕ) → P.ProgramReady p c → length m ≡ 52224 → StateHeld z m
+  pub held-at : (m : List ℕ) → P.ProgramReady p c → length m ≡ stateSize → StateHeld z m
   held-at m r l = record {
     len = l;
     functions = omega (arith, e .functions, r .functions);
@@ -62,31 +64,35 @@ module _ (s p : List ℕ) (c : Counts) (z : Sizes) (e : MachineSized c z) where
 
   -- ---- the stateView
 
-  module _ (r : P.ProgramReady p c) (m w : List ℕ) (g : StateCleared z m) (o : FirstsOnly 5120 9216 4096 m w) where
+  module _ (r : P.ProgramReady p c) (m w : List ℕ) (g : StateCleared z m) (o : FirstsOnly ivarKindsAt ivarBitsAt (classesMost * ivarsMost) m w) where
     cleared-still : StateCleared z w
     cleared-still = record {
       held = held-at w r (o .len-same ∙ g .held .len);
       kinds = λ i h. let few = g .held .insns in o .others i (λ a b. omega arith) (λ a b. omega arith) ∙ g .kinds i h;
-      live = λ b h. let few = g .held .blocks in o .others (4096 + b) (λ a k. omega arith) (λ a k. omega arith) ∙ g .live b h;
-      called = λ j h. o .others (13312 + j) (λ a b. omega arith) (λ a b. omega arith) ∙ g .called j h;
-      reads = λ j h. o .others (17408 + j) (λ a b. omega arith) (λ a b. omega arith) ∙ g .reads j h;
+      live = λ b h. let few = g .held .blocks in o .others (liveBlocksAt + b) (λ a k. omega arith) (λ a k. omega arith) ∙ g .live b h;
+      called = λ j h. o .others (calledAt + j) (λ a b. omega arith) (λ a b. omega arith) ∙ g .called j h;
+      reads = λ j h. o .others (readsAt + j) (λ a b. omega arith) (λ a b. omega arith) ∙ g .reads j h;
     }
 
     row-is : (v : Attrs) → MachineFits s p c (P.programView s p c) v → (k : ℕ) → k < c .classes
-        → listed (v .count k) (λ a. kindFrom (getD w (5120 + (k * 64 + a)) 0) (getD w (9216 + (k * 64 + a)) 0)) ≡ kindsAt w (5120 + 64 * k) (9216 + 64 * k) (ivarsOf p k)
+        → listed (v .count k) (λ a. kindFrom (getD w (ivarKindsAt + (k * ivarsMost + a)) 0) (getD w (ivarBitsAt + (k * ivarsMost + a)) 0))
+        ≡ kindsAt w (ivarKindsAt + ivarsMost * k) (ivarBitsAt + ivarsMost * k) (ivarsOf p k)
     row-is v f k h =
-        ap (λ (n : ℕ). listed n (λ a. kindFrom (getD w (5120 + (k * 64 + a)) 0) (getD w (9216 + (k * 64 + a)) 0))) (attrs-at v f k h)
-        ∙ listed-same (ivarsOf p k) (λ a. kindAt w (5120 + 64 * k + a) (9216 + 64 * k + a)) (λ a. kindFrom (getD w (5120 + (k * 64 + a)) 0) (getD w (9216 + (k * 64 + a)) 0))
-        (λ a l. let x : 5120 + (k * 64 + a) ≡ 5120 + 64 * k + a = omega arith in let y : 9216 + (k * 64 + a) ≡ 9216 + 64 * k + a = omega arith in ap₂ (λ (i j : ℕ). kindFrom (getD w i 0) (getD w j 0)) x y)
-        ∙ sym (kinds-listed w (5120 + 64 * k) (9216 + 64 * k) (ivarsOf p k))
+        ap (λ (n : ℕ). listed n (λ a. kindFrom (getD w (ivarKindsAt + (k * ivarsMost + a)) 0) (getD w (ivarBitsAt + (k * ivarsMost + a)) 0))) (attrs-at v f k h)
+        ∙ listed-same (ivarsOf p k) (λ a. kindAt w (ivarKindsAt + ivarsMost * k + a) (ivarBitsAt + ivarsMost * k + a))
+        (λ a. kindFrom (getD w (ivarKindsAt + (k * ivarsMost + a)) 0) (getD w (ivarBitsAt + (k * ivarsMost + a)) 0))
+        (λ a l. let x : ivarKindsAt + (k * ivarsMost + a) ≡ ivarKindsAt + ivarsMost * k + a = omega arith in
+        let y : ivarBitsAt + (k * ivarsMost + a) ≡ ivarBitsAt + ivarsMost * k + a = omega arith in
+        ap₂ (λ (i j : ℕ). kindFrom (getD w i 0) (getD w j 0)) x y)
+        ∙ sym (kinds-listed w (ivarKindsAt + ivarsMost * k) (ivarBitsAt + ivarsMost * k) (ivarsOf p k))
 
-    ivars-are : (v : Attrs) → MachineFits s p c (P.programView s p c) v → Mem.ivarsOf z v w ≡ allKindsAt p c 5120 9216 w
+    ivars-are : (v : Attrs) → MachineFits s p c (P.programView s p c) v → Mem.ivarsOf z v w ≡ allKindsAt p c ivarKindsAt ivarBitsAt w
     unfolding Mem.ivarsOf
     ivars-are v f =
-        ap (λ (n : ℕ). listed n (λ k. listed (v .count k) (λ a. kindFrom (getD w (5120 + (k * 64 + a)) 0) (getD w (9216 + (k * 64 + a)) 0)))) (e .classes)
-        ∙ listed-same (c .classes) (λ k. kindsAt w (5120 + 64 * k) (9216 + 64 * k) (ivarsOf p k))
-        (λ k. listed (v .count k) (λ a. kindFrom (getD w (5120 + (k * 64 + a)) 0) (getD w (9216 + (k * 64 + a)) 0)))
+        ap (λ (n : ℕ). listed n (λ k. listed (v .count k) (λ a. kindFrom (getD w (ivarKindsAt + (k * ivarsMost + a)) 0) (getD w (ivarBitsAt + (k * ivarsMost + a)) 0)))) (e .classes)
+        ∙ listed-same (c .classes) (λ k. kindsAt w (ivarKindsAt + ivarsMost * k) (ivarBitsAt + ivarsMost * k) (ivarsOf p k))
+        (λ k. listed (v .count k) (λ a. kindFrom (getD w (ivarKindsAt + (k * ivarsMost + a)) 0) (getD w (ivarBitsAt + (k * ivarsMost + a)) 0)))
         (λ k h. row-is v f k h)
 
-    pub filled-view : (L : Limits) (v : Attrs) → MachineFits s p c (P.programView s p c) v → stateView z v w noEntries ≡ blank L (P.programView s p c) (allKindsAt p c 5120 9216 w)
+    pub filled-view : (L : Limits) (v : Attrs) → MachineFits s p c (P.programView s p c) v → stateView z v w noEntries ≡ blank L (P.programView s p c) (allKindsAt p c ivarKindsAt ivarBitsAt w)
     filled-view L v f = blank-view z w cleared-still L (P.programView s p c) v sizes-of ∙ ap (blank L (P.programView s p c)) (ivars-are v f)

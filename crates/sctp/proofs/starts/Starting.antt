@@ -33,6 +33,8 @@ use Rattle.machine.proofs.blocks.Indexed.{has-code, code-is}
 use Rattle.constructors.specs.firsts.Firsts.{Entries, FirstsOnly, outcome, allKindsAt, FirstsAre}
 use Rattle.constructors.proofs.firsts.Promise.{entries-of}
 use Rattle.machine.specs.Analysed.{Suited, Indexed, MachineFits}
+use Rattle.memory.specs.Layout.{blocksRoom}
+use Rattle.state.specs.Layout.{ivarKindsAt, ivarBitsAt}
 use Rattle.sctp.specs.starts.Starts.{Mains, BegunIf, Started}
 use Rattle.sctp.proofs.starts.Filled.{held-at, filled-view}
 
@@ -70,7 +72,7 @@ module _ {s p : List ℕ} {c : Counts} {x : List ℕ} {z : Sizes} (a : Indexed s
   pub entries-inside : Entries p c
   entries-inside = entries-of s p c (a .suited .finished)
 
-  few : z .blocks ≤ 1024
+  few : z .blocks ≤ blocksRoom
   few = omega (arith, a .sized .blocks, a .ready .blocks)
 
   pub code-held : HasCode z x
@@ -79,7 +81,7 @@ module _ {s p : List ℕ} {c : Counts} {x : List ℕ} {z : Sizes} (a : Indexed s
   pub main-live : {b : ℕ} → Mains s p c b → b < z .blocks
   main-live g = omega (arith, g .inside, a .sized .blocks)
 
-  pub filled-ready : {m w : List ℕ} {e : ℕ} {q : Regs} → StateCleared z m → FirstsAre s p c 5120 9216 m w e → q ≡ noEntries → StateReady z w q
+  pub filled-ready : {m w : List ℕ} {e : ℕ} {q : Regs} → StateCleared z m → FirstsAre s p c ivarKindsAt ivarBitsAt m w e → q ≡ noEntries → StateReady z w q
   filled-ready {m} {w} g f h = rw h (blank-ready z w (held-at s p c z (a .sized) w (a .ready) (f .only .len-same ∙ g .held .len)))
 
   -- ---- the ways
@@ -88,7 +90,8 @@ module _ {s p : List ℕ} {c : Counts} {x : List ℕ} {z : Sizes} (a : Indexed s
     some-functions : (c .functions ≡ 0 → ⊥) → eqb (length (P.programView s p c .functions)) 0 ≡ false
     some-functions h = let l = functions-length s p (c .functions) in ne-eqb (length (P.programView s p c .functions)) 0 (λ q. h (sym l ∙ q))
 
-    all-classes : {m w : List ℕ} {e : ℕ} → FirstsAre s p c 5120 9216 m w e → firstKindsFrom L (P.programView s p c) 0 (length (P.programView s p c .classes)) ≡ outcome e (allKindsAt p c 5120 9216 w)
+    all-classes : {m w : List ℕ} {e : ℕ} → FirstsAre s p c ivarKindsAt ivarBitsAt m w e
+        → firstKindsFrom L (P.programView s p c) 0 (length (P.programView s p c .classes)) ≡ outcome e (allKindsAt p c ivarKindsAt ivarBitsAt w)
     all-classes f = ap (firstKindsFrom L (P.programView s p c) 0) (classes-length s p (c .classes)) ∙ sym (f .is L)
 
   pub start-none : {m : List ℕ} → c .functions ≡ 0 → Started s p c z m (Refused 12)
@@ -97,15 +100,16 @@ module _ {s p : List ℕ} {c : Counts} {x : List ℕ} {z : Sizes} (a : Indexed s
     ok = tt;
   }
 
-  pub start-refused : {m w : List ℕ} {e : ℕ} → (c .functions ≡ 0 → ⊥) → FirstsAre s p c 5120 9216 m w e → (e ≡ 0 → ⊥) → Started s p c z w (Refused e)
+  pub start-refused : {m w : List ℕ} {e : ℕ} → (c .functions ≡ 0 → ⊥) → FirstsAre s p c ivarKindsAt ivarBitsAt m w e → (e ≡ 0 → ⊥) → Started s p c z w (Refused e)
   start-refused {m} {w} {e} h f k = record {
     is = λ L S v _.
         sym (start-by L (P.programView s p c) false (refused e) (some-functions L h)
-        (all-classes L f ∙ ap (λ (b : 𝔹). cond b (answered (allKindsAt p c 5120 9216 w)) (refused e)) (ne-eqb e 0 k)));
+        (all-classes L f ∙ ap (λ (b : 𝔹). cond b (answered (allKindsAt p c ivarKindsAt ivarBitsAt w)) (refused e)) (ne-eqb e 0 k)));
     ok = tt;
   }
 
-  pub start-live : {m w : List ℕ} {e b : ℕ} {q : Regs} {w' : List ℕ} {r : Acted} → StateCleared z m → (c .functions ≡ 0 → ⊥) → FirstsAre s p c 5120 9216 m w e → e ≡ 0 → Mains s p c b → q ≡ noEntries
+  pub start-live : {m w : List ℕ} {e b : ℕ} {q : Regs} {w' : List ℕ} {r : Acted} → StateCleared z m → (c .functions ≡ 0 → ⊥)
+      → FirstsAre s p c ivarKindsAt ivarBitsAt m w e → e ≡ 0 → Mains s p c b → q ≡ noEntries
       → StateDid z (CodeIs z x) (λ L P. goLive L P b) w q w' r → Started s p c z w' r
   start-live {m} {w} {e} {b} {q} {w'} {r} g h f k i j d =
       let d' = rw j at d in
@@ -113,6 +117,7 @@ module _ {s p : List ℕ} {c : Counts} {x : List ℕ} {z : Sizes} (a : Indexed s
         is = λ L S v t.
             ap (stateOf L (P.programView s p c)) (d' .is L (S .room .worklist) (P.programView s p c) v (code-is z p c x (a .index) (a .sized .insns) few s v)
             ∙ ap₂ (λ (y : ℕ) (st : State). goLive L (P.programView s p c) y st) (i .is) (filled-view s p c z (a .sized) (a .ready) m w g (f .only) L v t))
-            ∙ sym (start-by L (P.programView s p c) false (answered (allKindsAt p c 5120 9216 w)) (some-functions L h) (all-classes L f ∙ ap (λ (y : ℕ). outcome y (allKindsAt p c 5120 9216 w)) k));
+            ∙ sym (start-by L (P.programView s p c) false (answered (allKindsAt p c ivarKindsAt ivarBitsAt w)) (some-functions L h)
+            (all-classes L f ∙ ap (λ (y : ℕ). outcome y (allKindsAt p c ivarKindsAt ivarBitsAt w)) k));
         ok = begun z w' r (d' .ok);
       }

@@ -15,6 +15,7 @@ use Rattle.state.specs.declared.Acted.{Acted}
 use Rattle.state.specs.declared.Acted.the-variants.{On, Refused}
 use Rattle.state.specs.View.{Attrs, calledOf, stateView, StateReady}
 use Rattle.state.specs.Changes.{went, Added, StateDid, Every}
+use Rattle.memory.specs.Layout.{worklistMost}
 use Rattle.sends.specs.calls.Calls.{CallIs}
 
 -- the rest of a new call
@@ -50,7 +51,7 @@ module _ (z : Sizes) (m : List ℕ) (q : Regs) (i f e n k : ℕ) {w : List ℕ} 
   }
 
   module _ (h : b ≡ true) {w' : List ℕ} {x : Acted} (d : StateDid z Every (λ L p. pushBlock L p e) w q w' x) where
-    rest : (L : Limits) → L .worklist ≡ 16384 → (p : Program) (v : Attrs) → CallIs i f e n k p v → asks n k (went z v w' x) ≡ addCall L p i f (stateView z v m q)
+    rest : (L : Limits) → L .worklist ≡ worklistMost → (p : Program) (v : Attrs) → CallIs i f e n k p v → asks n k (went z v w' x) ≡ addCall L p i f (stateView z v m q)
     rest L room p v g =
         let s = stateView z v m q in
         let u : stateView z v w q ≡ addCaller f i s = a .put .is v q ∙ ap (λ (y : 𝔹). cond y s (addCaller f i s)) (wasn't h) in

@@ -27,8 +27,16 @@ count-params-requires c κs =
 add-call-requires : tie.Need-add-call-requires
 add-call-requires c κs =
     let at-read-fun = c .before .before .before in
-    let start = at-read-fun .before .before .before .before .before .before .before in
-    (start .pre .0, ((fun-below (start .pre .1 .0) (start .pre .1 .1) (at-read-fun .read-fun .ensures), caller-below (start .pre .1 .0) (start .pre .1 .1) (at-read-fun .read-fun .ensures)), entry-below (start .pre .1 .0) (start .pre .1 .1) (at-read-fun .read-fun .ensures)))
+    let start = at-read-fun .before .before .before .before .before .before .before in (
+      start .pre .0,
+      (
+        (
+          fun-below (start .pre .1 .0) (start .pre .1 .1) (at-read-fun .read-fun .ensures),
+          caller-below (start .pre .1 .0) (start .pre .1 .1) (at-read-fun .read-fun .ensures),
+        ),
+        entry-below (start .pre .1 .0) (start .pre .1 .1) (at-read-fun .read-fun .ensures),
+      ),
+    )
 
 same-length-2 : tie.Need-same-length-2
 same-length-2 c = search needs

@@ -12,7 +12,7 @@ use Rattle.rules.specs.Program.{Limits, about, opOf, entry, parameters}
 use Rattle.rules.specs.Finished.{Finished}
 use Rattle.program.specs.declared.Counts.{Counts}
 use Rattle.program.specs.declared.Row.{Row}
-use Rattle.program.specs.Rows.{opndOf, opndsAt, opndsIn, listedIn}
+use Rattle.program.specs.Rows.{opndOf, opndsIn, listedIn}
 use Rattle.program.specs.View.{programView, ProgramReady, ReadsInsn}
 use Rattle.program.proofs.Areas.{given-length}
 use Rattle.program.proofs.Committing.{listed-is}
@@ -22,6 +22,8 @@ use Rattle.state.specs.View.{Attrs}
 use Rattle.chains.specs.Chains.{ChainIs, Index}
 use Rattle.flows.specs.Tally.{FitsAt}
 use Rattle.flows.proofs.Sounds.{listed-fits}
+use Rattle.memory.specs.Layout.{blocksRoom}
+use Rattle.program.specs.Layout.{opndsAt}
 use Rattle.sends.specs.passing.Passing.{HasParams, Caller, PassIn}
 
 module _ (L : Limits) (s m : List ℕ) (c : Counts) (z : Sizes) (i : ℕ) where
@@ -37,7 +39,7 @@ module _ (L : Limits) (s m : List ℕ) (c : Counts) (z : Sizes) (i : ℕ) where
   }
 
 module _ (s m : List ℕ) (c : Counts) (z : Sizes) (x : List ℕ) (f e : ℕ) (g : Index m c x) (r : ProgramReady m c) (same : z .insns ≡ c .insns) (below : f < c .functions)
-    (entered : entry (programView s m c) f ≡ e) (few : e < 1024) where
+    (entered : entry (programView s m c) f ≡ e) (few : e < blocksRoom) where
   params-held : ChainIs x (z .insns) 1 e (parameters (programView s m c) f)
   params-held =
       subst (λ (n : ℕ). ChainIs x n 1 e (parameters (programView s m c) f)) (sym same)

@@ -43,6 +43,9 @@ use Rattle.flows.specs.declared.AsSet.the-variants.{Set}
 use Rattle.flows.specs.Flows.{Argues, asSet}
 use Rattle.flows.proofs.Callers.{fits-inside}
 use Rattle.machine.proofs.blocks.Walk.{From, Walking, walk-ready, walk-falls, walk-word, walk-more, walk-stop, walk-done}
+use Rattle.memory.specs.Layout.{instructionsMost}
+use Rattle.program.specs.Layout.{insnsAt, insnWords}
+use Rattle.chains.specs.Layout.{paramsAt, paramLinksAt}
 use Rattle.sends.specs.passing.Passing.{passTo, HasParams, Caller, ParamPlaced, ArgumentPasses, Widens, Keeps, CallIn, PassIn, PassIdle}
 
 -- ---- one Param
@@ -69,16 +72,16 @@ place-none s (suc (suc (suc (suc (suc (suc (suc (suc (suc (suc (suc (suc (suc ze
 place-none s (suc (suc (suc (suc (suc (suc (suc (suc (suc (suc (suc (suc (suc (suc n)))))))))))))) x y l h = refl
 
 module _ (m : List ℕ) (c : Counts) (j : ℕ) (r : ProgramReady m c) (below : j < c .insns) where
-  pub placed-param : getD m (0 + 6 * j) 0 ≡ 10 → ParamPlaced m c j (getD m (0 + 6 * j + 2) 0)
+  pub placed-param : getD m (insnsAt + insnWords * j) 0 ≡ 10 → ParamPlaced m c j (getD m (insnsAt + insnWords * j + 2) 0)
   placed-param e = record {
-    is = λ L s. ap (λ (y : P.Instruction). placeIn (y .op)) (insn-read j r below (op-10 (getD m (0 + 6 * j + 2) 0) (getD m (0 + 6 * j + 3) 0) e) .is s);
+    is = λ L s. ap (λ (y : P.Instruction). placeIn (y .op)) (insn-read j r below (op-10 (getD m (insnsAt + insnWords * j + 2) 0) (getD m (insnsAt + insnWords * j + 3) 0) e) .is s);
   }
 
-  pub placed-none : (getD m (0 + 6 * j) 0 ≡ 10 → ⊥) → ParamPlaced m c j 0
+  pub placed-none : (getD m (insnsAt + insnWords * j) 0 ≡ 10 → ⊥) → ParamPlaced m c j 0
   placed-none h = record {
     is = λ L s.
         ap (λ (y : P.Instruction). placeIn (y .op)) (insn-read j r below refl .is s)
-        ∙ place-none s (getD m (0 + 6 * j) 0) (getD m (0 + 6 * j + 2) 0) (getD m (0 + 6 * j + 3) 0) _ h;
+        ∙ place-none s (getD m (insnsAt + insnWords * j) 0) (getD m (insnsAt + insnWords * j + 2) 0) (getD m (insnsAt + insnWords * j + 3) 0) _ h;
   }
 
 pub argument-inside : {m : List ℕ} {c : Counts} {z : Sizes} {i : ℕ} (n : ℕ) {o : Opnd} → Caller m c z i → Argues m c i n o → OperandInside z o
@@ -194,26 +197,26 @@ module _ (s x t y : ℕ) where
   covers-same e h4 h5 h = rw (← e, ← h) (union-idem (kindFrom s x) (no-name-from s x h4 h5))
 
 -- the head's word fits
-pub params-word : {n : ℕ} {x : List ℕ} {e : ℕ} → HasParams n x e → FitsId x (3072 + e)
+pub params-word : {n : ℕ} {x : List ℕ} {e : ℕ} → HasParams n x e → FitsId x (paramsAt + e)
 params-word {n} {x} {e} u =
     let k = u .few in
-    let r : getD x (3072 + e) 0 ≤ n = chained-high self (at x 4096) n 0 (getD x (3072 + e) 0) (u .list) (u .held) in
+    let r : getD x (paramsAt + e) 0 ≤ n = chained-high self (at x paramLinksAt) n 0 (getD x (paramsAt + e) 0) (u .list) (u .held) in
     omega arith
 
 -- ---- pass_arguments at its loop's head
 
 module _ {m : List ℕ} {c : Counts} {z : Sizes} {x : List ℕ} {h : ℕ} {m₀ : List ℕ} {q₀ : Regs} {w : List ℕ} {q : Regs} {i j : ℕ}
-    (g : Walking z x 4096 (λ L p. passTo L p i) (CallIn m c i) h m₀ q₀ w q j) (e : ℕ) (eh : h ≡ getD x (3072 + e) 0) where
-  from-head : (l : List ℕ) → ChainIs x (z .insns) 1 e l → From (z .insns) x 4096 h l
+    (g : Walking z x paramLinksAt (λ L p. passTo L p i) (CallIn m c i) h m₀ q₀ w q j) (e : ℕ) (eh : h ≡ getD x (paramsAt + e) 0) where
+  from-head : (l : List ℕ) → ChainIs x (z .insns) 1 e l → From (z .insns) x paramLinksAt h l
   from-head l d = rw eh d
 
-  held : (f : ℕ) (p : Program) (v : Attrs) → PassIn m c z x i f e p v → CallIn m c i p v × From (z .insns) x 4096 h (parameters p f)
+  held : (f : ℕ) (p : Program) (v : Attrs) → PassIn m c z x i f e p v → CallIn m c i p v × From (z .insns) x paramLinksAt h (parameters p f)
   held f p v u = (u .call, from-head (parameters p f) (u .params))
 
-  pub params-fall : {k : ℕ} → HasParams (z .insns) x e → j < z .insns → k ≡ getD x (4096 + j) 0 → z .insns - k < z .insns - j
+  pub params-fall : {k : ℕ} → HasParams (z .insns) x e → j < z .insns → k ≡ getD x (paramLinksAt + j) 0 → z .insns - k < z .insns - j
   params-fall u lt ek = walk-falls g (u .list) (from-head (u .list) (u .held)) lt ek
 
-  pub params-next : HasParams (z .insns) x e → j < z .insns → FitsId x (4096 + j)
+  pub params-next : HasParams (z .insns) x e → j < z .insns → FitsId x (paramLinksAt + j)
   params-next u lt = walk-word g (u .list) (from-head (u .list) (u .held)) lt
 
   pub params-stop : {w' : List ℕ} {r : Acted} {n : ℕ} → j < z .insns → StateDid z (CallIn m c i) (λ L p. passTo L p i j) w q w' r → r ≡ Refused n
@@ -227,22 +230,22 @@ module _ {m : List ℕ} {c : Counts} {z : Sizes} {x : List ℕ} {h : ℕ} {m₀ 
 
 -- one Param further: it was passed its argument, or kept
 module _ {m : List ℕ} {c : Counts} {z : Sizes} {x : List ℕ} {h : ℕ} {m₀ : List ℕ} {q₀ : Regs} {w : List ℕ} {q : Regs} {i j : ℕ}
-    (g : Walking z x 4096 (λ L p. passTo L p i) (CallIn m c i) h m₀ q₀ w q j) (lt : j < z .insns) where
+    (g : Walking z x paramLinksAt (λ L p. passTo L p i) (CallIn m c i) h m₀ q₀ w q j) (lt : j < z .insns) where
   pub param-passed : {w' : List ℕ} {r : Acted} {q' : Regs} {n : ℕ} {w₁ : List ℕ} {q₁ : Regs} → length w' ≡ length w → StateDid z (CallIn m c i) (λ L p. passTo L p i j) w q w' r → r ≡ On q'
-      → n ≡ getD x (4096 + j) 0 → w₁ ≡ w' → q₁ ≡ q' → Walking z x 4096 (λ L p. passTo L p i) (CallIn m c i) h m₀ q₀ w₁ q₁ n
+      → n ≡ getD x (paramLinksAt + j) 0 → w₁ ≡ w' → q₁ ≡ q' → Walking z x paramLinksAt (λ L p. passTo L p i) (CallIn m c i) h m₀ q₀ w₁ q₁ n
   param-passed len d er en ew eq = rw (ew, eq) (walk-more g lt len d er en)
 
   pub param-kept : {n : ℕ} {w₁ : List ℕ} {q₁ : Regs} → Keeps m c z w i j
-      → n ≡ getD x (4096 + j) 0 → w₁ ≡ w → q₁ ≡ q → Walking z x 4096 (λ L p. passTo L p i) (CallIn m c i) h m₀ q₀ w₁ q₁ n
+      → n ≡ getD x (paramLinksAt + j) 0 → w₁ ≡ w → q₁ ≡ q → Walking z x paramLinksAt (λ L p. passTo L p i) (CallIn m c i) h m₀ q₀ w₁ q₁ n
   param-kept k en ew eq = param-passed refl (kept-on (walk-ready g) k) refl en ew eq
 
 -- ---- surely_keeps_all at its loop's head: the same walk from whatever registers, and none of them changes
 
 abbrev pub Keeping : List ℕ → Counts → Sizes → List ℕ → ℕ → List ℕ → ℕ → ℕ → Type 0
-Keeping m c z x h w i j = (q : Regs) → StateReady z w q → Walking z x 4096 (λ L p. passTo L p i) (CallIn m c i) h w q w q j
+Keeping m c z x h w i j = (q : Regs) → StateReady z w q → Walking z x paramLinksAt (λ L p. passTo L p i) (CallIn m c i) h w q w q j
 
 module _ {m : List ℕ} {c : Counts} {z : Sizes} {x : List ℕ} {h : ℕ} {w : List ℕ} {i j : ℕ} (g : Keeping m c z x h w i j) where
-  pub keeping-walk : StateHeld z w → Walking z x 4096 (λ L p. passTo L p i) (CallIn m c i) h w noEntries w noEntries j
+  pub keeping-walk : StateHeld z w → Walking z x paramLinksAt (λ L p. passTo L p i) (CallIn m c i) h w noEntries w noEntries j
   keeping-walk held = g noEntries (record {
     held = held;
     insnHead = omega arith;
@@ -253,14 +256,14 @@ module _ {m : List ℕ} {c : Counts} {z : Sizes} {x : List ℕ} {h : ℕ} {w : L
     blocksBelow = λ k lt. absurd (omega arith);
   })
 
-  pub keeping-more : {b : 𝔹} {n : ℕ} → j < z .insns → (b ≡ true → Keeps m c z w i j) → not b ≡ false → n ≡ getD x (4096 + j) 0 → Keeping m c z x h w i n
+  pub keeping-more : {b : 𝔹} {n : ℕ} → j < z .insns → (b ≡ true → Keeps m c z w i j) → not b ≡ false → n ≡ getD x (paramLinksAt + j) 0 → Keeping m c z x h w i n
   keeping-more {b} lt f t en q r = param-kept (g q r) lt (f (sure b t)) en refl refl
     where
       sure : (b : 𝔹) → not b ≡ false → b ≡ true
       sure true e = refl
       sure false e = sym e
 
-  pub keeping-done : (e : ℕ) → h ≡ getD x (3072 + e) 0 → z .insns ≤ j → (f : ℕ) → PassIdle z (PassIn m c z x i f e) (λ L p. passArguments L p i f) w
+  pub keeping-done : (e : ℕ) → h ≡ getD x (paramsAt + e) 0 → z .insns ≤ j → (f : ℕ) → PassIdle z (PassIn m c z x i f e) (λ L p. passArguments L p i f) w
   keeping-done e eh le f = record { is = λ q r. params-done (g q r) e eh le f }
 
 pub no-truth : {A : Type 0} → false ≡ true → A
@@ -270,49 +273,49 @@ no-truth e = let z : _≡_ {A = ℕ} 0 1 = cc in absurd (omega arith)
 
 pub record Rest (N : ℕ) (x l : List ℕ) (n j : ℕ) : Type 0 where
   pub list : List ℕ
-  pub chained : ChainsChained self (at x 4096) N n j list
+  pub chained : ChainsChained self (at x paramLinksAt) N n j list
   pub same : length list + n ≡ length l
 
 -- h is where the chain starts
 pub record Counting (N : ℕ) (x : List ℕ) (h n j : ℕ) : Type 0 where
   pub few : n ≤ N
-  pub left : (l : List ℕ) → From N x 4096 h l → Rest N x l n j
+  pub left : (l : List ℕ) → From N x paramLinksAt h l → Rest N x l n j
 
 pub count-start : (N : ℕ) (x : List ℕ) (h : ℕ) → Counting N x h 0 h
 count-start N x h = record { few = omega arith; left = λ l d. record { list = l; chained = d; same = omega arith } }
 
-module _ {N : ℕ} {x : List ℕ} {e : ℕ} (u : HasParams N x e) {h n j : ℕ} (g : Counting N x h n j) (eh : h ≡ getD x (3072 + e) 0) where
-  chain-from : (l : List ℕ) → ChainIs x (N) 1 e l → From N x 4096 h l
+module _ {N : ℕ} {x : List ℕ} {e : ℕ} (u : HasParams N x e) {h n j : ℕ} (g : Counting N x h n j) (eh : h ≡ getD x (paramsAt + e) 0) where
+  chain-from : (l : List ℕ) → ChainIs x (N) 1 e l → From N x paramLinksAt h l
   chain-from l d = rw eh d
 
-  here : (l : List ℕ) (d : From N x 4096 h l) → j < N → Starts self (at x 4096) N j (g .left l d .list)
-  here l d lt = chained-some self (at x 4096) N n j (g .left l d .list) (g .left l d .chained) lt
+  here : (l : List ℕ) (d : From N x paramLinksAt h l) → j < N → Starts self (at x paramLinksAt) N j (g .left l d .list)
+  here l d lt = chained-some self (at x paramLinksAt) N n j (g .left l d .list) (g .left l d .chained) lt
 
   counted : n ≤ j
   counted =
       let r = g .left (u .list) (chain-from (u .list) (u .held)) in
-      chained-low self (at x 4096) N n j (r .list) (r .chained) (g .few)
+      chained-low self (at x paramLinksAt) N n j (r .list) (r .chained) (g .few)
 
   pub count-fits : j < N → Fits w64 (n + 1)
   count-fits lt = let a = counted in let b = u .few in record { fits = omega arith }
 
-  pub count-below : j < N → j < 2048
+  pub count-below : j < N → j < instructionsMost
   count-below lt = let b = u .few in omega arith
 
-  pub count-next : j < N → FitsId x (4096 + j)
+  pub count-next : j < N → FitsId x (paramLinksAt + j)
   count-next lt =
       let a = g .left (u .list) (chain-from (u .list) (u .held)) in
       let b = u .few in
-      let r : getD x (4096 + j) 0 ≤ N = chained-next self (at x 4096) N n j (a .list) (a .chained) lt in
+      let r : getD x (paramLinksAt + j) 0 ≤ N = chained-next self (at x paramLinksAt) N n j (a .list) (a .chained) lt in
       omega arith
 
-  pub count-falls : {k : ℕ} → j < N → k ≡ getD x (4096 + j) 0 → N - k < N - j
+  pub count-falls : {k : ℕ} → j < N → k ≡ getD x (paramLinksAt + j) 0 → N - k < N - j
   count-falls {k} lt ek =
       let s = here (u .list) (chain-from (u .list) (u .held)) lt in
-      let r : suc j ≤ getD x (4096 + j) 0 = chained-low self (at x 4096) N (suc j) (getD x (4096 + j) 0) (s .rest) (s .onward) (omega arith) in
+      let r : suc j ≤ getD x (paramLinksAt + j) 0 = chained-low self (at x paramLinksAt) N (suc j) (getD x (paramLinksAt + j) 0) (s .rest) (s .onward) (omega arith) in
       omega arith
 
-  pub count-more : {k : ℕ} → j < N → k ≡ getD x (4096 + j) 0 → Counting N x h (n + 1) k
+  pub count-more : {k : ℕ} → j < N → k ≡ getD x (paramLinksAt + j) 0 → Counting N x h (n + 1) k
   count-more {k} lt ek = record {
     few = let a = counted in omega arith;
     left = λ l d.
@@ -320,7 +323,7 @@ module _ {N : ℕ} {x : List ℕ} {e : ℕ} (u : HasParams N x e) {h n j : ℕ} 
         let r = g .left l d in
         record {
           list = s .rest;
-          chained = rw ek (chained-below self (at x 4096) N (suc j) (n + 1) (getD x (4096 + j) 0) (s .rest) (let a = counted in omega arith) (s .onward));
+          chained = rw ek (chained-below self (at x paramLinksAt) N (suc j) (n + 1) (getD x (paramLinksAt + j) 0) (s .rest) (let a = counted in omega arith) (s .onward));
           same = let a : length (r .list) ≡ suc (length (s .rest)) = ap length (s .is) in let b = r .same in omega arith;
         };
   }
@@ -328,6 +331,6 @@ module _ {N : ℕ} {x : List ℕ} {e : ℕ} (u : HasParams N x e) {h n j : ℕ} 
   pub count-done : N ≤ j → (l : List ℕ) → ChainIs x (N) 1 e l → length l ≡ n
   count-done le l d =
       let r = g .left l (chain-from l d) in
-      let a : length (r .list) ≡ 0 = ap length (chained-none self (at x 4096) N n j (r .list) (r .chained) le) in
+      let a : length (r .list) ≡ 0 = ap length (chained-none self (at x paramLinksAt) N n j (r .list) (r .chained) le) in
       let b = r .same in
       omega arith

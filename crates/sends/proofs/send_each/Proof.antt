@@ -16,8 +16,13 @@ abbrev μ-loop : tie.MeasureT-loop
 
 loop-holds : tie.Need-loop-holds Inv-loop μ-loop
 loop-holds c =
-    let start = c .before .before .before .before in
-    (going-start (start .args .sizes) (CallsIn (start .args .script .now) (start .args .program .now) (start .args .counts) (start .args .i .0) (start .args .args)) (λ L p. sendTo L p (start .args .i .0) (nameIn (start .args .script .now) (start .args .n))) (start .args .set) (start .args .state .now) (start .args .regs) (start .pre .0), walking-any (start .fits .set .fits))
+    let start = c .before .before .before .before in (
+      going-start (start .args .sizes)
+          (CallsIn (start .args .script .now) (start .args .program .now) (start .args .counts) (start .args .i .0) (start .args .args))
+          (λ L p. sendTo L p (start .args .i .0) (nameIn (start .args .script .now) (start .args .n))) (start .args .set)
+          (start .args .state .now) (start .args .regs) (start .pre .0),
+      walking-any (start .fits .set .fits),
+    )
 
 smallest-requires : tie.Need-smallest-requires Inv-loop μ-loop
 smallest-requires c κs = search needs
@@ -38,16 +43,28 @@ settled-requires c κs =
     let at-f = c .before .before in
     let at-method-named = at-f .before .before in
     let at-loop = at-method-named .before .before .before .before .before in
-    let start = at-loop .before .before .before .before .before in
-    (at-loop .loop .inv .0 .after .ready .held, (start .pre .1, method-below (start .args .script .now) (start .args .program .now) (start .args .counts) _ _ (at-method-named .method-named .ensures) (at-f .f .given .1)))
+    let start = at-loop .before .before .before .before .before in (
+      at-loop .loop .inv .0 .after .ready .held,
+      (
+        start .pre .1,
+        method-below (start .args .script .now) (start .args .program .now) (start .args .counts) _ _ (at-method-named .method-named .ensures)
+            (at-f .f .given .1),
+      ),
+    )
 
 call-to-requires : tie.Need-call-to-requires Inv-loop μ-loop
 call-to-requires c κs =
     let at-f = c .before .before .before .before .before in
     let at-method-named = at-f .before .before in
     let at-loop = at-method-named .before .before .before .before .before in
-    let start = at-loop .before .before .before .before .before in
-    (at-loop .loop .inv .0 .after .ready, (start .pre .1, method-below (start .args .script .now) (start .args .program .now) (start .args .counts) _ _ (at-method-named .method-named .ensures) (at-f .f .given .1)))
+    let start = at-loop .before .before .before .before .before in (
+      at-loop .loop .inv .0 .after .ready,
+      (
+        start .pre .1,
+        method-below (start .args .script .now) (start .args .program .now) (start .args .counts) _ _ (at-method-named .method-named .ensures)
+            (at-f .f .given .1),
+      ),
+    )
 
 enum-known-next : tie.Need-enum-known-next Inv-loop μ-loop
 enum-known-next c = search needs
@@ -93,8 +110,16 @@ loop-again c =
     let at-k = at-method-named .before .before in
     let at-smallest = at-k .before .before in
     let at-loop = at-smallest .before in
-    let start = at-loop .before .before .before .before .before in
-    (going-more (start .args .sizes) (CallsIn (start .args .script .now) (start .args .program .now) (start .args .counts) (start .args .i .0) (start .args .args)) (λ L p. sendTo L p (start .args .i .0) (nameIn (start .args .script .now) (start .args .n))) (at-loop .loop .inv .0) (step (at-loop .loop .inv .1) (at-smallest .smallest .ensures) (at-k .k .given .1)) (at-call-to .call-to .kept .1 .1 .1 .0) (one-found (start .args .script .now) (start .args .program .now) (start .args .counts) _ _ (at-method-named .method-named .ensures) (at-f .f .given .1) (at-call-to .call-to .ensures)) (at-next .next .given .1), walk-on (step (at-loop .loop .inv .1) (at-smallest .smallest .ensures) (at-k .k .given .1)) (at-loop .loop .inv .1))
+    let start = at-loop .before .before .before .before .before in (
+      going-more (start .args .sizes)
+          (CallsIn (start .args .script .now) (start .args .program .now) (start .args .counts) (start .args .i .0) (start .args .args))
+          (λ L p. sendTo L p (start .args .i .0) (nameIn (start .args .script .now) (start .args .n))) (at-loop .loop .inv .0)
+          (step (at-loop .loop .inv .1) (at-smallest .smallest .ensures) (at-k .k .given .1)) (at-call-to .call-to .kept .1 .1 .1 .0)
+          (one-found (start .args .script .now) (start .args .program .now) (start .args .counts) _ _ (at-method-named .method-named .ensures)
+          (at-f .f .given .1) (at-call-to .call-to .ensures))
+          (at-next .next .given .1),
+      walk-on (step (at-loop .loop .inv .1) (at-smallest .smallest .ensures) (at-k .k .given .1)) (at-loop .loop .inv .1),
+    )
 
 loop-less-2 : tie.Need-loop-less-2 Inv-loop μ-loop
 loop-less-2 c =
@@ -111,8 +136,17 @@ loop-again-2 c =
     let at-k = at-method-named .before .before in
     let at-smallest = at-k .before .before in
     let at-loop = at-smallest .before in
-    let start = at-loop .before .before .before .before .before in
-    (going-more (start .args .sizes) (CallsIn (start .args .script .now) (start .args .program .now) (start .args .counts) (start .args .i .0) (start .args .args)) (λ L p. sendTo L p (start .args .i .0) (nameIn (start .args .script .now) (start .args .n))) (at-loop .loop .inv .0) (step (at-loop .loop .inv .1) (at-smallest .smallest .ensures) (at-k .k .given .1)) refl (one-found (start .args .script .now) (start .args .program .now) (start .args .counts) _ _ (at-method-named .method-named .ensures) (at-f .f .given .1) (λ s. at-settled .settled .ensures (not-false _ (c .if1 .left)) s (start .args .args) .is (at-loop .loop .at) (at-loop .loop .inv .0 .after .ready))) refl, walk-on (step (at-loop .loop .inv .1) (at-smallest .smallest .ensures) (at-k .k .given .1)) (at-loop .loop .inv .1))
+    let start = at-loop .before .before .before .before .before in (
+      going-more (start .args .sizes)
+          (CallsIn (start .args .script .now) (start .args .program .now) (start .args .counts) (start .args .i .0) (start .args .args))
+          (λ L p. sendTo L p (start .args .i .0) (nameIn (start .args .script .now) (start .args .n))) (at-loop .loop .inv .0)
+          (step (at-loop .loop .inv .1) (at-smallest .smallest .ensures) (at-k .k .given .1)) refl
+          (one-found (start .args .script .now) (start .args .program .now) (start .args .counts) _ _ (at-method-named .method-named .ensures)
+          (at-f .f .given .1) (λ s. at-settled .settled .ensures (not-false _ (c .if1 .left)) s (start .args .args) .is (at-loop .loop .at)
+          (at-loop .loop .inv .0 .after .ready)))
+          refl,
+      walk-on (step (at-loop .loop .inv .1) (at-smallest .smallest .ensures) (at-k .k .given .1)) (at-loop .loop .inv .1),
+    )
 
 enum-told : tie.Need-enum-told Inv-loop μ-loop
 enum-told c = search needs
@@ -130,7 +164,8 @@ returns-2 c =
     going-stop (start .args .sizes) (CallsIn (start .args .script .now) (start .args .program .now) (start .args .counts) (start .args .i .0) (start .args .args))
     (λ L p. sendTo L p (start .args .i .0) (nameIn (start .args .script .now) (start .args .n))) (at-loop .loop .inv .0)
     (step (at-loop .loop .inv .1) (at-smallest .smallest .ensures) (at-k .k .given .1))
-    (one-none (start .args .script .now) (start .args .program .now) (start .args .counts) _ _ (at-method-named .method-named .ensures) (start .args .sizes) (start .args .i .0) (start .args .args) (at-loop .loop .state) (at-loop .loop .at) (c .enum-told .given .1))
+    (one-none (start .args .script .now) (start .args .program .now) (start .args .counts) _ _ (at-method-named .method-named .ensures)
+    (start .args .sizes) (start .args .i .0) (start .args .args) (at-loop .loop .state) (at-loop .loop .at) (c .enum-told .given .1))
     refl
 
 enum-told-2 : tie.Need-enum-told-2 Inv-loop μ-loop

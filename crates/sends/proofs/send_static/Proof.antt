@@ -28,8 +28,11 @@ pass-requires : tie.Need-pass-requires
 pass-requires c κs =
     let at-next = c .before .before .before .before in
     let at-enter-call = at-next .before .before .before .before in
-    let start = at-enter-call .before .before .before .before .before .before in
-    (next-ready (start .args .program .now) (start .args .counts) (start .args .i .0) (start .args .args) (start .args .f .0) (at-enter-call .enter-call .ensures) (at-next .next .given .1), (start .pre .1 .0, start .pre .1 .1))
+    let start = at-enter-call .before .before .before .before .before .before in (
+      next-ready (start .args .program .now) (start .args .counts) (start .args .i .0) (start .args .args) (start .args .f .0)
+          (at-enter-call .enter-call .ensures) (at-next .next .given .1),
+      (start .pre .1 .0, start .pre .1 .1),
+    )
 
 enum-known-e : tie.Need-enum-known-e
 enum-known-e c = search needs

@@ -22,7 +22,8 @@ returns c =
     let at-if1 = at-read-fun .before in
     let at-has-called = at-if1 .before in
     let start = at-has-called .before .before .before .before in
-    λ e. call-idle (start .args .i .0) (start .args .f .0) (start .pre .1 .0) (start .pre .1 .1) (at-read-fun .read-fun .ensures) (at-has-called .has-called .ensures) (at-if1 .if1 .taken) (c .surely-keeps-all .ensures e)
+    λ e. call-idle (start .args .i .0) (start .args .f .0) (start .pre .1 .0) (start .pre .1 .1) (at-read-fun .read-fun .ensures)
+    (at-has-called .has-called .ensures) (at-if1 .if1 .taken) (c .surely-keeps-all .ensures e)
 
 returns-2 : tie.Need-returns-2
 returns-2 c = λ e. no-truth e

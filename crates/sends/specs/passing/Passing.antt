@@ -23,8 +23,10 @@ use Rattle.state.specs.View.{Attrs, kindsOf}
 use Rattle.state.specs.View.{StateReady}
 use Rattle.state.specs.Changes.{StateDid}
 use Rattle.machine.specs.opnds.Reads.{kindIn}
-use Rattle.chains.specs.Chains.{size, ChainIs}
+use Rattle.chains.specs.Chains.{ChainIs}
 use Rattle.flows.specs.Tally.{FitsAt}
+use Rattle.memory.specs.Layout.{instructionsMost, blocksRoom}
+use Rattle.chains.specs.Layout.{chainsSize}
 use Rattle.sends.specs.declared.passing.Covers.{Covers}
 use Rattle.sends.specs.declared.passing.Covers.the-variants.{Yes, No, Unknown}
 
@@ -36,9 +38,9 @@ passTo L p i x = do
 
 -- there is a chain of Params for entry block e, in a program of n instructions
 pub record HasParams (n : ℕ) (x : List ℕ) (e : ℕ) : Type 0 where
-  pub long : size ≤ length x
-  pub below : e < 1024
-  pub few : n ≤ 2048
+  pub long : chainsSize ≤ length x
+  pub below : e < blocksRoom
+  pub few : n ≤ instructionsMost
   pub list : List ℕ
   pub held : ChainIs x n 1 e list
 

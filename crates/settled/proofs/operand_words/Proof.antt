@@ -22,8 +22,10 @@ opnd-words-requires : tie.Need-opnd-words-requires
 opnd-words-requires c κs =
     let start = c .before .before .before .before .before in
     let insn = start .args .insn in
-    let j = start .args .j in
-    (word-inside insn j (start .pre .0) (start .pre .1 .0) (omega arith), (start .pre .1 .1 .0, stands-inside insn j (start .pre .0) (start .pre .1 .0) (start .args .sizes) (start .pre .1 .1 .1 (omega arith))))
+    let j = start .args .j in (
+      word-inside insn j (start .pre .0) (start .pre .1 .0) (omega arith),
+      (start .pre .1 .1 .0, stands-inside insn j (start .pre .0) (start .pre .1 .0) (start .args .sizes) (start .pre .1 .1 .1 (omega arith))),
+    )
 
 returns : tie.Need-returns
 returns c =
@@ -31,7 +33,9 @@ returns c =
     operand-kind (start .args .insn) (start .args .j) (start .pre .0) (start .pre .1 .0) (kindsOf (start .args .sizes) (start .args .state .now)) (omega arith) (c .opnd-words .ensures)
 
 returns-2 : tie.Need-returns-2
-returns-2 c = let start = c .before .before .before .before in operand-nil (start .args .insn) (start .args .j) (start .pre .0) (start .pre .1 .0) (kindsOf (start .args .sizes) (start .args .state .now)) (c .if1 .left)
+returns-2 c = let start = c .before .before .before .before in
+    operand-nil (start .args .insn) (start .args .j) (start .pre .0) (start .pre .1 .0) (kindsOf (start .args .sizes) (start .args .state .now))
+    (c .if1 .left)
 
 pub operand-words-spec : {M : Type 1} → statement M
 operand-words-spec =

@@ -21,8 +21,14 @@ enum-known-a c = search needs
 ivar-words-requires : tie.Need-ivar-words-requires
 ivar-words-requires c κs =
     let found = c .before .before .before in
-    let start = found .before .before .before .before .before .before in
-    (start .pre .0, (start .pre .1 .1 .0, at-low (start .args .script .now) (start .args .program .now) (start .args .counts) (start .args .x .0) (start .args .n) (found .ivar-named .ensures) (start .pre .1 .0) (start .pre .1 .1 .0) (c .before .a .given .1)))
+    let start = found .before .before .before .before .before .before in (
+      start .pre .0,
+      (
+        start .pre .1 .1 .0,
+        at-low (start .args .script .now) (start .args .program .now) (start .args .counts) (start .args .x .0) (start .args .n)
+            (found .ivar-named .ensures) (start .pre .1 .0) (start .pre .1 .1 .0) (c .before .a .given .1),
+      ),
+    )
 
 covers-requires : tie.Need-covers-requires
 covers-requires c κs = search needs

@@ -30,7 +30,8 @@ mul-t17 : tie.Need-mul-t17
 mul-t17 c = search needs
 
 shared-slice-read-t19 : tie.Need-shared-slice-read-t19
-shared-slice-read-t19 c = let start = c .before .before .before .before .before .before in omega (arith, long-tables (start .args .state .now) (start .pre .1 .0), start .pre .1 .0 .insns, start .pre .1 .1)
+shared-slice-read-t19 c = let start = c .before .before .before .before .before .before in
+    omega (arith, long-tables (start .args .state .now) (start .pre .1 .0), start .pre .1 .0 .insns, start .pre .1 .1)
 
 covers-requires : tie.Need-covers-requires
 covers-requires c κs = search needs

@@ -27,7 +27,8 @@ mul-state : tie.Need-mul-state Inv-loop μ-loop
 mul-state c = let start = c .before .before .before .before .before .before .before in omega (arith, start .pre .1 .1 .insns)
 
 slice-write-state : tie.Need-slice-write-state Inv-loop μ-loop
-slice-write-state c = let start = c .before .before .before .before .before .before .before in omega (arith, start .pre .1 .0, start .pre .1 .1 .insns, c .before .before .before .before .loop .inv .long)
+slice-write-state c = let start = c .before .before .before .before .before .before .before in
+    omega (arith, start .pre .1 .0, start .pre .1 .1 .insns, c .before .before .before .before .loop .inv .long)
 
 add-j : tie.Need-add-j Inv-loop μ-loop
 add-j c = let start = c .before .before .before .before .before .before .before in omega (arith, start .pre .1 .1 .insns)

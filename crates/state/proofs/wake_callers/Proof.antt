@@ -21,8 +21,13 @@ enum-known-i : tie.Need-enum-known-i Inv-loop μ-loop
 enum-known-i c = search needs
 
 wake-if-wider-requires : tie.Need-wake-if-wider-requires Inv-loop μ-loop
-wake-if-wider-requires c κs =
-    (search needs, call-below (c .before .before .before .before .before .before .loop .inv) (c .before .before .before .before .next-caller .ensures) (c .before .before .i .given .0 .0) (c .before .before .i .given .1))
+wake-if-wider-requires c κs = (
+  search needs,
+  let at-i = c .before .before in
+      let at-next-caller = at-i .before .before in
+      let at-loop = at-next-caller .before .before in
+      call-below (at-loop .loop .inv) (at-next-caller .next-caller .ensures) (at-i .i .given .0 .0) (at-i .i .given .1),
+)
 
 enum-known-next : tie.Need-enum-known-next Inv-loop μ-loop
 enum-known-next c = search needs

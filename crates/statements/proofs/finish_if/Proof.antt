@@ -19,8 +19,19 @@ join-vars-requires : tie.Need-join-vars-requires
 join-vars-requires c κs =
     let at-c1 = c .before .before .before in
     let at-add-end = at-c1 .before .before .before .before in
-    let start = at-add-end .before .before .before .before .before .before .before .before in
-    (bare-in _ _ (start .pre .0) (start .pre .1 .1) (at-add-end .add-end .ensures) (at-c1 .c1 .given .1), (start .pre .1 .0, (bare-inside _ _ (start .pre .0) (start .pre .1 .1) (at-add-end .add-end .ensures) (at-c1 .c1 .given .1), (bare-join _ _ (start .pre .0) (start .pre .1 .1) (at-add-end .add-end .ensures) (at-c1 .c1 .given .1), bare-sorted _ _ (start .pre .0) (start .pre .1 .1) (at-add-end .add-end .ensures) (at-c1 .c1 .given .1)))))
+    let start = at-add-end .before .before .before .before .before .before .before .before in (
+      bare-in _ _ (start .pre .0) (start .pre .1 .1) (at-add-end .add-end .ensures) (at-c1 .c1 .given .1),
+      (
+        start .pre .1 .0,
+        (
+          bare-inside _ _ (start .pre .0) (start .pre .1 .1) (at-add-end .add-end .ensures) (at-c1 .c1 .given .1),
+          (
+            bare-join _ _ (start .pre .0) (start .pre .1 .1) (at-add-end .add-end .ensures) (at-c1 .c1 .given .1),
+            bare-sorted _ _ (start .pre .0) (start .pre .1 .1) (at-add-end .add-end .ensures) (at-c1 .c1 .given .1),
+          ),
+        ),
+      ),
+    )
 
 enum-known-c2 : tie.Need-enum-known-c2
 enum-known-c2 c = search needs

@@ -14,8 +14,20 @@ sub-join-arms : tie.Need-sub-join-arms
 sub-join-arms c = search needs
 
 join-arms-requires : tie.Need-join-arms-requires
-join-arms-requires c κs =
-    (c .before .before .before .before .before .before .before .pre .0 .ready .tables, (c .before .before .before .before .before .before .before .pre .1 .0, (c .before .before .before .before .before .before .before .pre .1 .1 .1 .0, (omega (arith, c .before .before .before .before .before .before .before .pre .0 .ready .scratch), (joins-fit (c .before .before .before .before .before .before .before .pre .0) (c .before .before .before .before .before .before .before .pre .1 .1 .0), c .before .before .before .before .before .before .before .pre .1 .1 .1 .1)))))
+join-arms-requires c κs = (
+  c .before .before .before .before .before .before .before .pre .0 .ready .tables,
+  (
+    c .before .before .before .before .before .before .before .pre .1 .0,
+    (
+      c .before .before .before .before .before .before .before .pre .1 .1 .1 .0,
+      (
+        omega (arith, c .before .before .before .before .before .before .before .pre .0 .ready .scratch),
+        let start = c .before .before .before .before .before .before .before in
+            (joins-fit (start .pre .0) (start .pre .1 .1 .0), start .pre .1 .1 .1 .1),
+      ),
+    ),
+  ),
+)
 
 enum-known-n : tie.Need-enum-known-n
 enum-known-n c = search needs

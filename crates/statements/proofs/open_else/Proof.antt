@@ -22,8 +22,10 @@ add-end-requires : tie.Need-add-end-requires
 add-end-requires c κs =
     let at-c1 = c .before .before .before .before in
     let at-new-block = at-c1 .before .before .before .before in
-    let start = at-new-block .before .before .before .before .before in
-    (open-in _ _ (start .pre .0) (start .pre .1 .1) (at-new-block .new-block .ensures) (at-c1 .c1 .given .1) .ready .tables, (start .pre .1 .0, open-before _ _ (start .pre .0) (start .pre .1 .1) (at-new-block .new-block .ensures) (at-c1 .c1 .given .1)))
+    let start = at-new-block .before .before .before .before .before in (
+      open-in _ _ (start .pre .0) (start .pre .1 .1) (at-new-block .new-block .ensures) (at-c1 .c1 .given .1) .ready .tables,
+      (start .pre .1 .0, open-before _ _ (start .pre .0) (start .pre .1 .1) (at-new-block .new-block .ensures) (at-c1 .c1 .given .1)),
+    )
 
 enum-known-c2 : tie.Need-enum-known-c2
 enum-known-c2 c = search needs
@@ -48,8 +50,19 @@ set-aside-requires c κs =
 
 add-with-vars : tie.Need-add-with-vars
 add-with-vars c =
-    omega
-    (arith, open-part _ _ (c .before .before .before .before .before .before .before .before .before .before .before .before .before .before .before .before .before .before .before .before .before .before .before .before .pre .0) (c .before .before .before .before .before .before .before .before .before .before .before .before .before .before .before .before .before .before .before .before .before .before .before .before .pre .1 .1) (c .before .before .before .before .before .before .before .before .before .before .before .before .before .before .before .before .before .before .before .new-block .ensures) (c .before .before .before .before .before .before .before .before .before .before .before .before .before .before .before .c1 .given .1) (c .before .before .before .before .before .before .before .before .before .before .add-end .ensures) (c .before .before .before .before .before .before .c2 .given .1) .1 .1, c .before .before .set-aside .ensures .less)
+    omega (
+      arith,
+      open-part _ _
+          (c .before .before .before .before .before .before .before .before .before .before .before .before .before .before .before .before
+          .before .before .before .before .before .before .before .before .pre .0)
+          (c .before .before .before .before .before .before .before .before .before .before .before .before .before .before .before .before
+          .before .before .before .before .before .before .before .before .pre .1 .1)
+          (c .before .before .before .before .before .before .before .before .before .before .before .before .before .before .before .before .before .before .before .new-block .ensures)
+          (c .before .before .before .before .before .before .before .before .before .before .before .before .before .before .before .c1 .given .1)
+          (c .before .before .before .before .before .before .before .before .before .before .add-end .ensures)
+          (c .before .before .before .before .before .before .c2 .given .1) .1 .1,
+      c .before .before .set-aside .ensures .less,
+    )
 
 with-vars-requires : tie.Need-with-vars-requires
 with-vars-requires c κs = search needs
@@ -84,7 +97,10 @@ returns c =
     let at-new-block = at-c1 .before .before .before .before in
     let start = at-new-block .before .before .before .before .before in
     open-yes _ _ (start .pre .0) (start .pre .1 .1) (at-new-block .new-block .ensures) (at-c1 .c1 .given .1) (at-add-end .add-end .ensures) (at-c2 .c2 .given .1) (at-set-aside .set-aside .ensures)
-    (placed2 (open-in2 _ _ (start .pre .0) (start .pre .1 .1) (at-new-block .new-block .ensures) (at-c1 .c1 .given .1) (at-add-end .add-end .ensures) (at-c2 .c2 .given .1)) (c .at-block .ensures) (at-with-vars .with-vars .ensures))
+    (placed2
+    (open-in2 _ _ (start .pre .0) (start .pre .1 .1) (at-new-block .new-block .ensures) (at-c1 .c1 .given .1) (at-add-end .add-end .ensures)
+    (at-c2 .c2 .given .1))
+    (c .at-block .ensures) (at-with-vars .with-vars .ensures))
 
 same-length-3 : tie.Need-same-length-3
 same-length-3 c =

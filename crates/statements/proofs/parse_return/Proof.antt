@@ -1,4 +1,4 @@
-use Rattle.statements.proofs.Paths.{return-no, return-in, return-no2, return-yes}
+use Rattle.statements.proofs.Paths.{return-no, expr-in, return-no2, return-yes}
 use borrow.Author.Needs.{needs}
 use Rattle.statements.proofs.parse_return.Statement.{statement}
 use Rattle.statements.proofs.parse_return.Tie as tie
@@ -18,7 +18,7 @@ add-end-requires c κs =
     let at-c1 = c .before .before .before in
     let at-parse-expr = at-c1 .before .before .before .before .before .before in
     let start = at-parse-expr .before .before .before .before .before .before in
-    (return-in _ _ _ (at-parse-expr .parse-expr .ensures) (at-c1 .c1 .given .1) .ready .tables, (start .pre .1, return-in _ _ _ (at-parse-expr .parse-expr .ensures) (at-c1 .c1 .given .1) .block))
+    (expr-in _ _ _ (at-parse-expr .parse-expr .ensures) (at-c1 .c1 .given .1) .ready .tables, (start .pre .1, expr-in _ _ _ (at-parse-expr .parse-expr .ensures) (at-c1 .c1 .given .1) .block))
 
 enum-known-c2 : tie.Need-enum-known-c2
 enum-known-c2 c = search needs

@@ -38,7 +38,9 @@ returns : tie.Need-returns Inv-loop μ-loop
 returns c = search reading-stop
 
 add-done : tie.Need-add-done Inv-loop μ-loop
-add-done c = let k = c .before .before .before .before .before .before .before .before .before .loop in let h : k .done + c .before .before .n .given .0 .0 ≤ length (k .buffer) = search reading-room in omega (arith, h)
+add-done c = let k = c .before .before .before .before .before .before .before .before .before .loop in
+    let h : k .done + c .before .before .n .given .0 .0 ≤ length (k .buffer) = search reading-room in
+    omega (arith, h)
 
 loop-less : tie.Need-loop-less Inv-loop μ-loop
 loop-less c = search needs

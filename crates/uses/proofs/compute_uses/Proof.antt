@@ -8,12 +8,13 @@ use Rattle.uses.proofs.compute_uses.Tie as tie
 use Rattle.uses.proofs.compute_uses.Reads as reads
 use Rattle.uses.proofs.compute_uses.Lts as lts
 use Rattle.uses.proofs.link_all.Reads as link-all-reads
+use Rattle.memory.specs.Layout.{usesMost}
 
 abbrev Inv-loop2 : tie.InvT-loop2
 Inv-loop2 m w u₀ starts users n pos₀ j h₀ u pos h = Copying m n starts users w u₀ u j pos h
 
 abbrev μ-loop2 : tie.MeasureT-loop2
-μ-loop2 m w u₀ starts users n pos₀ j h₀ u pos h = 12288 - h
+μ-loop2 m w u₀ starts users n pos₀ j h₀ u pos h = usesMost - h
 
 abbrev Inv-loop : tie.InvT-loop
 Inv-loop m w u₀ starts users n pos₀ j₀ u pos j = Laying m n starts users u₀ u pos j
@@ -61,19 +62,30 @@ slice-read-x c = omega (arith, c .before .before .before .before .before .before
 
 add-u-2 : tie.Need-add-u-2 Inv-loop2 μ-loop2 Inv-loop μ-loop
 add-u-2 c =
-    omega
-    (arith, copy-room (c .before .before .before .before .before .before .before .before .before .before .before .before .before .pre .0) _ _ (c .before .before .before .before .before .before .before .before .before .before .before .before .before .pre .1 .1 .0) (c .before .before .loop2 .inv) (omega arith))
+    omega (
+      arith,
+      copy-room (c .before .before .before .before .before .before .before .before .before .before .before .before .before .pre .0) _ _
+          (c .before .before .before .before .before .before .before .before .before .before .before .before .before .pre .1 .1 .0)
+          (c .before .before .loop2 .inv) (omega arith),
+    )
 
 mul-u-2 : tie.Need-mul-u-2 Inv-loop2 μ-loop2 Inv-loop μ-loop
 mul-u-2 c =
-    omega
-    (arith, copy-room (c .before .before .before .before .before .before .before .before .before .before .before .before .before .pre .0) _ _ (c .before .before .before .before .before .before .before .before .before .before .before .before .before .pre .1 .1 .0) (c .before .before .loop2 .inv) (omega arith))
+    omega (
+      arith,
+      copy-room (c .before .before .before .before .before .before .before .before .before .before .before .before .before .pre .0) _ _
+          (c .before .before .before .before .before .before .before .before .before .before .before .before .before .pre .1 .1 .0)
+          (c .before .before .loop2 .inv) (omega arith),
+    )
 
 slice-write-u-2 : tie.Need-slice-write-u-2 Inv-loop2 μ-loop2 Inv-loop μ-loop
 slice-write-u-2 c =
     copy-inside (c .before .before .before .before .before .before .before .before .before .before .before .before .before .pre .0) _ _
     (c .before .before .before .before .before .before .before .before .before .before .before .before .before .pre .1 .1 .0) (c .before .before .loop2 .inv) (omega arith)
-    (on-room (c .before .before .before .before .before .before .before .before .before .before .before .before .before .pre .0) _ _ _ (c .before .before .before .before .before .before .before .before .before .before .before .before .before .pre .1 .1 .0) (c .before .before .before .before .before .before .before .before .before .before .before .before .before .pre .1 .1 .1) (c .before .before .before .before .before .loop .inv))
+    (on-room (c .before .before .before .before .before .before .before .before .before .before .before .before .before .pre .0) _ _ _
+    (c .before .before .before .before .before .before .before .before .before .before .before .before .before .pre .1 .1 .0)
+    (c .before .before .before .before .before .before .before .before .before .before .before .before .before .pre .1 .1 .1)
+    (c .before .before .before .before .before .loop .inv))
 
 add-h : tie.Need-add-h Inv-loop2 μ-loop2 Inv-loop μ-loop
 add-h c = search needs
@@ -86,19 +98,30 @@ slice-read-h-2 c = omega (arith, c .before .before .before .before .before .befo
 
 add-pos : tie.Need-add-pos Inv-loop2 μ-loop2 Inv-loop μ-loop
 add-pos c =
-    omega
-    (arith, copy-room (c .before .before .before .before .before .before .before .before .before .before .before .before .before .before .pre .0) _ _ (c .before .before .before .before .before .before .before .before .before .before .before .before .before .before .pre .1 .1 .0) (c .before .before .before .loop2 .inv) (omega arith))
+    omega (
+      arith,
+      copy-room (c .before .before .before .before .before .before .before .before .before .before .before .before .before .before .pre .0) _ _
+          (c .before .before .before .before .before .before .before .before .before .before .before .before .before .before .pre .1 .1 .0)
+          (c .before .before .before .loop2 .inv) (omega arith),
+    )
 
 loop2-less : tie.Need-loop2-less Inv-loop2 μ-loop2 Inv-loop μ-loop
 loop2-less c =
-    omega
-    (arith, copy-rises (c .before .before .before .before .before .before .before .before .before .before .before .before .before .before .pre .0) _ _ (c .before .before .before .before .before .before .before .before .before .before .before .before .before .before .pre .1 .1 .0) (c .before .before .before .loop2 .inv) (omega arith))
+    omega (
+      arith,
+      copy-rises (c .before .before .before .before .before .before .before .before .before .before .before .before .before .before .pre .0) _ _
+          (c .before .before .before .before .before .before .before .before .before .before .before .before .before .before .pre .1 .1 .0)
+          (c .before .before .before .loop2 .inv) (omega arith),
+    )
 
 loop2-again : tie.Need-loop2-again Inv-loop2 μ-loop2 Inv-loop μ-loop
 loop2-again c =
     copy-more (c .before .before .before .before .before .before .before .before .before .before .before .before .before .before .pre .0) _ _
     (c .before .before .before .before .before .before .before .before .before .before .before .before .before .before .pre .1 .1 .0) (c .before .before .before .loop2 .inv) (omega arith)
-    (on-room (c .before .before .before .before .before .before .before .before .before .before .before .before .before .before .pre .0) _ _ _ (c .before .before .before .before .before .before .before .before .before .before .before .before .before .before .pre .1 .1 .0) (c .before .before .before .before .before .before .before .before .before .before .before .before .before .before .pre .1 .1 .1) (c .before .before .before .before .before .before .loop .inv))
+    (on-room (c .before .before .before .before .before .before .before .before .before .before .before .before .before .before .pre .0) _ _ _
+    (c .before .before .before .before .before .before .before .before .before .before .before .before .before .before .pre .1 .1 .0)
+    (c .before .before .before .before .before .before .before .before .before .before .before .before .before .before .pre .1 .1 .1)
+    (c .before .before .before .before .before .before .loop .inv))
 
 add-j : tie.Need-add-j Inv-loop2 μ-loop2 Inv-loop μ-loop
 add-j c = search needs

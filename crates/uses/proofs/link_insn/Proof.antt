@@ -32,13 +32,19 @@ smaller-requires c κs = search needs
 
 mul-at : tie.Need-mul-at Inv-loop μ-loop
 mul-at c =
-    omega
-    (arith, insn-room (c .before .before .before .before .before .before .before .pre .0) (c .before .before .before .before .before .before .before .pre .1 .0) (c .before .before .before .read-insn .ensures .row))
+    omega (
+      arith,
+      insn-room (c .before .before .before .before .before .before .before .pre .0)
+          (c .before .before .before .before .before .before .before .pre .1 .0) (c .before .before .before .read-insn .ensures .row),
+    )
 
 add-at : tie.Need-add-at Inv-loop μ-loop
 add-at c =
-    omega
-    (arith, insn-room (c .before .before .before .before .before .before .before .pre .0) (c .before .before .before .before .before .before .before .pre .1 .0) (c .before .before .before .read-insn .ensures .row))
+    omega (
+      arith,
+      insn-room (c .before .before .before .before .before .before .before .pre .0)
+          (c .before .before .before .before .before .before .before .pre .1 .0) (c .before .before .before .read-insn .ensures .row),
+    )
 
 loop-holds : tie.Need-loop-holds Inv-loop μ-loop
 loop-holds c =
@@ -50,13 +56,21 @@ loop-holds c =
 
 mul-read-opnd : tie.Need-mul-read-opnd Inv-loop μ-loop
 mul-read-opnd c =
-    omega
-    (arith, opnd-room (c .before .loop .inv) (c .before .before .before .before .before .before .before .before .before .pre .0) (c .before .before .before .before .before .before .before .before .before .pre .1 .0) (omega arith), c .before .before .before .before .before .before .before .before .before .pre .0 .len-mem)
+    omega (
+      arith,
+      opnd-room (c .before .loop .inv) (c .before .before .before .before .before .before .before .before .before .pre .0)
+          (c .before .before .before .before .before .before .before .before .before .pre .1 .0) (omega arith),
+      c .before .before .before .before .before .before .before .before .before .pre .0 .len-mem,
+    )
 
 add-read-opnd : tie.Need-add-read-opnd Inv-loop μ-loop
 add-read-opnd c =
-    omega
-    (arith, opnd-room (c .before .loop .inv) (c .before .before .before .before .before .before .before .before .before .pre .0) (c .before .before .before .before .before .before .before .before .before .pre .1 .0) (omega arith), c .before .before .before .before .before .before .before .before .before .pre .0 .len-mem)
+    omega (
+      arith,
+      opnd-room (c .before .loop .inv) (c .before .before .before .before .before .before .before .before .before .pre .0)
+          (c .before .before .before .before .before .before .before .before .before .pre .1 .0) (omega arith),
+      c .before .before .before .before .before .before .before .before .before .pre .0 .len-mem,
+    )
 
 read-opnd-requires : tie.Need-read-opnd-requires Inv-loop μ-loop
 read-opnd-requires c κs =
@@ -82,8 +96,27 @@ cast-k : tie.Need-cast-k Inv-loop μ-loop
 cast-k c = search needs
 
 link-requires : tie.Need-link-requires Inv-loop μ-loop
-link-requires c κs =
-    (c .before .before .before .before .before .before .before .before .loop .inv .len, ((link-room (c .before .before .before .before .before .before .before .before .loop .inv) (omega arith) (c .before .before .before .before .before .before .read-opnd .ensures), c .before .before .before .before .before .before .before .before .loop .inv .few), (omega (arith, c .before .before .before .before .before .before .before .before .before .before .before .before .before .before .before .before .pre .0 .insns, c .before .before .before .before .before .before .before .before .before .before .before .before .before .before .before .before .pre .1 .0), omega (arith, c .before .before .before .before .before .before .before .before .before .before .before .before .before .before .before .before .pre .0 .insns))))
+link-requires c κs = (
+  c .before .before .before .before .before .before .before .before .loop .inv .len,
+  (
+    (
+      link-room (c .before .before .before .before .before .before .before .before .loop .inv) (omega arith)
+          (c .before .before .before .before .before .before .read-opnd .ensures),
+      c .before .before .before .before .before .before .before .before .loop .inv .few,
+    ),
+    (
+      omega (
+        arith,
+        c .before .before .before .before .before .before .before .before .before .before .before .before .before .before .before .before .pre .0 .insns,
+        c .before .before .before .before .before .before .before .before .before .before .before .before .before .before .before .before .pre .1 .0,
+      ),
+      omega (
+        arith,
+        c .before .before .before .before .before .before .before .before .before .before .before .before .before .before .before .before .pre .0 .insns,
+      ),
+    ),
+  ),
+)
 
 loop-less-2 : tie.Need-loop-less-2 Inv-loop μ-loop
 loop-less-2 c = search needs

@@ -16,8 +16,10 @@ call-kind-requires : tie.Need-call-kind-requires
 call-kind-requires c κs =
     let at-w = c .before .before in
     let at-send-static = at-w .before .before .before .before in
-    let start = at-send-static .before .before .before .before .before .before in
-    (did-held (start .pre .0) (at-send-static .send-static .ensures (start .args .script .now)) (at-w .w .given .1), (call-backs (start .pre .0), (start .pre .0 .below, call-room (start .pre .0) (start .pre .1))))
+    let start = at-send-static .before .before .before .before .before .before in (
+      did-held (start .pre .0) (at-send-static .send-static .ensures (start .args .script .now)) (at-w .w .given .1),
+      (call-backs (start .pre .0), (start .pre .0 .below, call-room (start .pre .0) (start .pre .1))),
+    )
 
 with-kind-requires : tie.Need-with-kind-requires
 with-kind-requires c κs = search needs

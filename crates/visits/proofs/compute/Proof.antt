@@ -18,8 +18,11 @@ compute-requires : tie.Need-compute-requires
 compute-requires c κs =
     let at-operand2 = c .before in
     let at-operand = at-operand2 .before in
-    let start = at-operand .before .before .before .before .before in
-    (start .pre .0 .ready .held, compute-needs (start .pre .0) (at-operand .operand .result) (at-operand2 .operand2 .result) (at-operand .operand .ensures) (at-operand2 .operand2 .ensures) (start .pre .1))
+    let start = at-operand .before .before .before .before .before in (
+      start .pre .0 .ready .held,
+      compute-needs (start .pre .0) (at-operand .operand .result) (at-operand2 .operand2 .result) (at-operand .operand .ensures)
+          (at-operand2 .operand2 .ensures) (start .pre .1),
+    )
 
 with-kind-requires : tie.Need-with-kind-requires
 with-kind-requires c κs = search needs

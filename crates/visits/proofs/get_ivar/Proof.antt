@@ -24,8 +24,17 @@ read-ivar-requires c κs =
     let at-w = c .before .before in
     let at-mark-reads = at-w .before .before .before .before in
     let at-operand = at-mark-reads .before .before in
-    let start = at-operand .before .before .before .before .before in
-    (did-held (start .pre .0) (at-mark-reads .mark-reads .ensures) (at-w .w .given .1), (matches (start .pre .0), (get-needs (start .pre .0) (at-operand .operand .result) (start .pre .1) (at-operand .operand .ensures) .0, get-within (start .pre .0) (at-operand .operand .result) (start .pre .1) (at-operand .operand .ensures) (at-mark-reads .mark-reads .ensures) (at-w .w .given .1))))
+    let start = at-operand .before .before .before .before .before in (
+      did-held (start .pre .0) (at-mark-reads .mark-reads .ensures) (at-w .w .given .1),
+      (
+        matches (start .pre .0),
+        (
+          get-needs (start .pre .0) (at-operand .operand .result) (start .pre .1) (at-operand .operand .ensures) .0,
+          get-within (start .pre .0) (at-operand .operand .result) (start .pre .1) (at-operand .operand .ensures)
+              (at-mark-reads .mark-reads .ensures) (at-w .w .given .1),
+        ),
+      ),
+    )
 
 with-kind-requires : tie.Need-with-kind-requires
 with-kind-requires c κs = search needs

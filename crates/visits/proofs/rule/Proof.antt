@@ -207,4 +207,8 @@ returns-12 c =
 pub rule-spec : {M : Type 1} → statement M
 rule-spec =
     tie.close
-    (tie.spec enum-known-op jump-requires enum-known-op-2 branch-requires enum-told give-back-requires enum-known-op-3 call-requires enum-known-op-4 send-requires enum-known-op-5 compute-requires enum-known-op-6 phi-requires enum-known-op-7 param-requires enum-known-op-8 self-param-requires enum-known-op-9 new-requires enum-known-op-10 get-ivar-requires enum-known-op-11 set-ivar-requires same-length returns same-length-2 returns-2 same-length-3 returns-3 same-length-4 returns-4 same-length-5 returns-5 same-length-6 returns-6 same-length-7 returns-7 same-length-8 returns-8 same-length-9 returns-9 same-length-10 returns-10 same-length-11 returns-11 same-length-12 returns-12)
+    (tie.spec enum-known-op jump-requires enum-known-op-2 branch-requires enum-told give-back-requires enum-known-op-3 call-requires enum-known-op-4
+    send-requires enum-known-op-5 compute-requires enum-known-op-6 phi-requires enum-known-op-7 param-requires enum-known-op-8 self-param-requires
+    enum-known-op-9 new-requires enum-known-op-10 get-ivar-requires enum-known-op-11 set-ivar-requires same-length returns same-length-2 returns-2
+    same-length-3 returns-3 same-length-4 returns-4 same-length-5 returns-5 same-length-6 returns-6 same-length-7 returns-7 same-length-8
+    returns-8 same-length-9 returns-9 same-length-10 returns-10 same-length-11 returns-11 same-length-12 returns-12)

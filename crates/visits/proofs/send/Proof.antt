@@ -24,8 +24,21 @@ enum-known-w : tie.Need-enum-known-w
 enum-known-w c = search needs
 
 call-kind-requires : tie.Need-call-kind-requires
-call-kind-requires c κs =
-    (did-held (c .before .before .before .before .before .before .before .before .before .before .before .before .before .before .pre .0) (c .before .before .before .before .before .before .send-dynamic .ensures) (c .before .before .w .given .1), (call-backs (c .before .before .before .before .before .before .before .before .before .before .before .before .before .before .pre .0), (c .before .before .before .before .before .before .before .before .before .before .before .before .before .before .pre .0 .below, omega arith)))
+call-kind-requires c κs = (
+  let at-w = c .before .before in
+      let at-send-dynamic = at-w .before .before .before .before in
+      let start = at-send-dynamic .before .before .before .before .before .before .before .before in
+      did-held (start .pre .0) (at-send-dynamic .send-dynamic .ensures) (at-w .w .given .1),
+  (
+    let start = c .before .before .before .before .before .before .before .before .before .before .before .before .before .before in
+        call-backs (start .pre .0),
+    (
+      let start = c .before .before .before .before .before .before .before .before .before .before .before .before .before .before in
+          start .pre .0 .below,
+      omega arith,
+    ),
+  ),
+)
 
 with-kind-requires : tie.Need-with-kind-requires
 with-kind-requires c κs = search needs

@@ -19,8 +19,14 @@ set-ivar-requires : tie.Need-set-ivar-requires
 set-ivar-requires c κs =
     let at-operand2 = c .before in
     let at-operand = at-operand2 .before in
-    let start = at-operand .before .before .before .before .before in
-    (start .pre .0 .ready, (matches (start .pre .0), set-needs (start .pre .0) (at-operand .operand .result) (at-operand2 .operand2 .result) (at-operand .operand .ensures) (at-operand2 .operand2 .ensures) (start .pre .1)))
+    let start = at-operand .before .before .before .before .before in (
+      start .pre .0 .ready,
+      (
+        matches (start .pre .0),
+        set-needs (start .pre .0) (at-operand .operand .result) (at-operand2 .operand2 .result) (at-operand .operand .ensures)
+            (at-operand2 .operand2 .ensures) (start .pre .1),
+      ),
+    )
 
 nothing-requires : tie.Need-nothing-requires
 nothing-requires c κs = search needs

@@ -1,4 +1,4 @@
--- `firsts::all_first_kinds` meets its contract. Assumes nothing.
+-- `constructors::firsts::all_first_kinds` meets its contract. Assumes nothing.
 use Rattle.constructors.proofs.firsts.Classes.{Classes, classes-start, class-fits, class-more, class-stop, class-done}
 use native.Mathlib.Omega.{arith}
 use Prim.Native.Nat.{_-_}
@@ -24,8 +24,36 @@ cast-t14 c =
     class-fits (at-loop .loop .inv) (start .pre .0) (c .loop-test .taken)
 
 first-kinds-requires : tie.Need-first-kinds-requires Inv-loop μ-loop
-first-kinds-requires c κs =
-    (c .before .before .before .before .before .before .before .before .before .pre .0, (c .before .before .before .before .before .before .before .before .before .pre .1 .0, (c .before .before .before .before .before .before .before .before .before .pre .1 .1 .0, (c .before .before .before .before .before .before .before .before .before .pre .1 .1 .1 .0, ((omega (arith, c .before .before .before .loop .inv .kept, c .before .before .before .before .before .before .before .before .before .pre .1 .1 .1 .1 .0), c .before .before .loop-test .taken), (c .before .before .before .before .before .before .before .before .before .pre .1 .1 .1 .1 .1 .0, omega (arith, c .before .before .before .loop .inv .only .len-same, c .before .before .before .before .before .before .before .before .before .pre .1 .1 .1 .1 .1 .1)))))))
+first-kinds-requires c κs = (
+  c .before .before .before .before .before .before .before .before .before .pre .0,
+  (
+    c .before .before .before .before .before .before .before .before .before .pre .1 .0,
+    (
+      c .before .before .before .before .before .before .before .before .before .pre .1 .1 .0,
+      (
+        c .before .before .before .before .before .before .before .before .before .pre .1 .1 .1 .0,
+        (
+          (
+            omega (
+              arith,
+              c .before .before .before .loop .inv .kept,
+              c .before .before .before .before .before .before .before .before .before .pre .1 .1 .1 .1 .0,
+            ),
+            c .before .before .loop-test .taken,
+          ),
+          (
+            c .before .before .before .before .before .before .before .before .before .pre .1 .1 .1 .1 .1 .0,
+            omega (
+              arith,
+              c .before .before .before .loop .inv .only .len-same,
+              c .before .before .before .before .before .before .before .before .before .pre .1 .1 .1 .1 .1 .1,
+            ),
+          ),
+        ),
+      ),
+    ),
+  ),
+)
 
 same-length : tie.Need-same-length Inv-loop μ-loop
 same-length c = search needs

@@ -47,8 +47,30 @@ enum-told : tie.Need-enum-told
 enum-told c = search needs
 
 put-kinds-requires : tie.Need-put-kinds-requires
-put-kinds-requires c κs =
-    (c .before .before .before .before .before .before .before .before .before .before .before .pre .0 .ivars _ (c .before .before .before .before .before .before .before .before .before .before .before .pre .1 .1 .1 .1 .0 .1), (omega (arith, c .before .before .before .before .before .before .before .before .before .before .before .pre .0 .ivars _ (c .before .before .before .before .before .before .before .before .before .before .before .pre .1 .1 .1 .1 .0 .1), c .before .before .before .before .before .before .before .before .before .before .before .pre .1 .1 .1 .1 .1 .0, c .before .before .before .before .before .before .before .before .before .before .before .pre .1 .1 .1 .1 .1 .1, c .before .before .before .before .before .before .before .before .before .before .before .pre .1 .1 .1 .1 .0 .1, c .before .before .before .before .before .before .before .before .before .before .before .pre .0 .classes), omega (arith, c .before .before .before .before .before .before .before .before .before .before .before .pre .0 .ivars _ (c .before .before .before .before .before .before .before .before .before .before .before .pre .1 .1 .1 .1 .0 .1), c .before .before .before .before .before .before .before .before .before .before .before .pre .1 .1 .1 .1 .1 .0, c .before .before .before .before .before .before .before .before .before .before .before .pre .1 .1 .1 .1 .1 .1, c .before .before .before .before .before .before .before .before .before .before .before .pre .1 .1 .1 .1 .0 .1, c .before .before .before .before .before .before .before .before .before .before .before .pre .0 .classes)))
+put-kinds-requires c κs = (
+  let start = c .before .before .before .before .before .before .before .before .before .before .before in
+      start .pre .0 .ivars _ (start .pre .1 .1 .1 .1 .0 .1),
+  (
+    omega (
+      arith,
+      c .before .before .before .before .before .before .before .before .before .before .before .pre .0 .ivars _
+          (c .before .before .before .before .before .before .before .before .before .before .before .pre .1 .1 .1 .1 .0 .1),
+      c .before .before .before .before .before .before .before .before .before .before .before .pre .1 .1 .1 .1 .1 .0,
+      c .before .before .before .before .before .before .before .before .before .before .before .pre .1 .1 .1 .1 .1 .1,
+      c .before .before .before .before .before .before .before .before .before .before .before .pre .1 .1 .1 .1 .0 .1,
+      c .before .before .before .before .before .before .before .before .before .before .before .pre .0 .classes,
+    ),
+    omega (
+      arith,
+      c .before .before .before .before .before .before .before .before .before .before .before .pre .0 .ivars _
+          (c .before .before .before .before .before .before .before .before .before .before .before .pre .1 .1 .1 .1 .0 .1),
+      c .before .before .before .before .before .before .before .before .before .before .before .pre .1 .1 .1 .1 .1 .0,
+      c .before .before .before .before .before .before .before .before .before .before .before .pre .1 .1 .1 .1 .1 .1,
+      c .before .before .before .before .before .before .before .before .before .before .before .pre .1 .1 .1 .1 .0 .1,
+      c .before .before .before .before .before .before .before .before .before .before .before .pre .0 .classes,
+    ),
+  ),
+)
 
 enum-known-found : tie.Need-enum-known-found
 enum-known-found c = search needs
@@ -65,8 +87,24 @@ analyze-ctor-requires c κs =
     let at-read-fun = c .before .before in
     let at-found = at-read-fun .before .before in
     let at-constructor-of = at-found .before .before in
-    let start = at-constructor-of .before .before .before .before .before .before .before .before in
-    (start .pre .0, (start .pre .1 .0, (start .pre .1 .1 .0, (start .pre .1 .1 .1 .1 .0 .0, (start .pre .1 .1 .1 .1 .0 .1, entry-below (start .pre .1 .1 .1 .0) (ctor-below (at-constructor-of .constructor-of .ensures) (at-found .found .given .1)) (at-read-fun .read-fun .ensures .row))))))
+    let start = at-constructor-of .before .before .before .before .before .before .before .before in (
+      start .pre .0,
+      (
+        start .pre .1 .0,
+        (
+          start .pre .1 .1 .0,
+          (
+            start .pre .1 .1 .1 .1 .0 .0,
+            (
+              start .pre .1 .1 .1 .1 .0 .1,
+              entry-below (start .pre .1 .1 .1 .0)
+                  (ctor-below (at-constructor-of .constructor-of .ensures) (at-found .found .given .1))
+                  (at-read-fun .read-fun .ensures .row),
+            ),
+          ),
+        ),
+      ),
+    )
 
 enum-told-2 : tie.Need-enum-told-2
 enum-told-2 c = search needs
@@ -75,8 +113,45 @@ enum-known-sure : tie.Need-enum-known-sure
 enum-known-sure c = search needs
 
 put-kinds-requires-2 : tie.Need-put-kinds-requires-2
-put-kinds-requires-2 c κs =
-    (c .before .before .before .before .before .before .before .before .before .before .before .before .before .before .before .before .before .before .before .before .before .pre .0 .ivars _ (c .before .before .before .before .before .before .before .before .before .before .before .before .before .before .before .before .before .before .before .before .before .pre .1 .1 .1 .1 .0 .1), (omega (arith, c .before .before .before .before .before .before .before .before .before .before .before .before .before .before .before .before .before .before .before .before .before .pre .0 .ivars _ (c .before .before .before .before .before .before .before .before .before .before .before .before .before .before .before .before .before .before .before .before .before .pre .1 .1 .1 .1 .0 .1), c .before .before .before .before .before .before .before .before .before .before .before .before .before .before .before .before .before .before .before .before .before .pre .1 .1 .1 .1 .1 .0, c .before .before .before .before .before .before .before .before .before .before .before .before .before .before .before .before .before .before .before .before .before .pre .1 .1 .1 .1 .1 .1, c .before .before .before .before .before .before .before .before .before .before .before .before .before .before .before .before .before .before .before .before .before .pre .1 .1 .1 .1 .0 .1, c .before .before .before .before .before .before .before .before .before .before .before .before .before .before .before .before .before .before .before .before .before .pre .0 .classes), omega (arith, c .before .before .before .before .before .before .before .before .before .before .before .before .before .before .before .before .before .before .before .before .before .pre .0 .ivars _ (c .before .before .before .before .before .before .before .before .before .before .before .before .before .before .before .before .before .before .before .before .before .pre .1 .1 .1 .1 .0 .1), c .before .before .before .before .before .before .before .before .before .before .before .before .before .before .before .before .before .before .before .before .before .pre .1 .1 .1 .1 .1 .0, c .before .before .before .before .before .before .before .before .before .before .before .before .before .before .before .before .before .before .before .before .before .pre .1 .1 .1 .1 .1 .1, c .before .before .before .before .before .before .before .before .before .before .before .before .before .before .before .before .before .before .before .before .before .pre .1 .1 .1 .1 .0 .1, c .before .before .before .before .before .before .before .before .before .before .before .before .before .before .before .before .before .before .before .before .before .pre .0 .classes)))
+put-kinds-requires-2 c κs = (
+  let start =
+      c .before .before .before .before .before .before .before .before .before .before .before .before .before .before .before .before .before .before .before .before .before in
+      start .pre .0 .ivars _ (start .pre .1 .1 .1 .1 .0 .1),
+  (
+    omega (
+      arith,
+      c .before .before .before .before .before .before .before .before .before .before .before .before .before .before .before
+          .before .before .before .before .before .before .pre .0 .ivars
+          _
+          (c .before .before .before .before .before .before .before .before .before .before .before .before .before .before .before
+          .before .before .before .before .before .before .pre .1 .1 .1 .1 .0 .1),
+      c .before .before .before .before .before .before .before .before .before .before .before .before .before .before .before
+          .before .before .before .before .before .before .pre .1 .1 .1 .1 .1 .0,
+      c .before .before .before .before .before .before .before .before .before .before .before .before .before .before .before
+          .before .before .before .before .before .before .pre .1 .1 .1 .1 .1 .1,
+      c .before .before .before .before .before .before .before .before .before .before .before .before .before .before .before
+          .before .before .before .before .before .before .pre .1 .1 .1 .1 .0 .1,
+      c .before .before .before .before .before .before .before .before .before .before .before .before .before .before .before
+          .before .before .before .before .before .before .pre .0 .classes,
+    ),
+    omega (
+      arith,
+      c .before .before .before .before .before .before .before .before .before .before .before .before .before .before .before
+          .before .before .before .before .before .before .pre .0 .ivars
+          _
+          (c .before .before .before .before .before .before .before .before .before .before .before .before .before .before .before
+          .before .before .before .before .before .before .pre .1 .1 .1 .1 .0 .1),
+      c .before .before .before .before .before .before .before .before .before .before .before .before .before .before .before
+          .before .before .before .before .before .before .pre .1 .1 .1 .1 .1 .0,
+      c .before .before .before .before .before .before .before .before .before .before .before .before .before .before .before
+          .before .before .before .before .before .before .pre .1 .1 .1 .1 .1 .1,
+      c .before .before .before .before .before .before .before .before .before .before .before .before .before .before .before
+          .before .before .before .before .before .before .pre .1 .1 .1 .1 .0 .1,
+      c .before .before .before .before .before .before .before .before .before .before .before .before .before .before .before
+          .before .before .before .before .before .before .pre .0 .classes,
+    ),
+  ),
+)
 
 same-length : tie.Need-same-length
 same-length c = search needs
@@ -87,7 +162,8 @@ returns c =
     (c .before .before .before .before .before .before .before .before .before .before .before .before .before .before .args .program .now)
     (c .before .before .before .before .before .before .before .before .before .before .before .before .before .before .args .counts) _
     (c .before .before .before .before .before .before .before .before .before .before .before .before .before .before .pre .1 .1 .1 .1 .0 .1)
-    (c .before .before .before .before .before .before .before .before .before .before .before .before .before .before .pre .0 .ivars _ (c .before .before .before .before .before .before .before .before .before .before .before .before .before .before .pre .1 .1 .1 .1 .0 .1))
+    (c .before .before .before .before .before .before .before .before .before .before .before .before .before .before .pre .0 .ivars _
+    (c .before .before .before .before .before .before .before .before .before .before .before .before .before .before .pre .1 .1 .1 .1 .0 .1))
     (c .before .before .before .before .before .before .constructor-of .ensures) (search needs) (c .before .before .put-kinds .ensures)
 
 same-length-2 : tie.Need-same-length-2
@@ -99,10 +175,13 @@ returns-2 c =
     (c .before .before .before .before .before .before .before .before .before .before .before .before .before .before .before .before .before .before .before .args .program .now)
     (c .before .before .before .before .before .before .before .before .before .before .before .before .before .before .before .before .before .before .before .args .counts) _
     (c .before .before .before .before .before .before .before .before .before .before .before .before .before .before .before .before .before .before .before .pre .1 .1 .1 .1 .0 .1)
-    (c .before .before .before .before .before .before .before .before .before .before .before .before .before .before .before .before .before .before .before .pre .0 .ivars _ (c .before .before .before .before .before .before .before .before .before .before .before .before .before .before .before .before .before .before .before .pre .1 .1 .1 .1 .0 .1))
+    (c .before .before .before .before .before .before .before .before .before .before .before .before .before .before .before .before .before .before .before .pre .0 .ivars
+    _
+    (c .before .before .before .before .before .before .before .before .before .before .before .before .before .before .before .before .before .before .before .pre .1 .1 .1 .1 .0 .1))
     (c .before .before .before .before .before .before .before .before .before .before .before .constructor-of .ensures) (c .before .before .before .before .analyze-ctor .result)
     (c .before .before .before .before .before .before .before .before .before .found .given .1)
-    (ctor-below (c .before .before .before .before .before .before .before .before .before .before .before .constructor-of .ensures) (c .before .before .before .before .before .before .before .before .before .found .given .1))
+    (ctor-below (c .before .before .before .before .before .before .before .before .before .before .before .constructor-of .ensures)
+    (c .before .before .before .before .before .before .before .before .before .found .given .1))
     (c .before .before .before .before .before .before .before .read-fun .ensures .row) (c .before .before .before .before .analyze-ctor .ensures) _ _ _ (search needs)
 
 same-length-3 : tie.Need-same-length-3

@@ -1,4 +1,4 @@
--- `terms::assign` meets its contract. Assumes nothing.
+-- `cursor::terms::assign` meets its contract. Assumes nothing.
 use Rattle.cursor.proofs.terms.Terms.{assign-no, assign-yes}
 use borrow.Author.Needs.{needs}
 use Rattle.cursor.proofs.terms.assign.Statement.{statement}

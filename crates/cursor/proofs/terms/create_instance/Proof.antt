@@ -1,4 +1,4 @@
--- `terms::create_instance` meets its contract. Assumes nothing.
+-- `cursor::terms::create_instance` meets its contract. Assumes nothing.
 use mathlib.Core.Path.{_∙_}
 use Rattle.cursor.proofs.terms.Terms.{open-of, new-here, new-args, create-no1, create-bare, create-no2, create-yes}
 use borrow.Author.Needs.{needs}
@@ -33,8 +33,19 @@ push-call-requires : tie.Need-push-call-requires
 push-call-requires c κs =
     let at-c1 = c .before .before .before .before .before .before .before .before in
     let at-push = at-c1 .before .before .before .before in
-    let start = at-push .before .before .before .before .before in
-    (open-of (new-here _ _ _ _ (start .args .cursor) (start .args .k) (start .args .n) (start .pre .0) (at-push .push .ensures) (at-c1 .c1 .given .1)), (start .pre .1 .0, (new-here _ _ _ _ (start .args .cursor) (start .args .k) (start .args .n) (start .pre .0) (at-push .push .ensures) (at-c1 .c1 .given .1) .ready .scratch, new-args _ _ _ _ (start .args .cursor) (start .args .k) (start .args .n) (start .pre .0) (at-push .push .ensures) (at-c1 .c1 .given .1) (start .pre .1 .1))))
+    let start = at-push .before .before .before .before .before in (
+      open-of (new-here _ _ _ _ (start .args .cursor) (start .args .k) (start .args .n) (start .pre .0) (at-push .push .ensures)
+          (at-c1 .c1 .given .1)),
+      (
+        start .pre .1 .0,
+        (
+          new-here _ _ _ _ (start .args .cursor) (start .args .k) (start .args .n) (start .pre .0) (at-push .push .ensures)
+              (at-c1 .c1 .given .1) .ready .scratch,
+          new-args _ _ _ _ (start .args .cursor) (start .args .k) (start .args .n) (start .pre .0) (at-push .push .ensures)
+              (at-c1 .c1 .given .1) (start .pre .1 .1),
+        ),
+      ),
+    )
 
 enum-known-e-2 : tie.Need-enum-known-e-2
 enum-known-e-2 c = search needs

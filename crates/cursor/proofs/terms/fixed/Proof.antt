@@ -1,4 +1,4 @@
--- `terms::fixed` meets its contract. Assumes nothing.
+-- `cursor::terms::fixed` meets its contract. Assumes nothing.
 use Rattle.cursor.proofs.terms.Terms.{fixed-nil, fixed-truth}
 use borrow.Author.Needs.{needs}
 use Rattle.cursor.proofs.terms.fixed.Statement.{statement}

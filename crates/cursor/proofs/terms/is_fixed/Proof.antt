@@ -1,4 +1,4 @@
--- `terms::is_fixed` meets its contract. Assumes nothing.
+-- `cursor::terms::is_fixed` meets its contract. Assumes nothing.
 use Rattle.cursor.proofs.terms.Terms.{fixed-is}
 use borrow.Author.Needs.{needs}
 use Rattle.cursor.proofs.terms.is_fixed.Statement.{statement}

@@ -1,4 +1,4 @@
--- `terms::name_value` meets its contract. Assumes nothing.
+-- `cursor::terms::name_value` meets its contract. Assumes nothing.
 use Rattle.cursor.proofs.terms.Terms.{value-fixed, value-fun, value-class, value-var, value-none, var-room}
 use borrow.Author.Needs.{needs}
 use Rattle.cursor.proofs.terms.name_value.Statement.{statement}

@@ -1,4 +1,4 @@
--- `terms::send` meets its contract. Assumes nothing.
+-- `cursor::terms::send` meets its contract. Assumes nothing.
 use Rattle.cursor.proofs.terms.Terms.{open-of, send-new, send-other, send-dynamic}
 use borrow.Author.Needs.{needs}
 use Rattle.cursor.proofs.terms.send.Statement.{statement}

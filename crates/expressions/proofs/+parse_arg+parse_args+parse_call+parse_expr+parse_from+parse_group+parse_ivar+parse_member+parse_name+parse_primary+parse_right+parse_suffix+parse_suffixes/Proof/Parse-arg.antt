@@ -35,8 +35,13 @@ returns t c =
     arg-close _ _ _ (at-peek .peek .ensures) (at-x .x .given .1) (start .pre .1 .0) (c .if1 .taken)
 
 pub parse-from-requires : (t : ℕ) → lts.Need-parse-from-requires (calls t) (parse-arg-at t) parse-arg.Post
-parse-from-requires t c κs =
-    (omega (arith, c .before .before .before .before .before .before .before .before .before .before .before .pre .0), ((c .before .before .before .before .before .before .before .before .before .before .before .pre .1 .0), ((c .before .before .before .before .before .before .before .before .before .before .before .pre .1 .1 .0), sees-word (c .before .before .before .before .before .before .before .peek .ensures) (c .before .before .before .before .before .x .given .1))))
+parse-from-requires t c κs = (
+  omega (arith, c .before .before .before .before .before .before .before .before .before .before .before .pre .0),
+  let at-x = c .before .before .before .before .before in
+      let at-peek = at-x .before .before in
+      let start = at-peek .before .before .before .before in
+      ((start .pre .1 .0), ((start .pre .1 .1 .0), sees-word (at-peek .peek .ensures) (at-x .x .given .1))),
+)
 
 pub enum-known-e-2 : (t : ℕ) → lts.Need-enum-known-e-2 (calls t) (parse-arg-at t) parse-arg.Post
 enum-known-e-2 t c = search needs

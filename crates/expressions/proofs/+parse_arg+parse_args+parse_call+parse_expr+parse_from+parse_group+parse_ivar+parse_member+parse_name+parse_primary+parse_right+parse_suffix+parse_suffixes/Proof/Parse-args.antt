@@ -29,8 +29,13 @@ loop-holds t c =
     args-start _ _ _ (start .pre .1 .0) (start .pre .1 .1 .1)
 
 pub parse-arg-requires : (t : ℕ) → lts.Need-parse-arg-requires (calls t) (parse-args-at t) parse-args.Post Inv-loop μ-loop
-parse-arg-requires t c κs =
-    (omega (arith, c .before .before .before .before .before .before .pre .0), (c .before .before .loop .inv .here, ((c .before .before .before .before .before .before .pre .1 .1 .0), c .before .before .loop .inv .room)))
+parse-arg-requires t c κs = (
+  omega (arith, c .before .before .before .before .before .before .pre .0),
+  (
+    c .before .before .loop .inv .here,
+    ((c .before .before .before .before .before .before .pre .1 .1 .0), c .before .before .loop .inv .room),
+  ),
+)
 
 pub enum-known-c1 : (t : ℕ) → lts.Need-enum-known-c1 (calls t) (parse-args-at t) parse-args.Post Inv-loop μ-loop
 enum-known-c1 t c = search needs

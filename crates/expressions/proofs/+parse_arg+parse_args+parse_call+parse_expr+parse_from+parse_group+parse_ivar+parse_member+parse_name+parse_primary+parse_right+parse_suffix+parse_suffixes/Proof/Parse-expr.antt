@@ -22,8 +22,13 @@ pub enum-known-x : (t : ℕ) → lts.Need-enum-known-x (calls t) (parse-expr-at 
 enum-known-x t c = search needs
 
 pub parse-from-requires : (t : ℕ) → lts.Need-parse-from-requires (calls t) (parse-expr-at t) parse-expr.Post
-parse-from-requires t c κs =
-    (omega (arith, c .before .before .before .before .before .before .before .before .before .before .pre .0), ((c .before .before .before .before .before .before .before .before .before .before .pre .1 .0), ((c .before .before .before .before .before .before .before .before .before .before .pre .1 .1), sees-word (c .before .before .before .before .before .peek .ensures) (c .before .before .before .x .given .1))))
+parse-from-requires t c κs = (
+  omega (arith, c .before .before .before .before .before .before .before .before .before .before .pre .0),
+  let at-x = c .before .before .before in
+      let at-peek = at-x .before .before in
+      let start = at-peek .before .before .before .before .before in
+      ((start .pre .1 .0), ((start .pre .1 .1), sees-word (at-peek .peek .ensures) (at-x .x .given .1))),
+)
 
 pub enum-known-e : (t : ℕ) → lts.Need-enum-known-e (calls t) (parse-expr-at t) parse-expr.Post
 enum-known-e t c = search needs

@@ -23,15 +23,26 @@ pub sub-d : (t : ℕ) → lts.Need-sub-d (calls t) (parse-from-at t) parse-from.
 sub-d t c = search needs
 
 pub parse-primary-requires : (t : ℕ) → lts.Need-parse-primary-requires (calls t) (parse-from-at t) parse-from.Post
-parse-primary-requires t c κs =
-    (omega (arith, c .before .before .before .before .before .before .pre .0, c .before .before .if1 .taken), ((c .before .before .before .before .before .before .pre .1 .0), ((c .before .before .before .before .before .before .pre .1 .1 .0), (c .before .before .before .before .before .before .pre .1 .1 .1))))
+parse-primary-requires t c κs = (
+  omega (arith, c .before .before .before .before .before .before .pre .0, c .before .before .if1 .taken),
+  let start = c .before .before .before .before .before .before in ((start .pre .1 .0), ((start .pre .1 .1 .0), (start .pre .1 .1 .1))),
+)
 
 pub enum-known-c1 : (t : ℕ) → lts.Need-enum-known-c1 (calls t) (parse-from-at t) parse-from.Post
 enum-known-c1 t c = search needs
 
 pub parse-suffixes-requires : (t : ℕ) → lts.Need-parse-suffixes-requires (calls t) (parse-from-at t) parse-from.Post
-parse-suffixes-requires t c κs =
-    (omega (arith, c .before .before .before .before .before .before .before .before .before .before .before .before .before .before .before .before .pre .0, c .before .before .before .before .before .before .before .before .before .before .before .before .if1 .taken), (got (c .before .before .before .before .before .before .before .before .before .parse-primary .ensures) (ap parsedOf (c .before .before .before .c1 .given .1)) .here, (c .before .before .before .before .before .before .before .before .before .before .before .before .before .before .before .before .pre .1 .1 .0)))
+parse-suffixes-requires t c κs = (
+  omega (
+    arith,
+    c .before .before .before .before .before .before .before .before .before .before .before .before .before .before .before .before .pre .0,
+    c .before .before .before .before .before .before .before .before .before .before .before .before .if1 .taken,
+  ),
+  let at-c1 = c .before .before .before in
+      let at-parse-primary = at-c1 .before .before .before .before .before .before in
+      let start = at-parse-primary .before .before .before .before .before .before .before in
+      (got (at-parse-primary .parse-primary .ensures) (ap parsedOf (at-c1 .c1 .given .1)) .here, (start .pre .1 .1 .0)),
+)
 
 pub enum-known-e : (t : ℕ) → lts.Need-enum-known-e (calls t) (parse-from-at t) parse-from.Post
 enum-known-e t c = search needs

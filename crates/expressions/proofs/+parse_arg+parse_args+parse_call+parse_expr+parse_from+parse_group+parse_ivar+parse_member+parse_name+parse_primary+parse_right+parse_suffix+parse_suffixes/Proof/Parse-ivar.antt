@@ -7,19 +7,30 @@ use mathlib.Core.Path.{ap}
 use Rattle.cursor.specs.Promises.{parsedOf}
 use Rattle.cursor.proofs.Laws.{got}
 use Rattle.cursor.proofs.Wording.{spelt-equals}
-use Rattle.expressions.proofs.Ways.{open-here, ident-went, match-went, ivar-no1, ivar-no2, ivar-no3, ivar-set, ivar-get}
+use Rattle.expressions.proofs.Ways.{ident-went, match-went, ivar-no1, ivar-no2, ivar-no3, ivar-set, ivar-get}
 use Rattle.expressions.proofs.parse_expr.Reads as parse-expr
 use Rattle.expressions.proofs.parse_ivar.Reads as parse-ivar
 use Rattle.cursor.proofs.expect_ident.Reads as expect-ident-reads
 use Rattle.cursor.proofs.get_ivar.Reads as get-ivar-reads
 use Rattle.cursor.proofs.match_token.Reads as match-token-reads
 use Rattle.cursor.proofs.set_ivar.Reads as set-ivar-reads
+use Rattle.cursor.proofs.terms.Terms.{open-of}
 use Rattle.expressions.proofs.+parse_arg+parse_args+parse_call+parse_expr+parse_from+parse_group+parse_ivar+parse_member+parse_name+parse_primary+parse_right+parse_suffix+parse_suffixes.Lts-parse_ivar as lts
 use Rattle.expressions.proofs.+parse_arg+parse_args+parse_call+parse_expr+parse_from+parse_group+parse_ivar+parse_member+parse_name+parse_primary+parse_right+parse_suffix+parse_suffixes.Proof.Measures.{parse-ivar-at, parse-expr-below}
 
 abbrev pub calls : ℕ → lts.Claims
-calls t =
-    (expect-ident-reads.Asked, expect-ident-reads.Learnt, match-token-reads.Asked, match-token-reads.Learnt, parse-expr-below t, parse-expr.Post, set-ivar-reads.Asked, set-ivar-reads.Learnt, get-ivar-reads.Asked, get-ivar-reads.Learnt)
+calls t = (
+  expect-ident-reads.Asked,
+  expect-ident-reads.Learnt,
+  match-token-reads.Asked,
+  match-token-reads.Learnt,
+  parse-expr-below t,
+  parse-expr.Post,
+  set-ivar-reads.Asked,
+  set-ivar-reads.Learnt,
+  get-ivar-reads.Asked,
+  get-ivar-reads.Learnt,
+)
 
 pub expect-ident-requires : (t : ℕ) → lts.Need-expect-ident-requires (calls t) (parse-ivar-at t) parse-ivar.Post
 expect-ident-requires t c κs = search needs
@@ -40,8 +51,18 @@ pub enum-known-c2 : (t : ℕ) → lts.Need-enum-known-c2 (calls t) (parse-ivar-a
 enum-known-c2 t c = search needs
 
 pub parse-expr-requires : (t : ℕ) → lts.Need-parse-expr-requires (calls t) (parse-ivar-at t) parse-ivar.Post
-parse-expr-requires t c κs =
-    (omega (arith, c .before .before .before .before .before .before .before .before .before .before .before .before .before .pre .0), (match-went ((ident-went (c .before .before .before .before .before .before .before .before .before .before .before .before .before .pre .1 .0) (c .before .before .before .before .before .before .before .before .before .expect-ident .ensures) (c .before .before .before .before .before .before .before .c1 .given .1)) .here) "=" (c .before .before .before .before .before .match-token .ensures) spelt-equals (c .before .before .before .c2 .given .1) .here, (c .before .before .before .before .before .before .before .before .before .before .before .before .before .pre .1 .1)))
+parse-expr-requires t c κs = (
+  omega (arith, c .before .before .before .before .before .before .before .before .before .before .before .before .before .pre .0),
+  let at-c2 = c .before .before .before in
+      let at-match-token = at-c2 .before .before in
+      let at-c1 = at-match-token .before .before in
+      let at-expect-ident = at-c1 .before .before in
+      let start = at-expect-ident .before .before .before .before in (
+        match-went ((ident-went (start .pre .1 .0) (at-expect-ident .expect-ident .ensures) (at-c1 .c1 .given .1)) .here) "="
+            (at-match-token .match-token .ensures) spelt-equals (at-c2 .c2 .given .1) .here,
+        (start .pre .1 .1),
+      ),
+)
 
 pub enum-known-e-3 : (t : ℕ) → lts.Need-enum-known-e-3 (calls t) (parse-ivar-at t) parse-ivar.Post
 enum-known-e-3 t c = search needs
@@ -54,7 +75,7 @@ set-ivar-requires t c κs =
     let at-c3 = c .before .before in
     let at-parse-expr = at-c3 .before .before .before .before .before .before in
     let start = at-parse-expr .before .before .before .before .before .before .before .before .before .before .before .before .before .before in
-    (open-here (got (at-parse-expr .parse-expr .ensures) (ap parsedOf (at-c3 .c3 .given .1)) .here), (start .pre .1 .1))
+    (open-of (got (at-parse-expr .parse-expr .ensures) (ap parsedOf (at-c3 .c3 .given .1)) .here), (start .pre .1 .1))
 
 pub enum-told : (t : ℕ) → lts.Need-enum-told (calls t) (parse-ivar-at t) parse-ivar.Post
 enum-told t c = search needs
@@ -64,7 +85,7 @@ get-ivar-requires t c κs =
     let at-c1 = c .before .before .before .before .before in
     let at-expect-ident = at-c1 .before .before in
     let start = at-expect-ident .before .before .before .before in
-    (open-here ((ident-went (start .pre .1 .0) (at-expect-ident .expect-ident .ensures) (at-c1 .c1 .given .1)) .here), (start .pre .1 .1))
+    (open-of ((ident-went (start .pre .1 .0) (at-expect-ident .expect-ident .ensures) (at-c1 .c1 .given .1)) .here), (start .pre .1 .1))
 
 pub returns : (t : ℕ) → lts.Need-returns (calls t) (parse-ivar-at t) parse-ivar.Post
 returns t c =

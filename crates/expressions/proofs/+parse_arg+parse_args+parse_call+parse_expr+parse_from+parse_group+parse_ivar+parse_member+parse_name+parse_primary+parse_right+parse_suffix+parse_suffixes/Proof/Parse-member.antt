@@ -5,7 +5,7 @@ use mathlib.Core.Path.{_∙_}
 use borrow.Author.Needs.{needs}
 use Rattle.program.specs.Rows.{opndOf}
 use Rattle.cursor.proofs.Wording.{spelt-open}
-use Rattle.expressions.proofs.Ways.{open-here, ident-went, match-went, low-after, member-no1}
+use Rattle.expressions.proofs.Ways.{ident-went, match-went, low-after, member-no1}
 use Rattle.expressions.proofs.Turns.{taken-here, member-no2, member-no3, member-send, member-read}
 use Rattle.expressions.proofs.parse_args.Reads as parse-args
 use Rattle.expressions.proofs.parse_member.Reads as parse-member
@@ -13,12 +13,23 @@ use Rattle.cursor.proofs.terms.send.Reads as send-reads
 use Rattle.cursor.proofs.expect_ident.Reads as expect-ident-reads
 use Rattle.cursor.proofs.match_token.Reads as match-token-reads
 use Rattle.cursor.proofs.read_attr.Reads as read-attr-reads
+use Rattle.cursor.proofs.terms.Terms.{open-of}
 use Rattle.expressions.proofs.+parse_arg+parse_args+parse_call+parse_expr+parse_from+parse_group+parse_ivar+parse_member+parse_name+parse_primary+parse_right+parse_suffix+parse_suffixes.Lts-parse_member as lts
 use Rattle.expressions.proofs.+parse_arg+parse_args+parse_call+parse_expr+parse_from+parse_group+parse_ivar+parse_member+parse_name+parse_primary+parse_right+parse_suffix+parse_suffixes.Proof.Measures.{parse-member-at, parse-args-below}
 
 abbrev pub calls : ℕ → lts.Claims
-calls t =
-    (expect-ident-reads.Asked, expect-ident-reads.Learnt, match-token-reads.Asked, match-token-reads.Learnt, parse-args-below t, parse-args.Post, send-reads.Asked, send-reads.Learnt, read-attr-reads.Asked, read-attr-reads.Learnt)
+calls t = (
+  expect-ident-reads.Asked,
+  expect-ident-reads.Learnt,
+  match-token-reads.Asked,
+  match-token-reads.Learnt,
+  parse-args-below t,
+  parse-args.Post,
+  send-reads.Asked,
+  send-reads.Learnt,
+  read-attr-reads.Asked,
+  read-attr-reads.Learnt,
+)
 
 pub expect-ident-requires : (t : ℕ) → lts.Need-expect-ident-requires (calls t) (parse-member-at t) parse-member.Post
 expect-ident-requires t c κs = search needs
@@ -39,7 +50,23 @@ pub enum-known-c2 : (t : ℕ) → lts.Need-enum-known-c2 (calls t) (parse-member
 enum-known-c2 t c = search needs
 
 pub parse-args-requires : (t : ℕ) → lts.Need-parse-args-requires (calls t) (parse-member-at t) parse-member.Post
-parse-args-requires t c κs = (omega (arith, c .before .before .before .before .before .before .before .before .before .before .before .before .before .pre .0), (match-went ((ident-went (c .before .before .before .before .before .before .before .before .before .before .before .before .before .pre .1 .0) (c .before .before .before .before .before .before .before .before .before .expect-ident .ensures) (c .before .before .before .before .before .before .before .c1 .given .1)) .here) "(" (c .before .before .before .before .before .match-token .ensures) spelt-open (c .before .before .before .c2 .given .1) .here, ((c .before .before .before .before .before .before .before .before .before .before .before .before .before .pre .1 .1), low-after ((ident-went (c .before .before .before .before .before .before .before .before .before .before .before .before .before .pre .1 .0) (c .before .before .before .before .before .before .before .before .before .expect-ident .ensures) (c .before .before .before .before .before .before .before .c1 .given .1)) .here) (match-went ((ident-went (c .before .before .before .before .before .before .before .before .before .before .before .before .before .pre .1 .0) (c .before .before .before .before .before .before .before .before .before .expect-ident .ensures) (c .before .before .before .before .before .before .before .c1 .given .1)) .here) "(" (c .before .before .before .before .before .match-token .ensures) spelt-open (c .before .before .before .c2 .given .1)))))
+parse-args-requires t c κs = (
+  omega (arith, c .before .before .before .before .before .before .before .before .before .before .before .before .before .pre .0),
+  let at-c2 = c .before .before .before in
+      let at-match-token = at-c2 .before .before in
+      let at-c1 = at-match-token .before .before in
+      let at-expect-ident = at-c1 .before .before in
+      let start = at-expect-ident .before .before .before .before in (
+        match-went ((ident-went (start .pre .1 .0) (at-expect-ident .expect-ident .ensures) (at-c1 .c1 .given .1)) .here) "("
+            (at-match-token .match-token .ensures) spelt-open (at-c2 .c2 .given .1) .here,
+        (
+          (start .pre .1 .1),
+          low-after ((ident-went (start .pre .1 .0) (at-expect-ident .expect-ident .ensures) (at-c1 .c1 .given .1)) .here)
+              (match-went ((ident-went (start .pre .1 .0) (at-expect-ident .expect-ident .ensures) (at-c1 .c1 .given .1)) .here) "("
+              (at-match-token .match-token .ensures) spelt-open (at-c2 .c2 .given .1)),
+        ),
+      ),
+)
 
 pub enum-known-e-3 : (t : ℕ) → lts.Need-enum-known-e-3 (calls t) (parse-member-at t) parse-member.Post
 enum-known-e-3 t c = search needs
@@ -62,7 +89,7 @@ read-attr-requires t c κs =
     let at-c1 = c .before .before .before .before .before in
     let at-expect-ident = at-c1 .before .before in
     let start = at-expect-ident .before .before .before .before in
-    (open-here ((ident-went (start .pre .1 .0) (at-expect-ident .expect-ident .ensures) (at-c1 .c1 .given .1)) .here), (start .pre .1 .1))
+    (open-of ((ident-went (start .pre .1 .0) (at-expect-ident .expect-ident .ensures) (at-c1 .c1 .given .1)) .here), (start .pre .1 .1))
 
 pub returns : (t : ℕ) → lts.Need-returns (calls t) (parse-member-at t) parse-member.Post
 returns t c =

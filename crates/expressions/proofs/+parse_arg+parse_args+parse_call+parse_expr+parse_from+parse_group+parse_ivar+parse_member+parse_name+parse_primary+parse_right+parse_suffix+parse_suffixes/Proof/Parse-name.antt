@@ -17,8 +17,18 @@ use Rattle.expressions.proofs.+parse_arg+parse_args+parse_call+parse_ex
 use Rattle.expressions.proofs.+parse_arg+parse_args+parse_call+parse_expr+parse_from+parse_group+parse_ivar+parse_member+parse_name+parse_primary+parse_right+parse_suffix+parse_suffixes.Proof.Measures.{parse-name-at, parse-expr-below}
 
 abbrev pub calls : ℕ → lts.Claims
-calls t =
-    (ident-of-reads.Asked, ident-of-reads.Learnt, match-token-reads.Asked, match-token-reads.Learnt, parse-expr-below t, parse-expr.Post, assign-reads.Asked, assign-reads.Learnt, name-value-reads.Asked, name-value-reads.Learnt)
+calls t = (
+  ident-of-reads.Asked,
+  ident-of-reads.Learnt,
+  match-token-reads.Asked,
+  match-token-reads.Learnt,
+  parse-expr-below t,
+  parse-expr.Post,
+  assign-reads.Asked,
+  assign-reads.Learnt,
+  name-value-reads.Asked,
+  name-value-reads.Learnt,
+)
 
 pub ident-of-requires : (t : ℕ) → lts.Need-ident-of-requires (calls t) (parse-name-at t) parse-name.Post
 ident-of-requires t c κs = search needs
@@ -39,8 +49,18 @@ pub enum-known-c2 : (t : ℕ) → lts.Need-enum-known-c2 (calls t) (parse-name-a
 enum-known-c2 t c = search needs
 
 pub parse-expr-requires : (t : ℕ) → lts.Need-parse-expr-requires (calls t) (parse-name-at t) parse-name.Post
-parse-expr-requires t c κs =
-    (omega (arith, c .before .before .before .before .before .before .before .before .before .before .before .before .before .pre .0), (match-went ((ident-went (c .before .before .before .before .before .before .before .before .before .before .before .before .before .pre .1 .0) (c .before .before .before .before .before .before .before .before .before .ident-of .ensures _ (c .before .before .before .before .before .before .before .before .before .before .before .before .before .pre .1 .1 .1)) (c .before .before .before .before .before .before .before .c1 .given .1)) .here) "=" (c .before .before .before .before .before .match-token .ensures) spelt-equals (c .before .before .before .c2 .given .1) .here, (c .before .before .before .before .before .before .before .before .before .before .before .before .before .pre .1 .1 .0)))
+parse-expr-requires t c κs = (
+  omega (arith, c .before .before .before .before .before .before .before .before .before .before .before .before .before .pre .0),
+  let at-c2 = c .before .before .before in
+      let at-match-token = at-c2 .before .before in
+      let at-c1 = at-match-token .before .before in
+      let at-ident-of = at-c1 .before .before in
+      let start = at-ident-of .before .before .before .before in (
+        match-went ((ident-went (start .pre .1 .0) (at-ident-of .ident-of .ensures _ (start .pre .1 .1 .1)) (at-c1 .c1 .given .1)) .here) "="
+            (at-match-token .match-token .ensures) spelt-equals (at-c2 .c2 .given .1) .here,
+        (start .pre .1 .1 .0),
+      ),
+)
 
 pub enum-known-e-2 : (t : ℕ) → lts.Need-enum-known-e-2 (calls t) (parse-name-at t) parse-name.Post
 enum-known-e-2 t c = search needs
@@ -56,8 +76,14 @@ assign-requires t c κs =
     let at-match-token = at-c2 .before .before in
     let at-c1 = at-match-token .before .before in
     let at-ident-of = at-c1 .before .before in
-    let start = at-ident-of .before .before .before .before in
-    (assign-room (limitsOf (start .args .limits)) _ (parseExpr (limitsOf (start .args .limits)) (start .args .script .now) (start .args .depth)) (start .pre .1 .0) (at-ident-of .ident-of .ensures _ (start .pre .1 .1 .1)) (at-c1 .c1 .given .1) (at-match-token .match-token .ensures) (at-c2 .c2 .given .1) (at-parse-expr .parse-expr .ensures) (at-c3 .c3 .given .1), assign-name (limitsOf (start .args .limits)) _ (parseExpr (limitsOf (start .args .limits)) (start .args .script .now) (start .args .depth)) (start .pre .1 .0) (at-ident-of .ident-of .ensures _ (start .pre .1 .1 .1)) (at-c1 .c1 .given .1) (at-match-token .match-token .ensures) (at-c2 .c2 .given .1) (at-parse-expr .parse-expr .ensures) (at-c3 .c3 .given .1))
+    let start = at-ident-of .before .before .before .before in (
+      assign-room (limitsOf (start .args .limits)) _ (parseExpr (limitsOf (start .args .limits)) (start .args .script .now) (start .args .depth))
+          (start .pre .1 .0) (at-ident-of .ident-of .ensures _ (start .pre .1 .1 .1)) (at-c1 .c1 .given .1) (at-match-token .match-token .ensures)
+          (at-c2 .c2 .given .1) (at-parse-expr .parse-expr .ensures) (at-c3 .c3 .given .1),
+      assign-name (limitsOf (start .args .limits)) _ (parseExpr (limitsOf (start .args .limits)) (start .args .script .now) (start .args .depth))
+          (start .pre .1 .0) (at-ident-of .ident-of .ensures _ (start .pre .1 .1 .1)) (at-c1 .c1 .given .1) (at-match-token .match-token .ensures)
+          (at-c2 .c2 .given .1) (at-parse-expr .parse-expr .ensures) (at-c3 .c3 .given .1),
+    )
 
 pub enum-told : (t : ℕ) → lts.Need-enum-told (calls t) (parse-name-at t) parse-name.Post
 enum-told t c = search needs

@@ -11,11 +11,26 @@ use Rattle.expressions.proofs.parse_primary.Reads as parse-primary
 use Rattle.cursor.proofs.move_to.Reads as move-to-reads
 use Rattle.cursor.proofs.number.Reads as number-reads
 use Rattle.expressions.proofs.+parse_arg+parse_args+parse_call+parse_expr+parse_from+parse_group+parse_ivar+parse_member+parse_name+parse_primary+parse_right+parse_suffix+parse_suffixes.Lts-parse_primary as lts
-use Rattle.expressions.proofs.+parse_arg+parse_args+parse_call+parse_expr+parse_from+parse_group+parse_ivar+parse_member+parse_name+parse_primary+parse_right+parse_suffix+parse_suffixes.Proof.Measures.{parse-primary-at, parse-group-below, parse-ivar-below, parse-name-below}
+use Rattle.expressions.proofs.+parse_arg+parse_args+parse_call+parse_expr+parse_from+parse_group+parse_ivar+parse_member+parse_name+parse_primary+parse_right+parse_suffix+parse_suffixes.Proof.Measures.{
+  parse-primary-at,
+  parse-group-below,
+  parse-ivar-below,
+  parse-name-below,
+}
 
 abbrev pub calls : ℕ → lts.Claims
-calls t =
-    (move-to-reads.Asked, move-to-reads.Learnt, number-reads.Asked, number-reads.Learnt, parse-group-below t, parse-group.Post, parse-ivar-below t, parse-ivar.Post, parse-name-below t, parse-name.Post)
+calls t = (
+  move-to-reads.Asked,
+  move-to-reads.Learnt,
+  number-reads.Asked,
+  number-reads.Learnt,
+  parse-group-below t,
+  parse-group.Post,
+  parse-ivar-below t,
+  parse-ivar.Post,
+  parse-name-below t,
+  parse-name.Post,
+)
 
 pub move-to-requires : (t : ℕ) → lts.Need-move-to-requires (calls t) (parse-primary-at t) parse-primary.Post
 move-to-requires t c κs = search needs
@@ -36,8 +51,15 @@ pub move-to-requires-2 : (t : ℕ) → lts.Need-move-to-requires-2 (calls t) (pa
 move-to-requires-2 t c κs = search needs
 
 pub parse-group-requires : (t : ℕ) → lts.Need-parse-group-requires (calls t) (parse-primary-at t) parse-primary.Post
-parse-group-requires t c κs =
-    (omega (arith, c .before .before .before .before .before .before .before .before .before .before .pre .0), (passed (c .before .before .before .before .before .before .before .before .before .before .pre .1 .0) (c .before .before .before .before .before .before .before .before .before .before .pre .1 .1 .1) refl (c .move-to2 .ensures) (λ z. omega (arith, c .before .before .before .if2 .taken, z)) .here, (c .before .before .before .before .before .before .before .before .before .before .pre .1 .1 .0)))
+parse-group-requires t c κs = (
+  omega (arith, c .before .before .before .before .before .before .before .before .before .before .pre .0),
+  (
+    passed (c .before .before .before .before .before .before .before .before .before .before .pre .1 .0)
+        (c .before .before .before .before .before .before .before .before .before .before .pre .1 .1 .1) refl (c .move-to2 .ensures)
+        (λ z. omega (arith, c .before .before .before .if2 .taken, z)) .here,
+    (c .before .before .before .before .before .before .before .before .before .before .pre .1 .1 .0),
+  ),
+)
 
 pub same-length : (t : ℕ) → lts.Need-same-length (calls t) (parse-primary-at t) parse-primary.Post
 same-length t c =
@@ -62,8 +84,15 @@ pub move-to-requires-3 : (t : ℕ) → lts.Need-move-to-requires-3 (calls t) (pa
 move-to-requires-3 t c κs = search needs
 
 pub parse-ivar-requires : (t : ℕ) → lts.Need-parse-ivar-requires (calls t) (parse-primary-at t) parse-primary.Post
-parse-ivar-requires t c κs =
-    (omega (arith, c .before .before .before .before .before .before .before .before .before .before .before .before .pre .0), (passed (c .before .before .before .before .before .before .before .before .before .before .before .before .pre .1 .0) (c .before .before .before .before .before .before .before .before .before .before .before .before .pre .1 .1 .1) refl (c .move-to3 .ensures) (λ z. omega (arith, c .before .before .before .if3 .taken, z)) .here, (c .before .before .before .before .before .before .before .before .before .before .before .before .pre .1 .1 .0)))
+parse-ivar-requires t c κs = (
+  omega (arith, c .before .before .before .before .before .before .before .before .before .before .before .before .pre .0),
+  (
+    passed (c .before .before .before .before .before .before .before .before .before .before .before .before .pre .1 .0)
+        (c .before .before .before .before .before .before .before .before .before .before .before .before .pre .1 .1 .1) refl
+        (c .move-to3 .ensures) (λ z. omega (arith, c .before .before .before .if3 .taken, z)) .here,
+    let start = c .before .before .before .before .before .before .before .before .before .before .before .before in (start .pre .1 .1 .0),
+  ),
+)
 
 pub same-length-3 : (t : ℕ) → lts.Need-same-length-3 (calls t) (parse-primary-at t) parse-primary.Post
 same-length-3 t c =
@@ -86,8 +115,11 @@ returns-3 t c =
     primary-ivar _ _ _ (start .pre .1 .1 .1) refl (start .pre .1 .0) (at-if1 .if1 .left) (at-if2 .if2 .left) (at-if3 .if3 .taken) (at-move-to3 .move-to3 .ensures) (at-parse-ivar .parse-ivar .ensures)
 
 pub parse-name-requires : (t : ℕ) → lts.Need-parse-name-requires (calls t) (parse-primary-at t) parse-primary.Post
-parse-name-requires t c κs =
-    (omega (arith, c .before .before .before .before .before .before .before .before .before .before .before .pre .0), ((c .before .before .before .before .before .before .before .before .before .before .before .pre .1 .0), ((c .before .before .before .before .before .before .before .before .before .before .before .pre .1 .1 .0), c .before .before .before .before .before .before .before .before .before .before .before .pre .1 .1 .1)))
+parse-name-requires t c κs = (
+  omega (arith, c .before .before .before .before .before .before .before .before .before .before .before .pre .0),
+  let start = c .before .before .before .before .before .before .before .before .before .before .before in
+      ((start .pre .1 .0), ((start .pre .1 .1 .0), start .pre .1 .1 .1)),
+)
 
 pub same-length-5 : (t : ℕ) → lts.Need-same-length-5 (calls t) (parse-primary-at t) parse-primary.Post
 same-length-5 t c =

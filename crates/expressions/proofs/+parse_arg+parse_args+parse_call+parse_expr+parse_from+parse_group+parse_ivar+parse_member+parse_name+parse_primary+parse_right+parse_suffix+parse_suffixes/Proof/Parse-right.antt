@@ -6,11 +6,11 @@ use borrow.Author.Needs.{needs}
 use mathlib.Core.Path.{ap}
 use Rattle.cursor.specs.Promises.{parsedOf}
 use Rattle.cursor.proofs.Laws.{got}
-use Rattle.expressions.proofs.Ways.{open-here}
 use Rattle.expressions.proofs.Turns.{right-no, right-yes}
 use Rattle.expressions.proofs.parse_expr.Reads as parse-expr
 use Rattle.expressions.proofs.parse_right.Reads as parse-right
 use Rattle.cursor.proofs.push.Reads as push-reads
+use Rattle.cursor.proofs.terms.Terms.{open-of}
 use Rattle.expressions.proofs.+parse_arg+parse_args+parse_call+parse_expr+parse_from+parse_group+parse_ivar+parse_member+parse_name+parse_primary+parse_right+parse_suffix+parse_suffixes.Lts-parse_right as lts
 use Rattle.expressions.proofs.+parse_arg+parse_args+parse_call+parse_expr+parse_from+parse_group+parse_ivar+parse_member+parse_name+parse_primary+parse_right+parse_suffix+parse_suffixes.Proof.Measures.{parse-right-at, parse-expr-below}
 
@@ -32,7 +32,7 @@ push-requires t c κs =
     let at-c1 = c .before .before in
     let at-parse-expr = at-c1 .before .before .before .before .before .before in
     let start = at-parse-expr .before .before .before .before .before .before in
-    (open-here (got (at-parse-expr .parse-expr .ensures) (ap parsedOf (at-c1 .c1 .given .1)) .here), (start .pre .1 .1))
+    (open-of (got (at-parse-expr .parse-expr .ensures) (ap parsedOf (at-c1 .c1 .given .1)) .here), (start .pre .1 .1))
 
 pub same-length : (t : ℕ) → lts.Need-same-length (calls t) (parse-right-at t) parse-right.Post
 same-length t c =

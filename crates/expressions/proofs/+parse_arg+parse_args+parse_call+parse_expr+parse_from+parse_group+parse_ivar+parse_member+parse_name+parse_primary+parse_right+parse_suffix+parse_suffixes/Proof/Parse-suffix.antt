@@ -13,11 +13,30 @@ use Rattle.cursor.proofs.move_to.Reads as move-to-reads
 use Rattle.cursor.proofs.suffix_of.Reads as suffix-of-reads
 use Rattle.lexer.proofs.glance.Reads as glance-reads
 use Rattle.expressions.proofs.+parse_arg+parse_args+parse_call+parse_expr+parse_from+parse_group+parse_ivar+parse_member+parse_name+parse_primary+parse_right+parse_suffix+parse_suffixes.Lts-parse_suffix as lts
-use Rattle.expressions.proofs.+parse_arg+parse_args+parse_call+parse_expr+parse_from+parse_group+parse_ivar+parse_member+parse_name+parse_primary+parse_right+parse_suffix+parse_suffixes.Proof.Measures.{parse-suffix-at, parse-call-below, parse-member-below, parse-right-below}
+use Rattle.expressions.proofs.+parse_arg+parse_args+parse_call+parse_expr+parse_from+parse_group+parse_ivar+parse_member+parse_name+parse_primary+parse_right+parse_suffix+parse_suffixes.Proof.Measures.{
+  parse-suffix-at,
+  parse-call-below,
+  parse-member-below,
+  parse-right-below,
+}
 
 abbrev pub calls : ℕ → lts.Claims
-calls t =
-    (glance-reads.Asked, glance-reads.Learnt, suffix-of-reads.Asked, suffix-of-reads.Learnt, move-to-reads.Asked, move-to-reads.Learnt, parse-right-below t, parse-right.Post, again-reads.Asked, again-reads.Learnt, parse-call-below t, parse-call.Post, parse-member-below t, parse-member.Post)
+calls t = (
+  glance-reads.Asked,
+  glance-reads.Learnt,
+  suffix-of-reads.Asked,
+  suffix-of-reads.Learnt,
+  move-to-reads.Asked,
+  move-to-reads.Learnt,
+  parse-right-below t,
+  parse-right.Post,
+  again-reads.Asked,
+  again-reads.Learnt,
+  parse-call-below t,
+  parse-call.Post,
+  parse-member-below t,
+  parse-member.Post,
+)
 
 pub glance-requires : (t : ℕ) → lts.Need-glance-requires (calls t) (parse-suffix-at t) parse-suffix.Post
 glance-requires t c κs = search needs
@@ -41,8 +60,18 @@ pub move-to-requires : (t : ℕ) → lts.Need-move-to-requires (calls t) (parse-
 move-to-requires t c κs = search needs
 
 pub parse-right-requires : (t : ℕ) → lts.Need-parse-right-requires (calls t) (parse-suffix-at t) parse-suffix.Post
-parse-right-requires t c κs =
-    (omega (arith, c .before .before .before .before .before .before .before .before .before .before .before .before .before .before .pre .0), (operator-passed _ (c .before .before .before .before .before .before .before .before .before .before .before .before .before .before .pre .1 .0) (c .before .before .before .before .before .before .before .before .before .before .glance .ensures) (c .before .before .before .before .before .before .before .before .k .given .1) (c .before .before .before .before .before .before .suffix-of .ensures) (c .before .before .before .before .o .given .1) (c .move-to .ensures) .here, (c .before .before .before .before .before .before .before .before .before .before .before .before .before .before .pre .1 .1)))
+parse-right-requires t c κs = (
+  omega (arith, c .before .before .before .before .before .before .before .before .before .before .before .before .before .before .pre .0),
+  let at-o = c .before .before .before .before in
+      let at-suffix-of = at-o .before .before in
+      let at-k = at-suffix-of .before .before in
+      let at-glance = at-k .before .before in
+      let start = at-glance .before .before .before .before in (
+        operator-passed _ (start .pre .1 .0) (at-glance .glance .ensures) (at-k .k .given .1) (at-suffix-of .suffix-of .ensures)
+            (at-o .o .given .1) (c .move-to .ensures) .here,
+        (start .pre .1 .1),
+      ),
+)
 
 pub again-requires : (t : ℕ) → lts.Need-again-requires (calls t) (parse-suffix-at t) parse-suffix.Post
 again-requires t c κs = search needs
@@ -54,8 +83,22 @@ pub move-to-requires-2 : (t : ℕ) → lts.Need-move-to-requires-2 (calls t) (pa
 move-to-requires-2 t c κs = search needs
 
 pub parse-call-requires : (t : ℕ) → lts.Need-parse-call-requires (calls t) (parse-suffix-at t) parse-suffix.Post
-parse-call-requires t c κs =
-    (omega (arith, c .before .before .before .before .before .before .before .before .before .before .before .before .before .pre .0), (call-passed _ (c .before .before .before .before .before .before .before .before .before .before .before .before .before .pre .1 .0) (c .before .before .before .before .before .before .before .before .before .glance .ensures) (c .before .before .before .before .before .before .before .k .given .1) (c .before .before .before .before .before .suffix-of .ensures) (c .before .before .before .enum-told2 .given .1) (c .move-to2 .ensures) .here, ((c .before .before .before .before .before .before .before .before .before .before .before .before .before .pre .1 .1), low-after (c .before .before .before .before .before .before .before .before .before .before .before .before .before .pre .1 .0) (call-passed _ (c .before .before .before .before .before .before .before .before .before .before .before .before .before .pre .1 .0) (c .before .before .before .before .before .before .before .before .before .glance .ensures) (c .before .before .before .before .before .before .before .k .given .1) (c .before .before .before .before .before .suffix-of .ensures) (c .before .before .before .enum-told2 .given .1) (c .move-to2 .ensures)))))
+parse-call-requires t c κs = (
+  omega (arith, c .before .before .before .before .before .before .before .before .before .before .before .before .before .pre .0),
+  let at-enum-told2 = c .before .before .before in
+      let at-suffix-of = at-enum-told2 .before .before in
+      let at-k = at-suffix-of .before .before in
+      let at-glance = at-k .before .before in
+      let start = at-glance .before .before .before .before in (
+        call-passed _ (start .pre .1 .0) (at-glance .glance .ensures) (at-k .k .given .1) (at-suffix-of .suffix-of .ensures)
+            (at-enum-told2 .enum-told2 .given .1) (c .move-to2 .ensures) .here,
+        (
+          (start .pre .1 .1),
+          low-after (start .pre .1 .0) (call-passed _ (start .pre .1 .0) (at-glance .glance .ensures) (at-k .k .given .1)
+              (at-suffix-of .suffix-of .ensures) (at-enum-told2 .enum-told2 .given .1) (c .move-to2 .ensures)),
+        ),
+      ),
+)
 
 pub again-requires-2 : (t : ℕ) → lts.Need-again-requires-2 (calls t) (parse-suffix-at t) parse-suffix.Post
 again-requires-2 t c κs = search needs
@@ -67,8 +110,18 @@ pub move-to-requires-3 : (t : ℕ) → lts.Need-move-to-requires-3 (calls t) (pa
 move-to-requires-3 t c κs = search needs
 
 pub parse-member-requires : (t : ℕ) → lts.Need-parse-member-requires (calls t) (parse-suffix-at t) parse-suffix.Post
-parse-member-requires t c κs =
-    (omega (arith, c .before .before .before .before .before .before .before .before .before .before .before .before .before .pre .0), (member-passed _ (c .before .before .before .before .before .before .before .before .before .before .before .before .before .pre .1 .0) (c .before .before .before .before .before .before .before .before .before .glance .ensures) (c .before .before .before .before .before .before .before .k .given .1) (c .before .before .before .before .before .suffix-of .ensures) (c .before .before .before .enum-told3 .given .1) (c .move-to3 .ensures) .here, (c .before .before .before .before .before .before .before .before .before .before .before .before .before .pre .1 .1)))
+parse-member-requires t c κs = (
+  omega (arith, c .before .before .before .before .before .before .before .before .before .before .before .before .before .pre .0),
+  let at-enum-told3 = c .before .before .before in
+      let at-suffix-of = at-enum-told3 .before .before in
+      let at-k = at-suffix-of .before .before in
+      let at-glance = at-k .before .before in
+      let start = at-glance .before .before .before .before in (
+        member-passed _ (start .pre .1 .0) (at-glance .glance .ensures) (at-k .k .given .1) (at-suffix-of .suffix-of .ensures)
+            (at-enum-told3 .enum-told3 .given .1) (c .move-to3 .ensures) .here,
+        (start .pre .1 .1),
+      ),
+)
 
 pub again-requires-3 : (t : ℕ) → lts.Need-again-requires-3 (calls t) (parse-suffix-at t) parse-suffix.Post
 again-requires-3 t c κs = search needs

@@ -1,4 +1,4 @@
--- `returning::call_kind` meets its contract. Assumes nothing.
+-- `flows::returning::call_kind` meets its contract. Assumes nothing.
 use Rattle.flows.proofs.returning.Sets.{call-kind-set}
 use borrow.Author.Needs.{needs}
 use Rattle.flows.proofs.returning.call_kind.Statement.{statement}

@@ -1,4 +1,4 @@
--- `returning::join_called` meets its contract. Assumes nothing.
+-- `flows::returning::join_called` meets its contract. Assumes nothing.
 use Prim.Native.Nat.{_-_}
 use Rattle.flows.proofs.returning.Passes.{calling-fits, calling-below}
 use Rattle.flows.proofs.returning.Sets.{Summed, summed-start, summed-more, summed-done, joined-none}

@@ -1,4 +1,4 @@
--- `returning::kind_by_passes` meets its contract. Assumes nothing.
+-- `flows::returning::kind_by_passes` meets its contract. Assumes nothing.
 use Rattle.flows.proofs.returning.Passes.{call-kind-is, call-kind-once}
 use borrow.Author.Needs.{needs}
 use Rattle.flows.proofs.returning.kind_by_passes.Statement.{statement}

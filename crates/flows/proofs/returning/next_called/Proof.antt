@@ -1,4 +1,4 @@
--- `returning::next_called` meets its contract. Assumes nothing.
+-- `flows::returning::next_called` meets its contract. Assumes nothing.
 use Prim.Native.Nat.{_-_}
 use Rattle.state.specs.View.{calledOf}
 use Rattle.flows.proofs.returning.Passes.{Skipping, skip-start, skip-more, skip-hit, skip-end}

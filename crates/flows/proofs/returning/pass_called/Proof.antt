@@ -1,4 +1,4 @@
--- `returning::pass_called` meets its contract. Assumes nothing.
+-- `flows::returning::pass_called` meets its contract. Assumes nothing.
 use Prim.Native.Nat.{_-_}
 use Rattle.flows.proofs.returning.Passes.{Calling, calling-start, calling-fits, calling-below, calling-more, calling-done}
 use borrow.Author.Needs.{needs}

@@ -1,4 +1,4 @@
--- `returning::returned_at` meets its contract. Assumes nothing.
+-- `flows::returning::returned_at` meets its contract. Assumes nothing.
 use native.Mathlib.Omega.{arith}
 use Rattle.flows.proofs.returning.Sets.{at-fits, return-here, return-none}
 use borrow.Author.Needs.{needs}

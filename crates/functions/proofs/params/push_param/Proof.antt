@@ -47,8 +47,11 @@ counted-requires c κs = search needs
 
 bound-requires : tie.Need-bound-requires
 bound-requires c κs =
-    omega
-    (arith, ap (λ (z : Cursor). z .vars) (c .counted .ensures), c .before .before .before .before .before .before .before .before .before .before .before .before .before .before .before .before .before .before .pre .0 .vars)
+    omega (
+      arith,
+      ap (λ (z : Cursor). z .vars) (c .counted .ensures),
+      c .before .before .before .before .before .before .before .before .before .before .before .before .before .before .before .before .before .before .pre .0 .vars,
+    )
 
 enum-known-e : tie.Need-enum-known-e
 enum-known-e c = search needs

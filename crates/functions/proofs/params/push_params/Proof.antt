@@ -21,8 +21,11 @@ loop-holds c =
     (binding-start _ _ _ _ (start .pre .0), refl)
 
 push-param-requires : tie.Need-push-param-requires Inv-loop μ-loop
-push-param-requires c κs =
-    (binding-room (c .before .before .before .loop .inv .0) (omega (arith, c .before .before .loop-test .taken, c .before .before .before .loop .inv .1)), c .before .before .before .before .before .before .pre .1)
+push-param-requires c κs = (
+  binding-room (c .before .before .before .loop .inv .0)
+      (omega (arith, c .before .before .loop-test .taken, c .before .before .before .loop .inv .1)),
+  c .before .before .before .before .before .before .pre .1,
+)
 
 enum-known-c1 : tie.Need-enum-known-c1 Inv-loop μ-loop
 enum-known-c1 c = search needs
@@ -45,7 +48,11 @@ same-length-2 c =
 returns : tie.Need-returns Inv-loop μ-loop
 returns c =
     binding-no (c .before .before .before .before .before .before .before .before .before .before .before .loop .inv .0)
-    (omega (arith, c .before .before .before .before .before .before .before .before .before .before .loop-test .taken, c .before .before .before .before .before .before .before .before .before .before .before .loop .inv .1))
+    (omega (
+      arith,
+      c .before .before .before .before .before .before .before .before .before .before .loop-test .taken,
+      c .before .before .before .before .before .before .before .before .before .before .before .loop .inv .1,
+    ))
     (c .before .before .before .before .before .before .before .push-param .ensures) (c .before .e .given .1)
 
 add-k : tie.Need-add-k Inv-loop μ-loop
@@ -55,8 +62,15 @@ loop-less : tie.Need-loop-less Inv-loop μ-loop
 loop-less c = omega (arith, c .before .before .before .before .before .before .before .before .before .before .loop-test .taken)
 
 loop-again : tie.Need-loop-again Inv-loop μ-loop
-loop-again c =
-    (binding-on (c .before .before .before .before .before .before .before .before .before .before .before .loop .inv .0) (omega (arith, c .before .before .before .before .before .before .before .before .before .before .loop-test .taken, c .before .before .before .before .before .before .before .before .before .before .before .loop .inv .1)) (c .before .before .before .before .before .before .before .push-param .ensures) (c .before .c1 .given .1) (c .before .before .before .before .before .before .before .push-param .kept .0), c .before .before .before .before .before .before .before .before .before .before .before .loop .inv .1)
+loop-again c = (
+  binding-on (c .before .before .before .before .before .before .before .before .before .before .before .loop .inv .0) (omega (
+    arith,
+    c .before .before .before .before .before .before .before .before .before .before .loop-test .taken,
+    c .before .before .before .before .before .before .before .before .before .before .before .loop .inv .1,
+  )) (c .before .before .before .before .before .before .before .push-param .ensures) (c .before .c1 .given .1)
+      (c .before .before .before .before .before .before .before .push-param .kept .0),
+  c .before .before .before .before .before .before .before .before .before .before .before .loop .inv .1,
+)
 
 same-length-3 : tie.Need-same-length-3 Inv-loop μ-loop
 same-length-3 c = c .before .loop .inv .0 .long

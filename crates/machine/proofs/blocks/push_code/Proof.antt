@@ -11,22 +11,29 @@ use Rattle.machine.proofs.blocks.push_code.Lts as lts
 use Rattle.chains.proofs.first_insn.Reads as first-insn-reads
 use Rattle.chains.proofs.next_insn.Reads as next-insn-reads
 use Rattle.state.proofs.push_insn.Reads as push-insn-reads
+use Rattle.chains.specs.Layout.{codeLinksAt}
 
 abbrev Inv-loop : tie.InvT-loop
-Inv-loop m₀ z x n at₀ i₀ m at i = Walking z x 1024 pushInsn Every (i₀ .0) m₀ at₀ m at (i .0)
+Inv-loop m₀ z x n at₀ i₀ m at i = Walking z x codeLinksAt pushInsn Every (i₀ .0) m₀ at₀ m at (i .0)
 
 abbrev μ-loop : tie.MeasureT-loop
 μ-loop m₀ z x n at₀ i₀ m at i = z .insns - i .0
 
 first-insn-requires : tie.Need-first-insn-requires Inv-loop μ-loop
 first-insn-requires c κs =
-    let start = c .before .before in
-    ((start .pre .1 .0 .long, code-first (start .args .sizes) (start .args .chains .now) (start .args .b .0) (start .pre .1 .0) (start .pre .1 .1)), code-word (start .args .sizes) (start .args .state .now) (start .args .chains .now) (start .args .b .0) (start .pre .0 .held) (start .pre .1 .0) (start .pre .1 .1))
+    let start = c .before .before in (
+      (
+        start .pre .1 .0 .long,
+        code-first (start .args .sizes) (start .args .chains .now) (start .args .b .0) (start .pre .1 .0) (start .pre .1 .1),
+      ),
+      code-word (start .args .sizes) (start .args .state .now) (start .args .chains .now) (start .args .b .0) (start .pre .0 .held)
+          (start .pre .1 .0) (start .pre .1 .1),
+    )
 
 loop-holds : tie.Need-loop-holds Inv-loop μ-loop
 loop-holds c =
     let start = c .before .before .before in
-    walk-start (start .args .sizes) (start .args .chains .now) 1024 pushInsn Every (start .args .state .now) (start .args .regs) _ (start .pre .0)
+    walk-start (start .args .sizes) (start .args .chains .now) codeLinksAt pushInsn Every (start .args .state .now) (start .args .regs) _ (start .pre .0)
 
 cast-if1 : tie.Need-cast-if1 Inv-loop μ-loop
 cast-if1 c = search needs
@@ -58,8 +65,11 @@ next-insn-requires c κs =
     let at-if1 = c .before .before .before .before .before .before .before in
     let at-loop = at-if1 .before .before in
     let at-first-insn = at-loop .before in
-    let start = at-first-insn .before .before .before in
-    ((start .pre .1 .0 .long, walk-below (at-loop .loop .inv) (at-if1 .if1 .taken)), code-next (at-loop .loop .inv) (start .args .b .0) (at-first-insn .first-insn .ensures) (start .pre .1 .1) (start .pre .1 .0) (at-if1 .if1 .taken))
+    let start = at-first-insn .before .before .before in (
+      (start .pre .1 .0 .long, walk-below (at-loop .loop .inv) (at-if1 .if1 .taken)),
+      code-next (at-loop .loop .inv) (start .args .b .0) (at-first-insn .first-insn .ensures) (start .pre .1 .1) (start .pre .1 .0)
+          (at-if1 .if1 .taken),
+    )
 
 loop-less : tie.Need-loop-less Inv-loop μ-loop
 loop-less c =

@@ -1,4 +1,4 @@
--- `tables::next_bit` meets its contract. Assumes nothing.
+-- `memory::tables::next_bit` meets its contract. Assumes nothing.
 use Prim.Native.Nat.{_-_, _+_, _/_}
 use Rattle.memory.proofs.tables.Bit.{zeros-fit, place-fits}
 use Rattle.memory.specs.tables.Bits.{bitAt}

@@ -1,4 +1,4 @@
--- `tables::set_bit` meets its contract. Assumes nothing.
+-- `memory::tables::set_bit` meets its contract. Assumes nothing.
 use Rattle.memory.proofs.tables.Bit.{bit-stored}
 use borrow.Author.Needs.{needs}
 use Rattle.memory.proofs.tables.set_bit.Statement.{statement}

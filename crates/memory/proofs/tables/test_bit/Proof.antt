@@ -1,4 +1,4 @@
--- `tables::test_bit` meets its contract. Assumes nothing.
+-- `memory::tables::test_bit` meets its contract. Assumes nothing.
 use Rattle.memory.specs.tables.Bits.{bitAt}
 use borrow.Author.Needs.{needs}
 use Rattle.memory.proofs.tables.test_bit.Statement.{statement}

@@ -1,4 +1,4 @@
--- `classes::parse_attr` meets its contract. Assumes nothing.
+-- `parser::classes::parse_attr` meets its contract. Assumes nothing.
 use Rattle.parser.proofs.classes.Members.{attr-no, attr-no2, attr-tables, attr-class, attr-no3, attr-yes}
 use borrow.Author.Needs.{needs}
 use Rattle.parser.proofs.classes.parse_attr.Statement.{statement}
@@ -28,8 +28,15 @@ push-ivar-requires c κs =
     let at-expect-ident = at-c2 .before .before in
     let at-c1 = at-expect-ident .before .before in
     let at-expect = at-c1 .before .before in
-    let start = at-expect .before .before .before .before in
-    (attr-tables (start .args .limits) (start .args .k) (start .pre .0) (at-expect .expect .ensures) (at-c1 .c1 .given .1) (at-expect-ident .expect-ident .ensures) (at-c2 .c2 .given .1), (start .pre .1 .0, attr-class (start .args .limits) (start .args .k) (start .pre .0) (at-expect .expect .ensures) (at-c1 .c1 .given .1) (at-expect-ident .expect-ident .ensures) (at-c2 .c2 .given .1) (start .pre .1 .1)))
+    let start = at-expect .before .before .before .before in (
+      attr-tables (start .args .limits) (start .args .k) (start .pre .0) (at-expect .expect .ensures) (at-c1 .c1 .given .1)
+          (at-expect-ident .expect-ident .ensures) (at-c2 .c2 .given .1),
+      (
+        start .pre .1 .0,
+        attr-class (start .args .limits) (start .args .k) (start .pre .0) (at-expect .expect .ensures) (at-c1 .c1 .given .1)
+            (at-expect-ident .expect-ident .ensures) (at-c2 .c2 .given .1) (start .pre .1 .1),
+      ),
+    )
 
 enum-told : tie.Need-enum-told
 enum-told c = search needs

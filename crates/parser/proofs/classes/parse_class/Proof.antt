@@ -1,7 +1,8 @@
--- `classes::parse_class` meets its contract. Assumes nothing.
-use Rattle.parser.proofs.classes.Classes.{class-no, class-tables, class-no2, class-rests, class-there, class-no3, class-tables2, class-twice, class-yes}
+-- `parser::classes::parse_class` meets its contract. Assumes nothing.
+use Rattle.parser.proofs.classes.Classes.{class-no, class-no2, class-rests, class-there, class-no3, class-tables2, class-twice, class-yes}
 use mathlib.Core.Path.{_∙_}
 use borrow.Author.Needs.{needs}
+use Rattle.functions.proofs.Laws.{ident-tables}
 use Rattle.parser.proofs.classes.parse_class.Statement.{statement}
 use Rattle.parser.proofs.classes.parse_class.Tie as tie
 
@@ -19,7 +20,7 @@ new-class-requires c κs =
     let at-c1 = c .before .before .before in
     let at-expect-ident = at-c1 .before .before in
     let start = at-expect-ident .before .before .before .before in
-    (class-tables (start .args .limits) (start .pre .0) (at-expect-ident .expect-ident .ensures) (at-c1 .c1 .given .1), start .pre .1 .0)
+    (ident-tables (start .args .limits) (start .pre .0) (at-expect-ident .expect-ident .ensures) (at-c1 .c1 .given .1), start .pre .1 .0)
 
 enum-known-e-2 : tie.Need-enum-known-e-2
 enum-known-e-2 c = search needs
@@ -41,8 +42,15 @@ parse-members-requires c κs =
     let at-new-class = at-k .before .before .before .before in
     let at-c1 = at-new-class .before .before .before .before in
     let at-expect-ident = at-c1 .before .before in
-    let start = at-expect-ident .before .before .before .before in
-    (class-rests (start .args .limits) (start .pre .0) (at-expect-ident .expect-ident .ensures) (at-c1 .c1 .given .1) (at-new-class .new-class .ensures) (at-k .k .given .1) (at-counted .counted .ensures) (at-classed .classed .ensures), (start .pre .1 .0, class-there (start .args .limits) (start .pre .0) (at-expect-ident .expect-ident .ensures) (at-c1 .c1 .given .1) (at-new-class .new-class .ensures) (at-k .k .given .1) (at-counted .counted .ensures) (at-classed .classed .ensures)))
+    let start = at-expect-ident .before .before .before .before in (
+      class-rests (start .args .limits) (start .pre .0) (at-expect-ident .expect-ident .ensures) (at-c1 .c1 .given .1)
+          (at-new-class .new-class .ensures) (at-k .k .given .1) (at-counted .counted .ensures) (at-classed .classed .ensures),
+      (
+        start .pre .1 .0,
+        class-there (start .args .limits) (start .pre .0) (at-expect-ident .expect-ident .ensures) (at-c1 .c1 .given .1)
+            (at-new-class .new-class .ensures) (at-k .k .given .1) (at-counted .counted .ensures) (at-classed .classed .ensures),
+      ),
+    )
 
 enum-known-e-3 : tie.Need-enum-known-e-3
 enum-known-e-3 c = search needs

@@ -1,4 +1,4 @@
--- `classes::parse_member` meets its contract. Assumes nothing.
+-- `parser::classes::parse_member` meets its contract. Assumes nothing.
 use Rattle.parser.proofs.classes.Loops.{word-rests, word-class}
 use Rattle.parser.proofs.classes.Members.{member-none, member-over, member-ends, member-def-no, member-def, member-attr-no, member-attr, member-other}
 use borrow.Author.Needs.{needs}
@@ -93,8 +93,13 @@ parse-attr-requires c κs =
     let at-move-to = c .before .before .before .before .before .before .before .before .before .before in
     let at-x = at-move-to .before .before in
     let at-peek = at-x .before .before in
-    let start = at-peek .before .before .before .before in
-    (word-rests (start .pre .0) (at-peek .peek .ensures) (at-x .x .given .1) (at-move-to .move-to .ensures), (start .pre .1 .0, word-class (start .pre .0) (at-peek .peek .ensures) (at-x .x .given .1) (at-move-to .move-to .ensures) (start .pre .1 .1)))
+    let start = at-peek .before .before .before .before in (
+      word-rests (start .pre .0) (at-peek .peek .ensures) (at-x .x .given .1) (at-move-to .move-to .ensures),
+      (
+        start .pre .1 .0,
+        word-class (start .pre .0) (at-peek .peek .ensures) (at-x .x .given .1) (at-move-to .move-to .ensures) (start .pre .1 .1),
+      ),
+    )
 
 enum-known-c2-2 : tie.Need-enum-known-c2-2
 enum-known-c2-2 c = search needs

@@ -1,4 +1,4 @@
--- `classes::parse_members` meets its contract. Assumes nothing.
+-- `parser::classes::parse_members` meets its contract. Assumes nothing.
 use Rattle.parser.proofs.classes.Loops.{Going, going-start, going-no, going-ends, going-less, going-on}
 use Rattle.rules.specs.Reading.{parseClassMember}
 use Rattle.program.specs.View.{limitsOf}
@@ -22,8 +22,13 @@ loop-holds c =
     going-start _ _ _ _ _ (start .pre .0)
 
 parse-member-requires : tie.Need-parse-member-requires Inv-loop μ-loop
-parse-member-requires c κs =
-    (c .before .before .loop .inv .rests, (c .before .before .before .before .before .before .pre .1 .0, omega (arith, c .before .before .loop .inv .onto .classes, c .before .before .before .before .before .before .pre .1 .1)))
+parse-member-requires c κs = (
+  c .before .before .loop .inv .rests,
+  (
+    c .before .before .before .before .before .before .pre .1 .0,
+    omega (arith, c .before .before .loop .inv .onto .classes, c .before .before .before .before .before .before .pre .1 .1),
+  ),
+)
 
 enum-known-e : tie.Need-enum-known-e Inv-loop μ-loop
 enum-known-e c = search needs

@@ -1,4 +1,4 @@
--- `classes::parse_method` meets its contract. Assumes nothing.
+-- `parser::classes::parse_method` meets its contract. Assumes nothing.
 use Rattle.parser.proofs.classes.Members.{method-no, method-tables, method-known, method-none, method-other, method-yes}
 use borrow.Author.Needs.{needs}
 use Rattle.parser.proofs.classes.parse_method.Statement.{statement}
@@ -17,8 +17,10 @@ read-fun-requires : tie.Need-read-fun-requires
 read-fun-requires c κs =
     let at-c1 = c .before .before .before in
     let at-parse-fun = at-c1 .before .before .before .before .before .before in
-    let start = at-parse-fun .before .before .before .before .before .before in
-    (method-tables (start .args .limits) (start .args .k) (at-parse-fun .parse-fun .ensures) (at-c1 .c1 .given .1), method-known (start .args .limits) (start .args .k) (at-parse-fun .parse-fun .ensures) (at-c1 .c1 .given .1))
+    let start = at-parse-fun .before .before .before .before .before .before in (
+      method-tables (start .args .limits) (start .args .k) (at-parse-fun .parse-fun .ensures) (at-c1 .c1 .given .1),
+      method-known (start .args .limits) (start .args .k) (at-parse-fun .parse-fun .ensures) (at-c1 .c1 .given .1),
+    )
 
 method-named-requires : tie.Need-method-named-requires
 method-named-requires c κs =

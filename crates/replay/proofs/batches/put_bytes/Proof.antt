@@ -1,4 +1,4 @@
--- `batches::put_bytes` meets its contract. Assumes nothing.
+-- `replay::batches::put_bytes` meets its contract. Assumes nothing.
 use mathlib.Core.Path.{_≡_}
 use lib.ListN.{length}
 use Prim.Native.Nat.{_-_, _≤_}

@@ -1,4 +1,4 @@
--- `batches::read_bytes` meets its contract. Assumes nothing.
+-- `replay::batches::read_bytes` meets its contract. Assumes nothing.
 use lib.Seq.{length-take-le}
 use borrow.Author.Needs.{needs}
 use Rattle.replay.proofs.batches.Laws.{front-read}

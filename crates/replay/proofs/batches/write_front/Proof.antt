@@ -1,4 +1,4 @@
--- `batches::write_front` meets its contract. Assumes nothing.
+-- `replay::batches::write_front` meets its contract. Assumes nothing.
 use lib.Seq.{length-take-le}
 use borrow.Author.Needs.{needs}
 use Rattle.replay.proofs.batches.write_front.Statement.{statement}

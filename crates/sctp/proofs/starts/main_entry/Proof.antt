@@ -1,4 +1,4 @@
--- `starts::main_entry` meets its contract. Assumes nothing.
+-- `sctp::starts::main_entry` meets its contract. Assumes nothing.
 use Rattle.sctp.proofs.starts.Starting.{main-below, main-entered}
 use borrow.Author.Needs.{needs}
 use Rattle.sctp.proofs.starts.main_entry.Statement.{statement}

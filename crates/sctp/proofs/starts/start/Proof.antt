@@ -1,4 +1,4 @@
--- `starts::start` meets its contract. Assumes nothing.
+-- `sctp::starts::start` meets its contract. Assumes nothing.
 use Rattle.sctp.proofs.starts.Starting.{jumps-inside, entries-inside, code-held, main-live, filled-ready, start-none, start-refused, start-live}
 use native.Mathlib.Omega.{arith}
 use borrow.Author.Needs.{needs}
@@ -11,8 +11,25 @@ returns c =
     start-none (start .pre .0) (c .if1 .taken)
 
 all-first-kinds-requires : tie.Need-all-first-kinds-requires
-all-first-kinds-requires c κs =
-    (c .before .before .before .before .before .before .before .before .before .pre .0 .ready, (c .before .before .before .before .before .before .before .before .before .pre .0 .index, (jumps-inside (c .before .before .before .before .before .before .before .before .before .pre .0), (entries-inside (c .before .before .before .before .before .before .before .before .before .pre .0), (c .before .before .before .before .before .before .before .before .before .pre .1 .0, (omega arith, omega (arith, c .before .before .before .before .before .before .before .before .before .pre .1 .1 .held .len)))))))
+all-first-kinds-requires c κs = (
+  c .before .before .before .before .before .before .before .before .before .pre .0 .ready,
+  (
+    c .before .before .before .before .before .before .before .before .before .pre .0 .index,
+    (
+      jumps-inside (c .before .before .before .before .before .before .before .before .before .pre .0),
+      (
+        entries-inside (c .before .before .before .before .before .before .before .before .before .pre .0),
+        (
+          c .before .before .before .before .before .before .before .before .before .pre .1 .0,
+          (
+            omega arith,
+            omega (arith, c .before .before .before .before .before .before .before .before .before .pre .1 .1 .held .len),
+          ),
+        ),
+      ),
+    ),
+  ),
+)
 
 same-length : tie.Need-same-length
 same-length c = search needs
@@ -38,8 +55,10 @@ go-live-requires c κs =
     let at-no-entries = c .before in
     let at-main-entry = at-no-entries .before in
     let at-all-first-kinds = at-main-entry .before .before .before .before .before .before in
-    let start = at-all-first-kinds .before .before .before .before .before .before .before .before .before .before in
-    (filled-ready (start .pre .0) (start .pre .1 .1) (at-all-first-kinds .all-first-kinds .ensures) (at-no-entries .no-entries .ensures), (code-held (start .pre .0), main-live (start .pre .0) (at-main-entry .main-entry .ensures)))
+    let start = at-all-first-kinds .before .before .before .before .before .before .before .before .before .before in (
+      filled-ready (start .pre .0) (start .pre .1 .1) (at-all-first-kinds .all-first-kinds .ensures) (at-no-entries .no-entries .ensures),
+      (code-held (start .pre .0), main-live (start .pre .0) (at-main-entry .main-entry .ensures)),
+    )
 
 same-length-3 : tie.Need-same-length-3
 same-length-3 c = search needs

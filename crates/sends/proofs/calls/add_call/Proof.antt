@@ -11,8 +11,13 @@ add-caller-requires : tie.Need-add-caller-requires
 add-caller-requires c κs = search needs
 
 push-block-requires : tie.Need-push-block-requires
-push-block-requires c κs =
-    (call-ready (c .before .before .before .before .before .before .before .args .sizes) (c .before .before .before .before .before .before .before .args .state .now) (c .before .before .before .before .before .before .before .args .regs) (c .before .before .before .before .before .before .before .args .i .0) (c .before .before .before .before .before .before .before .args .f .0) (c .before .before .before .before .before .before .before .args .entry .0) (c .before .before .before .before .before .before .before .args .params) (c .before .before .before .before .before .before .before .args .args) (c .before .before .before .before .add-caller .ensures) (c .before .before .before .before .before .before .before .pre .0), search needs)
+push-block-requires c κs = (
+  let at-add-caller = c .before .before .before .before in
+      let start = at-add-caller .before .before .before in
+      call-ready (start .args .sizes) (start .args .state .now) (start .args .regs) (start .args .i .0) (start .args .f .0)
+      (start .args .entry .0) (start .args .params) (start .args .args) (at-add-caller .add-caller .ensures) (start .pre .0),
+  search needs,
+)
 
 enum-known-next : tie.Need-enum-known-next
 enum-known-next c = search needs

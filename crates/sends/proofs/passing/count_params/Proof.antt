@@ -36,8 +36,10 @@ next-param-requires : tie.Need-next-param-requires Inv-loop μ-loop
 next-param-requires c κs =
     let at-loop = c .before .before in
     let at-first-param = at-loop .before in
-    let start = at-first-param .before .before in
-    ((start .pre .long, count-below (start .pre) (at-loop .loop .inv) (at-first-param .first-param .ensures) (c .if1 .taken)), count-next (start .pre) (at-loop .loop .inv) (at-first-param .first-param .ensures) (c .if1 .taken))
+    let start = at-first-param .before .before in (
+      (start .pre .long, count-below (start .pre) (at-loop .loop .inv) (at-first-param .first-param .ensures) (c .if1 .taken)),
+      count-next (start .pre) (at-loop .loop .inv) (at-first-param .first-param .ensures) (c .if1 .taken),
+    )
 
 loop-less : tie.Need-loop-less Inv-loop μ-loop
 loop-less c =

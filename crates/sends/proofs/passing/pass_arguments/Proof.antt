@@ -1,5 +1,6 @@
 use borrow.Author.Needs.{needs}
 use Rattle.sends.proofs.passing.Passes.{passes-is, passed-to, pushed-to, surely-kept, params-word, params-fall, params-next, params-stop, params-done, param-passed, param-kept}
+use Rattle.chains.specs.Layout.{paramLinksAt}
 use Rattle.sends.specs.passing.Passing.{passTo, CallIn}
 use Rattle.machine.proofs.blocks.Walk.{Walking, walk-start, walk-ready, walk-below}
 use mathlib.Core.Logic.{⊎-elim}
@@ -8,7 +9,7 @@ use Rattle.sends.proofs.passing.pass_arguments.Statement.{statement}
 use Rattle.sends.proofs.passing.pass_arguments.Tie as tie
 
 abbrev Inv-loop : tie.InvT-loop
-Inv-loop p c x m₀ z i n at₀ j₀ m at j = Walking z x 4096 (λ L p. passTo L p (i .0)) (CallIn p c (i .0)) (j₀ .0) m₀ at₀ m at (j .0)
+Inv-loop p c x m₀ z i n at₀ j₀ m at j = Walking z x paramLinksAt (λ L p. passTo L p (i .0)) (CallIn p c (i .0)) (j₀ .0) m₀ at₀ m at (j .0)
 
 abbrev μ-loop : tie.MeasureT-loop
 μ-loop p c x m₀ z i n at₀ j₀ m at j = z .insns - j .0
@@ -22,7 +23,7 @@ loop-holds : tie.Need-loop-holds Inv-loop μ-loop
 loop-holds c =
     let start = c .before .before .before .before in
     let a = start .args in
-    walk-start (a .sizes) (a .chains .now) 4096 (λ L p. passTo L p (a .i .0)) (CallIn (a .program .now) (a .counts) (a .i .0)) (a .state .now) (a .regs) _ (start .pre .0)
+    walk-start (a .sizes) (a .chains .now) paramLinksAt (λ L p. passTo L p (a .i .0)) (CallIn (a .program .now) (a .counts) (a .i .0)) (a .state .now) (a .regs) _ (start .pre .0)
 
 cast-if1 : tie.Need-cast-if1 Inv-loop μ-loop
 cast-if1 c = search needs

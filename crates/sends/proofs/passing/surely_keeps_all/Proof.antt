@@ -1,5 +1,6 @@
 use borrow.Author.Needs.{needs}
 use Rattle.sends.proofs.passing.Passes.{params-word, params-fall, params-next, Keeping, keeping-walk, keeping-more, keeping-done, no-truth}
+use Rattle.chains.specs.Layout.{paramLinksAt}
 use Rattle.sends.specs.passing.Passing.{passTo, CallIn}
 use Rattle.machine.proofs.blocks.Walk.{walk-start, walk-below}
 use Prim.Native.Nat.{_-_}
@@ -20,7 +21,8 @@ first-param-requires c κs =
 loop-holds : tie.Need-loop-holds Inv-loop μ-loop
 loop-holds c =
     let start = c .before .before .before .before in
-    λ q r. walk-start (start .args .sizes) (start .args .chains .now) 4096 (λ L p. passTo L p (start .args .i .0)) (CallIn (start .args .program .now) (start .args .counts) (start .args .i .0)) (start .args .state .now) q _ r
+    λ q r. walk-start (start .args .sizes) (start .args .chains .now) paramLinksAt (λ L p. passTo L p (start .args .i .0))
+    (CallIn (start .args .program .now) (start .args .counts) (start .args .i .0)) (start .args .state .now) q _ r
 
 cast-if1 : tie.Need-cast-if1 Inv-loop μ-loop
 cast-if1 c = search needs
@@ -38,8 +40,11 @@ next-param-requires c κs =
     let at-if1 = c .before .before in
     let at-loop = at-if1 .before .before in
     let at-first-param = at-loop .before in
-    let start = at-first-param .before .before .before .before in
-    ((start .pre .1 .1 .long, walk-below (keeping-walk (at-loop .loop .inv) (start .pre .0)) (at-if1 .if1 .taken)), params-next (keeping-walk (at-loop .loop .inv) (start .pre .0)) (start .args .entry .0) (at-first-param .first-param .ensures) (start .pre .1 .1) (at-if1 .if1 .taken))
+    let start = at-first-param .before .before .before .before in (
+      (start .pre .1 .1 .long, walk-below (keeping-walk (at-loop .loop .inv) (start .pre .0)) (at-if1 .if1 .taken)),
+      params-next (keeping-walk (at-loop .loop .inv) (start .pre .0)) (start .args .entry .0) (at-first-param .first-param .ensures)
+          (start .pre .1 .1) (at-if1 .if1 .taken),
+    )
 
 loop-less : tie.Need-loop-less Inv-loop μ-loop
 loop-less c =

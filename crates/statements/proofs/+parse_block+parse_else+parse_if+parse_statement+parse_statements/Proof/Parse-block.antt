@@ -6,7 +6,7 @@ use borrow.Author.Needs.{needs}
 use lib.ListN.{length}
 use mathlib.Core.Path.{refl}
 use Rattle.statements.proofs.Cycle.{Going, going-start, going-none, going-ends, going-no, going-less, going-on, block-no, block-in, block-no2, block-yes, else-none, else-bare, else-in}
-use Rattle.statements.proofs.Cycle.{else-arm, else-no, else-in2, else-no2, else-in3, else-inside, else-join, else-sorted, else-yes, if-no, if-in, if-no2, if-in2, if-no3, if-in3, if-no4, if-in4}
+use Rattle.statements.proofs.Cycle.{else-arm, else-no, else-in2, else-no2, else-in3, else-inside, else-join, else-sorted, else-yes, if-no, if-no2, if-in2, if-no3, if-in3, if-no4, if-in4}
 use Rattle.statements.proofs.Cycle.{if-arm, if-yes, state-in, state-return, state-deep, state-if, state-expr}
 use Rattle.statements.proofs.parse_block.Reads as parse-block
 use Rattle.statements.proofs.parse_statements.Reads as parse-statements
@@ -31,8 +31,10 @@ pub end-block-requires : (t : ℕ) → lts.Need-end-block-requires (calls t) (pa
 end-block-requires t c κs =
     let at-c1 = c .before .before in
     let at-parse-statements = at-c1 .before .before .before .before .before .before in
-    let start = at-parse-statements .before .before .before .before .before .before in
-    (block-in _ _ (at-parse-statements .parse-statements .ensures) (at-c1 .c1 .given .1) .ready .tables, (start .pre .1 .1, block-in _ _ (at-parse-statements .parse-statements .ensures) (at-c1 .c1 .given .1) .block))
+    let start = at-parse-statements .before .before .before .before .before .before in (
+      block-in _ _ (at-parse-statements .parse-statements .ensures) (at-c1 .c1 .given .1) .ready .tables,
+      (start .pre .1 .1, block-in _ _ (at-parse-statements .parse-statements .ensures) (at-c1 .c1 .given .1) .block),
+    )
 
 pub enum-known-e-2 : (t : ℕ) → lts.Need-enum-known-e-2 (calls t) (parse-block-at t) parse-block.Post
 enum-known-e-2 t c = search needs

@@ -6,7 +6,7 @@ use borrow.Author.Needs.{needs}
 use lib.ListN.{length}
 use mathlib.Core.Path.{refl}
 use Rattle.statements.proofs.Cycle.{Going, going-start, going-none, going-ends, going-no, going-less, going-on, block-no, block-in, block-no2, block-yes, else-none, else-bare, else-in}
-use Rattle.statements.proofs.Cycle.{else-arm, else-no, else-in2, else-no2, else-in3, else-inside, else-join, else-sorted, else-yes, if-no, if-in, if-no2, if-in2, if-no3, if-in3, if-no4, if-in4}
+use Rattle.statements.proofs.Cycle.{else-arm, else-no, else-in2, else-no2, else-in3, else-inside, else-join, else-sorted, else-yes, if-no, if-no2, if-in2, if-no3, if-in3, if-no4, if-in4}
 use Rattle.statements.proofs.Cycle.{if-arm, if-yes, state-in, state-return, state-deep, state-if, state-expr}
 use Rattle.statements.proofs.parse_block.Reads as parse-block
 use Rattle.statements.proofs.parse_else.Reads as parse-else
@@ -18,8 +18,18 @@ use Rattle.statements.proofs.+parse_block+parse_else+parse_if+parse_sta
 use Rattle.statements.proofs.+parse_block+parse_else+parse_if+parse_statement+parse_statements.Proof.Measures.{parse-else-at, parse-block-below}
 
 abbrev pub calls : ℕ → lts.Claims
-calls t =
-    (match-token-reads.Asked, match-token-reads.Learnt, finish-if-reads.Asked, finish-if-reads.Learnt, open-else-reads.Asked, open-else-reads.Learnt, parse-block-below t, parse-block.Post, finish-else-reads.Asked, finish-else-reads.Learnt)
+calls t = (
+  match-token-reads.Asked,
+  match-token-reads.Learnt,
+  finish-if-reads.Asked,
+  finish-if-reads.Learnt,
+  open-else-reads.Asked,
+  open-else-reads.Learnt,
+  parse-block-below t,
+  parse-block.Post,
+  finish-else-reads.Asked,
+  finish-else-reads.Learnt,
+)
 
 pub match-token-requires : (t : ℕ) → lts.Need-match-token-requires (calls t) (parse-else-at t) parse-else.Post
 match-token-requires t c κs = search needs
@@ -42,8 +52,15 @@ pub open-else-requires : (t : ℕ) → lts.Need-open-else-requires (calls t) (pa
 open-else-requires t c κs =
     let at-c1 = c .before .before .before in
     let at-match-token = at-c1 .before .before in
-    let start = at-match-token .before .before .before .before in
-    (else-in (start .args .limits) (start .args .depth) (start .args .q) (start .pre .1 .0) (start .pre .1 .1 .1) (at-match-token .match-token .ensures) (at-c1 .c1 .given .1), (start .pre .1 .1 .0, else-arm (start .args .limits) (start .args .depth) (start .args .q) (start .pre .1 .0) (start .pre .1 .1 .1) (at-match-token .match-token .ensures) (at-c1 .c1 .given .1)))
+    let start = at-match-token .before .before .before .before in (
+      else-in (start .args .limits) (start .args .depth) (start .args .q) (start .pre .1 .0) (start .pre .1 .1 .1)
+          (at-match-token .match-token .ensures) (at-c1 .c1 .given .1),
+      (
+        start .pre .1 .1 .0,
+        else-arm (start .args .limits) (start .args .depth) (start .args .q) (start .pre .1 .0) (start .pre .1 .1 .1)
+            (at-match-token .match-token .ensures) (at-c1 .c1 .given .1),
+      ),
+    )
 
 pub enum-known-e-2 : (t : ℕ) → lts.Need-enum-known-e-2 (calls t) (parse-else-at t) parse-else.Post
 enum-known-e-2 t c = search needs
@@ -52,8 +69,21 @@ pub enum-known-c2 : (t : ℕ) → lts.Need-enum-known-c2 (calls t) (parse-else-a
 enum-known-c2 t c = search needs
 
 pub parse-block-requires : (t : ℕ) → lts.Need-parse-block-requires (calls t) (parse-else-at t) parse-else.Post
-parse-block-requires t c κs =
-    (omega (arith, c .before .before .before .before .before .before .before .before .before .before .before .before .before .before .before .before .before .before .before .before .pre .0), (else-in2 (c .before .before .before .before .before .before .before .before .before .before .before .before .before .before .before .before .before .before .before .before .args .limits) (c .before .before .before .before .before .before .before .before .before .before .before .before .before .before .before .before .before .before .before .before .args .depth) (c .before .before .before .before .before .before .before .before .before .before .before .before .before .before .before .before .before .before .before .before .args .q) (c .before .before .before .before .before .before .before .before .before .before .before .before .before .before .before .before .before .before .before .before .pre .1 .0) (c .before .before .before .before .before .before .before .before .before .before .before .before .before .before .before .before .before .before .before .before .pre .1 .1 .1) (c .before .before .before .before .before .before .before .before .before .before .before .before .before .before .before .before .match-token .ensures) (c .before .before .before .before .before .before .before .before .before .before .before .before .before .before .c1 .given .1) (c .before .before .before .before .before .before .before .before .before .before .open-else .ensures) (c .before .before .before .before .c2 .given .1), c .before .before .before .before .before .before .before .before .before .before .before .before .before .before .before .before .before .before .before .before .pre .1 .1 .0))
+parse-block-requires t c κs = (
+  omega (
+    arith,
+    c .before .before .before .before .before .before .before .before .before .before .before .before .before .before .before .before .before .before .before .before .pre .0,
+  ),
+  let at-c2 = c .before .before .before .before in
+      let at-open-else = at-c2 .before .before .before .before .before .before in
+      let at-c1 = at-open-else .before .before .before .before in
+      let at-match-token = at-c1 .before .before in
+      let start = at-match-token .before .before .before .before in (
+        else-in2 (start .args .limits) (start .args .depth) (start .args .q) (start .pre .1 .0) (start .pre .1 .1 .1)
+            (at-match-token .match-token .ensures) (at-c1 .c1 .given .1) (at-open-else .open-else .ensures) (at-c2 .c2 .given .1),
+        start .pre .1 .1 .0,
+      ),
+)
 
 pub enum-known-e-3 : (t : ℕ) → lts.Need-enum-known-e-3 (calls t) (parse-else-at t) parse-else.Post
 enum-known-e-3 t c = search needs
@@ -69,8 +99,27 @@ finish-else-requires t c κs =
     let at-open-else = at-c2 .before .before .before .before .before .before in
     let at-c1 = at-open-else .before .before .before .before in
     let at-match-token = at-c1 .before .before in
-    let start = at-match-token .before .before .before .before in
-    (else-in3 (start .args .limits) (start .args .depth) (start .args .q) (start .pre .1 .0) (start .pre .1 .1 .1) (at-match-token .match-token .ensures) (at-c1 .c1 .given .1) (at-open-else .open-else .ensures) (at-c2 .c2 .given .1) (at-parse-block .parse-block .ensures) (at-c3 .c3 .given .1), (start .pre .1 .1 .0, (else-inside (start .args .limits) (start .args .depth) (start .args .q) (start .pre .1 .0) (start .pre .1 .1 .1) (at-match-token .match-token .ensures) (at-c1 .c1 .given .1) (at-open-else .open-else .ensures) (at-c2 .c2 .given .1) (at-parse-block .parse-block .ensures) (at-c3 .c3 .given .1), (else-join (start .args .limits) (start .args .depth) (start .args .q) (start .pre .1 .0) (start .pre .1 .1 .1) (at-match-token .match-token .ensures) (at-c1 .c1 .given .1) (at-open-else .open-else .ensures) (at-c2 .c2 .given .1) (at-parse-block .parse-block .ensures) (at-c3 .c3 .given .1), else-sorted (start .args .limits) (start .args .depth) (start .args .q) (start .pre .1 .0) (start .pre .1 .1 .1) (at-match-token .match-token .ensures) (at-c1 .c1 .given .1) (at-open-else .open-else .ensures) (at-c2 .c2 .given .1) (at-parse-block .parse-block .ensures) (at-c3 .c3 .given .1)))))
+    let start = at-match-token .before .before .before .before in (
+      else-in3 (start .args .limits) (start .args .depth) (start .args .q) (start .pre .1 .0) (start .pre .1 .1 .1)
+          (at-match-token .match-token .ensures) (at-c1 .c1 .given .1) (at-open-else .open-else .ensures) (at-c2 .c2 .given .1)
+          (at-parse-block .parse-block .ensures) (at-c3 .c3 .given .1),
+      (
+        start .pre .1 .1 .0,
+        (
+          else-inside (start .args .limits) (start .args .depth) (start .args .q) (start .pre .1 .0) (start .pre .1 .1 .1)
+              (at-match-token .match-token .ensures) (at-c1 .c1 .given .1) (at-open-else .open-else .ensures) (at-c2 .c2 .given .1)
+              (at-parse-block .parse-block .ensures) (at-c3 .c3 .given .1),
+          (
+            else-join (start .args .limits) (start .args .depth) (start .args .q) (start .pre .1 .0) (start .pre .1 .1 .1)
+                (at-match-token .match-token .ensures) (at-c1 .c1 .given .1) (at-open-else .open-else .ensures) (at-c2 .c2 .given .1)
+                (at-parse-block .parse-block .ensures) (at-c3 .c3 .given .1),
+            else-sorted (start .args .limits) (start .args .depth) (start .args .q) (start .pre .1 .0) (start .pre .1 .1 .1)
+                (at-match-token .match-token .ensures) (at-c1 .c1 .given .1) (at-open-else .open-else .ensures) (at-c2 .c2 .given .1)
+                (at-parse-block .parse-block .ensures) (at-c3 .c3 .given .1),
+          ),
+        ),
+      ),
+    )
 
 pub returns : (t : ℕ) → lts.Need-returns (calls t) (parse-else-at t) parse-else.Post
 returns t c =

@@ -6,7 +6,7 @@ use borrow.Author.Needs.{needs}
 use lib.ListN.{length}
 use mathlib.Core.Path.{refl}
 use Rattle.statements.proofs.Cycle.{Going, going-start, going-none, going-ends, going-no, going-less, going-on, block-no, block-in, block-no2, block-yes, else-none, else-bare, else-in}
-use Rattle.statements.proofs.Cycle.{else-arm, else-no, else-in2, else-no2, else-in3, else-inside, else-join, else-sorted, else-yes, if-no, if-in, if-no2, if-in2, if-no3, if-in3, if-no4, if-in4}
+use Rattle.statements.proofs.Cycle.{else-arm, else-no, else-in2, else-no2, else-in3, else-inside, else-join, else-sorted, else-yes, if-no, if-no2, if-in2, if-no3, if-in3, if-no4, if-in4}
 use Rattle.statements.proofs.Cycle.{if-arm, if-yes, state-in, state-return, state-deep, state-if, state-expr}
 use Rattle.statements.proofs.parse_if.Reads as parse-if
 use Rattle.statements.proofs.parse_statement.Reads as parse-statement
@@ -23,8 +23,13 @@ pub move-to-requires : (t : ℕ) → lts.Need-move-to-requires (calls t) (parse-
 move-to-requires t c κs = search needs
 
 pub parse-return-requires : (t : ℕ) → lts.Need-parse-return-requires (calls t) (parse-statement-at t) parse-statement.Post
-parse-return-requires t c κs =
-    (state-in (c .before .before .before .before .before .before .before .before .args .limits) (c .before .before .before .before .before .before .before .before .pre .1 .0) (c .before .before .before .before .before .before .before .before .pre .1 .1 .1) (λ z. omega (arith, c .before .before .before .if1 .taken)) (c .move-to .ensures), c .before .before .before .before .before .before .before .before .pre .1 .1 .0)
+parse-return-requires t c κs = (
+  state-in (c .before .before .before .before .before .before .before .before .args .limits)
+      (c .before .before .before .before .before .before .before .before .pre .1 .0)
+      (c .before .before .before .before .before .before .before .before .pre .1 .1 .1)
+      (λ z. omega (arith, c .before .before .before .if1 .taken)) (c .move-to .ensures),
+  c .before .before .before .before .before .before .before .before .pre .1 .1 .0,
+)
 
 pub same-length : (t : ℕ) → lts.Need-same-length (calls t) (parse-statement-at t) parse-statement.Post
 same-length t c =
@@ -58,8 +63,20 @@ pub sub-parse-if : (t : ℕ) → lts.Need-sub-parse-if (calls t) (parse-statemen
 sub-parse-if t c = omega (arith, c .before .before .before .if3 .left)
 
 pub parse-if-requires : (t : ℕ) → lts.Need-parse-if-requires (calls t) (parse-statement-at t) parse-statement.Post
-parse-if-requires t c κs =
-    (omega (arith, c .before .before .before .before .before .before .before .before .before .before .before .pre .0, c .before .before .before .if3 .left), (state-in (c .before .before .before .before .before .before .before .before .before .before .before .args .limits) (c .before .before .before .before .before .before .before .before .before .before .before .pre .1 .0) (c .before .before .before .before .before .before .before .before .before .before .before .pre .1 .1 .1) (λ z. omega (arith, c .before .before .before .before .if2 .taken)) (c .move-to2 .ensures), c .before .before .before .before .before .before .before .before .before .before .before .pre .1 .1 .0))
+parse-if-requires t c κs = (
+  omega (
+    arith,
+    c .before .before .before .before .before .before .before .before .before .before .before .pre .0,
+    c .before .before .before .if3 .left,
+  ),
+  (
+    state-in (c .before .before .before .before .before .before .before .before .before .before .before .args .limits)
+        (c .before .before .before .before .before .before .before .before .before .before .before .pre .1 .0)
+        (c .before .before .before .before .before .before .before .before .before .before .before .pre .1 .1 .1)
+        (λ z. omega (arith, c .before .before .before .before .if2 .taken)) (c .move-to2 .ensures),
+    c .before .before .before .before .before .before .before .before .before .before .before .pre .1 .1 .0,
+  ),
+)
 
 pub same-length-3 : (t : ℕ) → lts.Need-same-length-3 (calls t) (parse-statement-at t) parse-statement.Post
 same-length-3 t c =

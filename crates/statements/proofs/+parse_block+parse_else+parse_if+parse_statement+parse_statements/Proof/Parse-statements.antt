@@ -6,7 +6,7 @@ use borrow.Author.Needs.{needs}
 use lib.ListN.{length}
 use mathlib.Core.Path.{refl}
 use Rattle.statements.proofs.Cycle.{Going, going-start, going-none, going-ends, going-no, going-less, going-on, block-no, block-in, block-no2, block-yes, else-none, else-bare, else-in}
-use Rattle.statements.proofs.Cycle.{else-arm, else-no, else-in2, else-no2, else-in3, else-inside, else-join, else-sorted, else-yes, if-no, if-in, if-no2, if-in2, if-no3, if-in3, if-no4, if-in4}
+use Rattle.statements.proofs.Cycle.{else-arm, else-no, else-in2, else-no2, else-in3, else-inside, else-join, else-sorted, else-yes, if-no, if-no2, if-in2, if-no3, if-in3, if-no4, if-in4}
 use Rattle.statements.proofs.Cycle.{if-arm, if-yes, state-in, state-return, state-deep, state-if, state-expr}
 use Rattle.statements.proofs.parse_statement.Reads as parse-statement
 use Rattle.statements.proofs.parse_statements.Reads as parse-statements
@@ -74,8 +74,14 @@ pub enum-known-x : (t : ℕ) → lts.Need-enum-known-x (calls t) (parse-statemen
 enum-known-x t c = search needs
 
 pub parse-statement-requires : (t : ℕ) → lts.Need-parse-statement-requires (calls t) (parse-statements-at t) parse-statements.Post Inv-loop μ-loop
-parse-statement-requires t c κs =
-    (omega (arith, c .before .before .before .before .before .before .before .before .before .before .pre .0), (c .before .before .before .before .before .before .loop .inv .here, (c .before .before .before .before .before .before .before .before .before .before .pre .1 .1, c .before .before .before .before .before .at-end .ensures .next _ (c .before .before .before .x .given .1))))
+parse-statement-requires t c κs = (
+  omega (arith, c .before .before .before .before .before .before .before .before .before .before .pre .0),
+  let at-x = c .before .before .before in
+      let at-at-end = at-x .before .before in
+      let at-loop = at-at-end .before in
+      let start = at-loop .before .before .before .before in
+      (at-loop .loop .inv .here, (start .pre .1 .1, at-at-end .at-end .ensures .next _ (at-x .x .given .1))),
+)
 
 pub enum-known-e-2 : (t : ℕ) → lts.Need-enum-known-e-2 (calls t) (parse-statements-at t) parse-statements.Post Inv-loop μ-loop
 enum-known-e-2 t c = search needs

@@ -4,20 +4,9 @@ use mathlib.Core.List.{List, [], _∷_, _++_}
 use mathlib.Core.Option.{Option, none, some}
 use Rattle.rules.specs.Program.{Name, Opnd}
 use Rattle.rules.specs.Reading.{Env, lookup, bind, allKeys}
-use Rattle.variables.specs.scopes.Order.{OrderStands, before, equal, behind, stands}
-use Rattle.variables.specs.scopes.Sorted.{Sorted, lookup-here, lookup-on, bind-sorted, bound, unbound, extensional}
-
--- bindings, the latest first
-abbrev pub Bindings : Type 0
-Bindings = List (Name × Opnd)
-
--- made over an environment, and made from nothing
-unfoldable pub over : Bindings → Env → Env
-over [] e = e
-over (x ∷ p) e = bind (x .0) (x .1) (over p e)
-
-abbrev pub envOf : Bindings → Env
-envOf p = over p []
+use Rattle.variables.specs.Scopes.{Sorted, Bindings, over, envOf}
+use Rattle.variables.proofs.scopes.Order.{OrderStands, before, equal, behind, stands}
+use Rattle.variables.proofs.scopes.Sorted.{lookup-here, lookup-on, bind-sorted, bound, unbound, extensional}
 
 pub over-sorted : (p : Bindings) (e : Env) → Sorted e → Sorted (over p e)
 unfolding over

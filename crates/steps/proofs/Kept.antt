@@ -14,6 +14,7 @@ use Rattle.rules.specs.Actions.{answered}
 use Rattle.rules.specs.Program.{Limits, Program}
 use Rattle.rules.specs.Machine.{State, stateOf, takeBlock, takeInsn, step, visit, goLive, taken}
 use Rattle.rules.proofs.Exactness.Answers.{answer}
+use Rattle.rules.proofs.Wellformed.Tests.{and-true}
 use Rattle.program.specs.View as P
 use Rattle.program.specs.declared.Counts.{Counts}
 use Rattle.program.specs.declared.Name.{Name}
@@ -27,6 +28,7 @@ use Rattle.state.specs.declared.Acted.{Acted}
 use Rattle.state.specs.declared.Acted.the-variants.{On, Refused}
 use Rattle.state.specs.View.{Attrs, kindsOf, blocksOf, stateView, StateHeld, StateReady}
 use Rattle.state.specs.Changes.{went}
+use Rattle.state.proofs.Pushes.{insns-length}
 use Rattle.machine.specs.opnds.Reads.{kindIn}
 use Rattle.machine.proofs.opnds.Given.{kind-of}
 use Rattle.machine.specs.blocks.Blocks.{blocksIn, ReadyNext, BlockStepped}
@@ -44,11 +46,13 @@ use Rattle.settled.specs.Reads.{nameOf, SettledFor, Operands, Decides, Unsettle
 use Rattle.settled.proofs.Settling.{none-settled}
 use Rattle.settled.proofs.Stamps.{same-or, put-long, put-tables, put-here, put-other}
 use Rattle.settled.proofs.Sorts.{op-sets, read-op, set-op, range, read-inside, read-below, set-inside, read-passes}
-use Rattle.run.specs.declared.Timed.{Timed}
-use Rattle.run.specs.Runs.{insnsIn, blockNext, RecordOf, Facing, Front}
-use Rattle.run.specs.Stamps.{tablesOf, stampOf, Idles, Passes, Dated, DatedIf, Stamped, StampedIf, Visited, Timely}
-use Rattle.run.proofs.Stepping.{insns-length, some-insn, block-step, insn-step}
-use Rattle.run.proofs.Stamps.{back-tables, back-long, back-stamp, stale, front, record-is, state-of, row-read, began, visited, front-few, front-of}
+use Rattle.memory.specs.Layout.{worklistMost}
+use Rattle.state.specs.Layout.{stateLen, stampsAt}
+use Rattle.steps.specs.declared.Timed.{Timed}
+use Rattle.steps.specs.Steps.{insnsIn, blockNext, RecordOf, Facing, Front}
+use Rattle.steps.specs.Stamps.{tablesOf, stampOf, Idles, Passes, Dated, DatedIf, Stamped, StampedIf, Visited, Timely}
+use Rattle.steps.proofs.Stepping.{some-insn, block-step, insn-step}
+use Rattle.steps.proofs.Stamps.{back-tables, back-long, back-stamp, stale, front, record-is, state-of, row-read, began, visited, few, front-of}
 
 -- ---- the instruction in front, by its record n
 
@@ -76,27 +80,20 @@ module _ {s p : List ℕ} {c : Counts} {x u : List ℕ} {z : Sizes} {m : List �
       → StateHeld z w × (StateMatches z p c × ((o .tag ≡ 8 → ClassesBelow (z .classes) (o .bits)) × (i < z .insns)))
   stamp-asked e k o d = (k, (matches visiting, (read-below n visiting fitting e o (d .receiver e), F .front .inside)))
 
-  pub few : i < 2048
-  few = front-few (F .ready) (F .front)
-
 -- ---- a visit that surely does nothing
-
-both-so : (a b : 𝔹) → (a && b) ≡ true → (a ≡ true) × (b ≡ true)
-both-so true b h = (refl, h)
-both-so false b h = (cc, cc)
 
 module _ {s p : List ℕ} {c : Counts} {x u : List ℕ} {z : Sizes} {m : List ℕ} {q : Regs} {i e : ℕ} {n : Record} (F : Facing s p c x u z (tablesOf m) q i n) (S : Stamped s p c z m q e) where
   pub read-idles : n .tag ≡ 13 → (o : Words) → wordsOf o ≡ kindIn (kindsOf z (tablesOf m)) (nth (operandsOf p (rowOf n)) 0) → (eqb (o .tag) 8 && eqb (stampOf m i) (o .bits)) ≡ true
       → Passes s p c z (tablesOf m) i
   read-idles k o l g =
-      let b = both-so (eqb (o .tag) 8) (eqb (stampOf m i) (o .bits)) g in
+      let b = and-true (eqb (o .tag) 8) (eqb (stampOf m i) (o .bits)) g in
       let K : SettledFor s p c z (tablesOf m) (nameOf n) i (stampOf m i) =
       subst (λ (y : Record). SettledFor s p c z (tablesOf m) (nameOf y) i (stampOf m i)) (sym (its-record F)) (S .reads i (F .front .inside) (subst (λ (y : Record). y .tag ≡ 13) (its-record F) k)) in
       record { is = λ L room. read-passes n (visiting F .read) k o l (eqb-true (o .tag) 8 (b .0)) (subst (SettledFor s p c z (tablesOf m) (nameOf n) i) (eqb-true (stampOf m i) (o .bits) (b .1)) K) L }
 
   pub other-idles : (ltb (n .tag) 13 && eqb (stampOf m i) e) ≡ true → Passes s p c z (tablesOf m) i
   other-idles g =
-      let b = both-so (ltb (n .tag) 13) (eqb (stampOf m i) e) g in
+      let b = and-true (ltb (n .tag) 13) (eqb (stampOf m i) e) g in
       let I = S .dated .idle i (F .front .inside) (subst (λ (y : Record). y .tag < 13) (its-record F) (ltb-true (n .tag) 13 (b .0))) (eqb-true (stampOf m i) e (b .1)) in
       record { is = λ L room P v f q. I L room P v f (stateView z v (tablesOf m) q) refl refl refl }
 
@@ -107,7 +104,7 @@ module _ {s p : List ℕ} {c : Counts} {x u : List ℕ} {z : Sizes} {m : List �
   abbrev limits : Limits
   limits = F .analysed .indexed .limits
 
-  roomy : limits .worklist ≡ 16384
+  roomy : limits .worklist ≡ worklistMost
   roomy = F .analysed .indexed .suited .room .worklist
 
   abbrev before : Attrs → State
@@ -119,7 +116,10 @@ module _ {s p : List ℕ} {c : Counts} {x u : List ℕ} {z : Sizes} {m : List �
   module _ {a : Name} {b : ℕ} (S : SettledFor s p c z m a j b) where
     -- an instruction that sets no attribute
     other-settled : recordAt p i .tag ≤ 13 → SettledFor s p c z w a j b
-    other-settled t = record { is = λ P v f. visit-settled limits P (nameIn s a) j b i (before v) (stateView z v w r) (went-so P v f) (op-sets (recordAt p i) (row-read (F .analysed) (F .front .inside)) f t) apart (S .is P v f) }
+    other-settled t = record {
+      is = λ P v f. visit-settled limits P (nameIn s a) j b i (before v) (stateView z v w r) (went-so P v f)
+          (op-sets (recordAt p i) (row-read (F .analysed) (F .front .inside)) f t) apart (S .is P v f);
+    }
 
     -- a setting of a kind that the read's kind covers
     covered-settled : 13 < recordAt p i .tag → {k : Kind} → k ≡ kindIn (kindsOf z m) (nth (operandsOf p (rowOf (recordAt p i))) 1) → Covered (getD (kindsOf z w) j Empty) k → SettledFor s p c z w a j b
@@ -138,12 +138,13 @@ module _ {s p : List ℕ} {c : Counts} {x u : List ℕ} {z : Sizes} {m : List �
   quiet-settled l t e {b} S = record {
     is = λ P v f.
         visit-quiet limits P (nameIn s (nameOf (recordAt p j))) j b i _ (before v) (stateView z v w r) (went-so P v f) apart (read-op (recordAt p j) (row-read (F .analysed) l) f t)
-        (let y = insns-length z w r in let o = sym (insns-length z m q) ∙ ap length (front (F .front) (F .some)) in omega arith) (S .is P v f);
+        (let y = insns-length w r in let o = sym (insns-length m q) ∙ ap length (front (F .front) (F .some)) in omega arith) (S .is P v f);
   }
 
 -- ---- all stamps after a visit
 
-module _ {s p : List ℕ} {c : Counts} {x u : List ℕ} {z : Sizes} {m : List ℕ} {q : Regs} {i e : ℕ} {n : Record} {w : List ℕ} {t : Timed} (F : Facing s p c x u z (tablesOf m) q i n) (S : Stamped s p c z m q e)
+module _ {s p : List ℕ} {c : Counts} {x u : List ℕ} {z : Sizes} {m : List ℕ} {q : Regs} {i e : ℕ} {n : Record} {w : List ℕ} {t : Timed}
+    (F : Facing s p c x u z (tablesOf m) q i n) (S : Stamped s p c z m q e)
     (G : Visited s p c z (λ L P y. takeInsn L P (insnsIn y) y) m q w t) where
   abbrev Comes : List ℕ → Type 0
   Comes l = Timely s p c z (λ L P y. takeInsn L P (insnsIn y) y) m q l t
@@ -162,13 +163,13 @@ module _ {s p : List ℕ} {c : Counts} {x u : List ℕ} {z : Sizes} {m : List �
     pub held-on : StateHeld z (tablesOf w)
     held-on = let k = came .ok .ready in k .held
 
-    pub ring-on : r .insns .len ≤ 16384
+    pub ring-on : r .insns .len ≤ worklistMost
     ring-on = let k = came .ok .ready in k .insnLen
 
     dated : Dated s p c z w r (t .epoch)
     dated = subst (DatedIf s p c z w (t .epoch)) f (G .dated)
 
-    pub long-on : length w ≡ 54272
+    pub long-on : length w ≡ stateLen
     long-on = dated .long
 
     -- the stamps of reads are made anew, and all else stays
@@ -194,7 +195,7 @@ module _ {s p : List ℕ} {c : Counts} {x u : List ℕ} {z : Sizes} {m : List �
     other-on : recordAt p i .tag < 13 → Comes w
     other-on k = comes refl refl (λ j h. refl) (λ j a h. as-before h (other-settled F came (other-sort h (λ g. omega arith)) (S .reads j a h) (omega arith)))
 
-    pub read-on : n .tag ≡ 13 → {b : ℕ} → SettledFor s p c z (tablesOf w) (nameOf n) i b → Comes (set w (52224 + i) b)
+    pub read-on : n .tag ≡ 13 → {b : ℕ} → SettledFor s p c z (tablesOf w) (nameOf n) i b → Comes (set w (stampsAt + i) b)
     read-on k {b} K =
         let l = dated .long in
         let tag : recordAt p i .tag ≡ 13 = sym (ap (λ (y : Record). y .tag) (its-record F)) ∙ k in
@@ -204,9 +205,9 @@ module _ {s p : List ℕ} {c : Counts} {x u : List ℕ} {z : Sizes} {m : List �
         own = subst (λ (y : Record). SettledFor s p c z (tablesOf w) (nameOf y) i b) (its-record F) K
 
         go : (j : ℕ) → j < z .insns → recordAt p j .tag ≡ 13 → recordAt p i .tag ≡ 13 → (j ≡ i) ⊎ (j ≡ i → ⊥)
-            → SettledFor s p c z (tablesOf w) (nameOf (recordAt p j)) j (stampOf (set w (52224 + i) b) j)
+            → SettledFor s p c z (tablesOf w) (nameOf (recordAt p j)) j (stampOf (set w (stampsAt + i) b) j)
         go j a h tag (inl y) =
-            subst (λ (y : ℕ). SettledFor s p c z (tablesOf w) (nameOf (recordAt p y)) y (stampOf (set w (52224 + i) b) y)) (sym y)
+            subst (λ (y : ℕ). SettledFor s p c z (tablesOf w) (nameOf (recordAt p y)) y (stampOf (set w (stampsAt + i) b) y)) (sym y)
             (subst (SettledFor s p c z (tablesOf w) (nameOf (recordAt p i)) i) (sym (put-here w i b (dated .long) (few F))) own)
         go j a h tag (inr y) =
             subst (SettledFor s p c z (tablesOf w) (nameOf (recordAt p j)) j) (sym (put-other w i b (dated .long) j y)) (as-before h (other-settled F came y (S .reads j a h) (omega arith)))
@@ -247,7 +248,7 @@ module _ {s p : List ℕ} {c : Counts} {x u : List ℕ} {z : Sizes} {m : List �
 
     -- a setting that woke reads, and all else
     pub set-on : {v : Kind} {l : List ℕ} → (ltb 13 (n .tag) && not (eqb (r .insns .len + 1) (q .insns .len))) ≡ true → Decides p z (tablesOf m) n v → Unsettled p z v (z .insns) w l → Comes l
-    set-on h D U = let k = ltb-true 13 (n .tag) (both-so (ltb 13 (n .tag)) (not (eqb (r .insns .len + 1) (q .insns .len))) h .0) in unsettled-on k (D .value k) U
+    set-on h D U = let k = ltb-true 13 (n .tag) (and-true (ltb 13 (n .tag)) (not (eqb (r .insns .len + 1) (q .insns .len))) h .0) in unsettled-on k (D .value k) U
 
     pub rest-on : (n .tag ≡ 13 → ⊥) → (ltb 13 (n .tag) && not (eqb (r .insns .len + 1) (q .insns .len))) ≡ false → Comes w
     rest-on o h = go (ltb 13 (n .tag)) refl (eqb (r .insns .len + 1) (q .insns .len)) refl h
@@ -275,14 +276,14 @@ module _ {s p : List ℕ} {c : Counts} {z : Sizes} {m : List ℕ} {q : Regs} {t 
   timely-insn h d = record { step = insn-step z (tablesOf m) q b h (d .step); stamps = d .stamps }
 
   pub timely-block : {x u : List ℕ} {fits : Program → Attrs → Type 0} {w : List ℕ} {o : Acted} {e : ℕ} → t ≡ true → Analysed s p c x u z
-      → ((P : Program) (v : Attrs) → MachineFits s p c P v → fits P v) → Stamped s p c z m q e → length w ≡ length (take 52224 m)
-      → BlockStepped z fits (λ L P y. takeBlock L P (blocksIn y) y) (tablesOf m) q w o → Timely s p c z step m q (w ++ drop 52224 m) (record { went = o; epoch = e + 1 })
+      → ((P : Program) (v : Attrs) → MachineFits s p c P v → fits P v) → Stamped s p c z m q e → length w ≡ length (take stampsAt m)
+      → BlockStepped z fits (λ L P y. takeBlock L P (blocksIn y) y) (tablesOf m) q w o → Timely s p c z step m q (w ++ drop stampsAt m) (record { went = o; epoch = e + 1 })
   timely-block {x} {u} {fits} {w} {o} {e} h A f S same d = record {
     step = subst (λ (l : List ℕ). BlockStepped z (MachineFits s p c) step (tablesOf m) q l o) (sym tables) (block-step z (tablesOf m) q b h f d);
     stamps = go o refl (d .ok);
   }
     where
-      tables : tablesOf (w ++ drop 52224 m) ≡ w
+      tables : tablesOf (w ++ drop stampsAt m) ≡ w
       tables = back-tables m w (S .dated .long) same
 
       kept : {r : Regs} → o ≡ On r → {n : Name} {j y : ℕ} → SettledFor s p c z (tablesOf m) n j y → SettledFor s p c z w n j y
@@ -293,11 +294,11 @@ module _ {s p : List ℕ} {c : Counts} {z : Sizes} {m : List ℕ} {q : Regs} {t 
             (sym (d .is L (A .indexed .suited .room .worklist) P v (f P v a)) ∙ ap (λ (x : Acted). stateOf L P (went z v w x)) g) (K .is P v a);
       }
 
-      go : (y : Acted) → o ≡ y → ReadyNext z q w y → StampedIf s p c z (w ++ drop 52224 m) (e + 1) y
+      go : (y : Acted) → o ≡ y → ReadyNext z q w y → StampedIf s p c z (w ++ drop stampsAt m) (e + 1) y
       go (On r) g k = record {
         dated = stale (S .dated) (back-long m w (S .dated .long) same) (back-stamp m w (S .dated .long) same) (k .count);
         reads = λ j a i.
-            subst (SettledFor s p c z (tablesOf (w ++ drop 52224 m)) (nameOf (recordAt p j)) j) (sym (back-stamp m w (S .dated .long) same j))
+            subst (SettledFor s p c z (tablesOf (w ++ drop stampsAt m)) (nameOf (recordAt p j)) j) (sym (back-stamp m w (S .dated .long) same j))
             (subst (λ (l : List ℕ). SettledFor s p c z l (nameOf (recordAt p j)) j (stampOf m j)) (sym tables) (kept g (S .reads j a i)));
       }
       go (Refused n) g k = tt

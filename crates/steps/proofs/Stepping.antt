@@ -11,14 +11,12 @@ use lib.ListN.{length}
 use Rattle.rules.specs.Actions.{Answer}
 use Rattle.rules.specs.Program.{Limits, Program}
 use Rattle.rules.specs.Machine.{State, stateOf, takeBlock, takeInsn, drainBlock, step, visit, taken}
-use Rattle.memory.proofs.tables.Ring.{waiting-length}
 use Rattle.state.specs.declared.Sizes.{Sizes}
 use Rattle.state.specs.declared.Regs.{Regs}
 use Rattle.state.specs.declared.Acted.{Acted}
-use Rattle.state.specs.declared.Acted.the-variants.{On, Refused}
 use Rattle.state.specs.View.{Attrs, insnsOf, blocksOf, stateView, StateReady}
-use Rattle.state.specs.Changes.{went, ReadyAfter, StateDid, TookInsn}
-use Rattle.machine.specs.blocks.Blocks.{HasCode, CodeIs, blocksIn, ReadyNext, BlockStepped}
+use Rattle.state.specs.Changes.{went, StateDid, TookInsn}
+use Rattle.machine.specs.blocks.Blocks.{HasCode, CodeIs, blocksIn, BlockStepped}
 use Rattle.machine.proofs.blocks.Indexed.{has-code, code-is}
 use Rattle.program.specs.View.{ReadsInsn}
 use Rattle.program.specs.declared.Counts.{Counts}
@@ -26,13 +24,16 @@ use Rattle.program.specs.declared.Row.{Row}
 use Rattle.records.specs.Records.{rowOf}
 use Rattle.records.specs.declared.Record.{Record}
 use Rattle.records.proofs.Rows.{record-row}
+use Rattle.state.proofs.Pushes.{insns-length, blocks-length}
 use Rattle.machine.specs.Analysed.{Analysed, MachineFits}
-use Rattle.run.specs.Runs.{insnsIn, blockNext, RecordOf, Front}
+use Rattle.machine.proofs.blocks.Live.{next-ready}
+use Rattle.memory.specs.Layout.{blocksRoom}
+use Rattle.steps.specs.Steps.{insnsIn, blockNext, RecordOf, Front}
 
 -- ---- the chains of blocks
 
 module _ {s p : List ℕ} {c : Counts} {x u : List ℕ} {z : Sizes} {m : List ℕ} {q : Regs} (a : Analysed s p c x u z) (r : StateReady z m q) where
-  few : z .blocks ≤ 1024
+  few : z .blocks ≤ blocksRoom
   few = let h = r .held in h .blocks
 
   pub code-held : HasCode z x
@@ -55,10 +56,6 @@ first-of e = cc
 -- the instruction that is taken is the one in front
 pub front-insn : {z : Sizes} {m : List ℕ} {q a : Regs} {i : ℕ} → StateReady z m q → TookInsn z m q i a → Front z m q i
 front-insn r t = record { below = let h = r .held in omega (arith, t .below, h .insns); inside = λ _. t .below; is = λ _ j l e. first-of (sym e ∙ t .is) }
-
-next-ready : (z : Sizes) (q a : Regs) (w : List ℕ) (r : Acted) → a .count ≡ q .count + 1 → ReadyAfter z a w r → ReadyNext z q w r
-next-ready z q a w (On b) e h = record { ready = h .ready; count = h .count ∙ e }
-next-ready z q a w (Refused n) e h = tt
 
 pub take-front : (L : Limits) (p : Program) (i : ℕ) (l q : List ℕ) (s : State) → l ≡ i ∷ q → stateOf L p (visit L p i (taken false q (s .blockWorklist) s)) ≡ takeInsn L p l s
 take-front L p i l q s e = rw e
@@ -129,14 +126,6 @@ insn-by true false i h = (cc, λ e. cc)
 insn-by false b i h = (h, λ e. cc)
 
 module _ (z : Sizes) (m : List ℕ) (q : Regs) where
-  pub insns-length : length (insnsOf m q) ≡ q .insns .len
-  unfolding insnsOf
-  insns-length = waiting-length m 19456 (q .insns .head) (q .insns .len)
-
-  pub blocks-length : length (blocksOf m q) ≡ q .blocks .len
-  unfolding blocksOf
-  blocks-length = waiting-length m 35840 (q .blocks .head) (q .blocks .len)
-
   pub some-block : {t : 𝔹} → t ≡ blockNext q → t ≡ true → 0 < q .insns .len + q .blocks .len → 0 < q .blocks .len
   some-block e h lt = go (block-by (q .draining) (eqb (q .blocks .len) 0) (eqb (q .insns .len) 0) (sym e ∙ h))
     where
@@ -156,14 +145,14 @@ module _ (z : Sizes) (m : List ℕ) (q : Regs) where
     where
       go : (L : Limits) (p : Program) (v : Attrs) → (eqb (q .insns .len) 0 ≡ true) ⊎ ((q .draining ≡ true) × (eqb (q .blocks .len) 0 ≡ false))
           → step L p (stateView z v m q) ≡ takeBlock L p (blocksOf m q) (stateView z v m q)
-      go L p v (inl i) = last-block L p (stateView z v m q) (q .draining) refl (insns-length ∙ eqb-true (q .insns .len) 0 i)
-      go L p v (inr b) = draining-block L p (stateView z v m q) (b .0) (let k = positive (q .blocks .len) (b .1) in omega (arith, blocks-length))
+      go L p v (inl i) = last-block L p (stateView z v m q) (q .draining) refl (insns-length m q ∙ eqb-true (q .insns .len) 0 i)
+      go L p v (inr b) = draining-block L p (stateView z v m q) (b .0) (let k = positive (q .blocks .len) (b .1) in omega (arith, blocks-length m q))
 
   pub insn-step : {fits : Program → Attrs → Type 0} {t : 𝔹} {w : List ℕ} {r : Acted} → t ≡ blockNext q → t ≡ false
       → BlockStepped z fits (λ L P s. takeInsn L P (insnsIn s) s) m q w r → BlockStepped z fits step m q w r
   insn-step e h d =
       let b = insn-by (q .draining) (eqb (q .blocks .len) 0) (eqb (q .insns .len) 0) (sym e ∙ h) in
       record {
-        is = λ L room p v a. d .is L room p v a ∙ sym (next-insn L p (stateView z v m q) (q .draining) refl (λ k. blocks-length ∙ eqb-true (q .blocks .len) 0 (b .1 k)));
+        is = λ L room p v a. d .is L room p v a ∙ sym (next-insn L p (stateView z v m q) (q .draining) refl (λ k. blocks-length m q ∙ eqb-true (q .blocks .len) 0 (b .1 k)));
         ok = d .ok;
       }

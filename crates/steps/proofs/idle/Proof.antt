@@ -1,9 +1,10 @@
 -- `steps::idle` meets its contract. Assumes nothing.
-use Rattle.run.proofs.Kept.{few, its-operands, read-idles, other-idles}
+use Rattle.steps.proofs.Stamps.{few}
+use Rattle.steps.proofs.Kept.{its-operands, read-idles, other-idles}
 use native.Mathlib.Omega.{arith}
 use borrow.Author.Needs.{needs}
-use Rattle.run.proofs.idle.Statement.{statement}
-use Rattle.run.proofs.idle.Tie as tie
+use Rattle.steps.proofs.idle.Statement.{statement}
+use Rattle.steps.proofs.idle.Tie as tie
 
 slice-aggregate-operand-words : tie.Need-slice-aggregate-operand-words
 slice-aggregate-operand-words c = search needs

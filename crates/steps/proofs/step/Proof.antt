@@ -1,12 +1,12 @@
 -- `steps::step` meets its contract. Assumes nothing.
-use Rattle.run.proofs.Stamps.{skipped}
-use Rattle.run.proofs.Stepping.{code-held, code-fits, some-block}
-use Rattle.run.proofs.Kept.{facing, timely-insn, timely-block}
+use Rattle.steps.proofs.Stamps.{skipped}
+use Rattle.steps.proofs.Stepping.{code-held, code-fits, some-block}
+use Rattle.steps.proofs.Kept.{facing, timely-insn, timely-block}
 use native.Mathlib.Omega.{arith}
-use Rattle.run.specs.Stamps.{tablesOf}
+use Rattle.steps.specs.Stamps.{tablesOf}
 use borrow.Author.Needs.{needs}
-use Rattle.run.proofs.step.Statement.{statement}
-use Rattle.run.proofs.step.Tie as tie
+use Rattle.steps.proofs.step.Statement.{statement}
+use Rattle.steps.proofs.step.Tie as tie
 
 block-next-requires : tie.Need-block-next-requires
 block-next-requires c κs = search needs
@@ -20,8 +20,17 @@ slice-aggregate-step-block c = search needs
 step-block-requires : tie.Need-step-block-requires
 step-block-requires c κs =
     let next = c .before .before in
-    let start = next .before .before .before .before .before .before in
-    (start .pre .1 .1 .0, (code-held (start .pre .0) (start .pre .1 .1 .0), (some-block (start .args .sizes) (tablesOf (start .args .state .now)) (start .args .regs) (next .block-next .ensures) (c .before .if1 .taken) (start .pre .1 .1 .1 .0 .0), start .pre .1 .1 .1 .0 .1)))
+    let start = next .before .before .before .before .before .before in (
+      start .pre .1 .1 .0,
+      (
+        code-held (start .pre .0) (start .pre .1 .1 .0),
+        (
+          some-block (start .args .sizes) (tablesOf (start .args .state .now)) (start .args .regs) (next .block-next .ensures)
+              (c .before .if1 .taken) (start .pre .1 .1 .1 .0 .0),
+          start .pre .1 .1 .1 .0 .1,
+        ),
+      ),
+    )
 
 add-t19 : tie.Need-add-t19
 add-t19 c = let start = c .before .before .before .before .before .before .before .before .before .before .before in omega (arith, start .pre .1 .1 .1 .1 .1 .1 .dated .slow, start .pre .1 .1 .1 .0 .1)
@@ -55,7 +64,8 @@ take-insn-requires c κs =
     let next = c .before .before .before .before .before in
     let start = next .before .before .before .before .before .before in
     let front = start .pre .1 .1 .1 in
-    let faces = facing (start .pre .0) (start .pre .1 .0) (start .pre .1 .1 .0) (front .0 .1) (front .1 .0) (front .1 .1 .0) (next .block-next .ensures) (c .before .before .before .before .if1 .left) in
+    let faces = facing (start .pre .0) (start .pre .1 .0) (start .pre .1 .1 .0) (front .0 .1) (front .1 .0) (front .1 .1 .0)
+    (next .block-next .ensures) (c .before .before .before .before .if1 .left) in
     (faces .ready, (faces .some, faces .small))
 
 same-length-2 : tie.Need-same-length-2
@@ -66,7 +76,8 @@ returns-2 c =
     let next = c .before .before .before .before .before .before .before in
     let start = next .before .before .before .before .before .before in
     let front = start .pre .1 .1 .1 in
-    let faces = facing (start .pre .0) (start .pre .1 .0) (start .pre .1 .1 .0) (front .0 .1) (front .1 .0) (front .1 .1 .0) (next .block-next .ensures) (c .before .before .before .before .before .before .if1 .left) in
+    let faces = facing (start .pre .0) (start .pre .1 .0) (start .pre .1 .1 .0) (front .0 .1) (front .1 .0) (front .1 .1 .0)
+    (next .block-next .ensures) (c .before .before .before .before .before .before .if1 .left) in
     timely-insn (next .block-next .ensures) (c .before .before .before .before .before .before .if1 .left)
     (skipped (front .1 .1 .1) (c .before .before .before .before .idle .ensures (c .before .before .before .if2 .taken)) (faces .front) (c .before .take-insn .ensures))
 
@@ -75,7 +86,8 @@ visit-insn-requires c κs =
     let next = c .before .before .before .before .before in
     let start = next .before .before .before .before .before .before in
     let front = start .pre .1 .1 .1 in
-    let faces = facing (start .pre .0) (start .pre .1 .0) (start .pre .1 .1 .0) (front .0 .1) (front .1 .0) (front .1 .1 .0) (next .block-next .ensures) (c .before .before .before .before .if1 .left) in
+    let faces = facing (start .pre .0) (start .pre .1 .0) (start .pre .1 .1 .0) (front .0 .1) (front .1 .0) (front .1 .1 .0)
+    (next .block-next .ensures) (c .before .before .before .before .if1 .left) in
     (faces, front .1 .1 .1)
 
 same-length-3 : tie.Need-same-length-3

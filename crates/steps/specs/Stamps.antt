@@ -16,22 +16,25 @@ use Rattle.state.specs.View.{Attrs, kindsOf, liveOf, calledOf, insnsOf, stateVi
 use Rattle.machine.specs.blocks.Blocks.{BlockStepped}
 use Rattle.machine.specs.Analysed.{MachineFits}
 use Rattle.settled.specs.Reads.{nameOf, SettledFor}
-use Rattle.run.specs.declared.Timed.{Timed}
-pub use Rattle.settled.specs.Reads.{stampsAt, tablesOf, stampOf}
+use Rattle.memory.specs.Layout.{instructionsMost, worklistMost}
+use Rattle.state.specs.Layout.{stampsAt}
+use Rattle.steps.specs.declared.Timed.{Timed}
+pub use Rattle.settled.specs.Reads.{tablesOf, stampOf}
 
 -- a visit of i leaves every state as it is that has the kinds, the live blocks and the callers of these tables
 abbrev pub Idles : List ℕ → List ℕ → Counts → Sizes → List ℕ → ℕ → Type 0
 Idles s p c z m i =
-    (L : Limits) → L .worklist ≡ 16384 → (P : Program) (v : Attrs) → MachineFits s p c P v → (t : State) → t .kinds ≡ kindsOf z m → t .live ≡ liveOf z m → t .calledBy ≡ calledOf z m → visit L P i
+    (L : Limits) → L .worklist ≡ worklistMost → (P : Program) (v : Attrs) → MachineFits s p c P v → (t : State) → t .kinds ≡ kindsOf z m
+    → t .live ≡ liveOf z m → t .calledBy ≡ calledOf z m → visit L P i
     t ≡ answered (tt, t)
 
 -- a visit of i leaves the state of these tables as it is, whatever waits
 pub record Passes (s p : List ℕ) (c : Counts) (z : Sizes) (m : List ℕ) (i : ℕ) : Type 0 where
-  pub is : (L : Limits) → L .worklist ≡ 16384 → (P : Program) (v : Attrs) → MachineFits s p c P v → (q : Regs) → visit L P i (stateView z v m q) ≡ answered (tt, stateView z v m q)
+  pub is : (L : Limits) → L .worklist ≡ worklistMost → (P : Program) (v : Attrs) → MachineFits s p c P v → (q : Regs) → visit L P i (stateView z v m q) ≡ answered (tt, stateView z v m q)
 
 -- no instruction is stamped
 pub record StampsFresh (z : Sizes) (m : List ℕ) (q : Regs) : Type 0 where
-  pub long : length m ≡ stampsAt + 2048
+  pub long : length m ≡ stampsAt + instructionsMost
   pub ready : StateReady z (tablesOf m) q
   pub none : (i : ℕ) → i < z .insns → stampOf m i ≡ 0
 
@@ -42,7 +45,7 @@ pub record Fronts (z : Sizes) (m : List ℕ) (q : Regs) (i : ℕ) : Type 0 where
 
 -- of the instructions that neither read nor set an attribute: no stamp is of a later epoch, and one of this epoch says that a visit would do nothing; the epoch rises no faster than the count
 pub record Dated (s p : List ℕ) (c : Counts) (z : Sizes) (m : List ℕ) (q : Regs) (epoch : ℕ) : Type 0 where
-  pub long : length m ≡ stampsAt + 2048
+  pub long : length m ≡ stampsAt + instructionsMost
   pub past : (i : ℕ) → i < z .insns → recordAt p i .tag < 13 → stampOf m i ≤ epoch
   pub idle : (i : ℕ) → i < z .insns → recordAt p i .tag < 13 → stampOf m i ≡ epoch → Idles s p c z (tablesOf m) i
   pub slow : epoch ≤ q .count + 1

@@ -1,8 +1,8 @@
 -- `steps::step_insn` meets its contract. Assumes nothing.
-use Rattle.run.proofs.Stepping.{front-row, insn-stepped}
+use Rattle.steps.proofs.Stepping.{front-row, insn-stepped}
 use borrow.Author.Needs.{needs}
-use Rattle.run.proofs.step_insn.Statement.{statement}
-use Rattle.run.proofs.step_insn.Tie as tie
+use Rattle.steps.proofs.step_insn.Statement.{statement}
+use Rattle.steps.proofs.step_insn.Tie as tie
 
 take-insn-requires : tie.Need-take-insn-requires
 take-insn-requires c κs = search needs
@@ -14,8 +14,19 @@ visit-requires : tie.Need-visit-requires
 visit-requires c κs =
     let at-row = c .before in
     let at-take-insn = at-row .before .before .before in
-    let start = at-take-insn .before .before .before .before .before .before .before in
-    (start .pre .0, (start .pre .1 .0, (at-take-insn .take-insn .ensures .ready, (at-take-insn .take-insn .ensures .below, front-row (start .pre .0) (at-take-insn .take-insn .ensures) (start .pre .1 .1 .1 .1) (at-row .row .ensures)))))
+    let start = at-take-insn .before .before .before .before .before .before .before in (
+      start .pre .0,
+      (
+        start .pre .1 .0,
+        (
+          at-take-insn .take-insn .ensures .ready,
+          (
+            at-take-insn .take-insn .ensures .below,
+            front-row (start .pre .0) (at-take-insn .take-insn .ensures) (start .pre .1 .1 .1 .1) (at-row .row .ensures),
+          ),
+        ),
+      ),
+    )
 
 same-length : tie.Need-same-length
 same-length c = search needs

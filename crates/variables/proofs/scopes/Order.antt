@@ -63,14 +63,6 @@ precedes-self a = by (stands a a)
     by (behind p q r s) = p
 
 module _ (a b : List ℕ) where
-  pub same-eq : same a b ≡ true → a ≡ b
-  same-eq e = by (stands a b)
-    where
-      by : OrderStands a b → a ≡ b
-      by (before p q r s) = impossible e r
-      by (equal p q r) = p
-      by (behind p q r s) = impossible e r
-
   pub below-not : precedes a b ≡ true → precedes b a ≡ false
   below-not p = by (stands a b)
     where

@@ -5,30 +5,26 @@ use mathlib.Core.Bool.{Bool, true, false, not}
 use mathlib.Core.List.{[], _∷_}
 use mathlib.Core.Option.{Option, none, some}
 use lib.Dec.{ltb, leb}
-use lib.IntN.{ℤ, pos, negsuc}
 use lib.ListN.{length}
 use borrow.Author.Tests.{eq-eqb}
-use Rattle.numbers.specs.Numbers.{sameℤ}
+use Rattle.numbers.proofs.Laws.{same-reflℤ}
 use Rattle.kinds.specs.Kinds.{tagOf, numberOf, sameOf}
 use Rattle.rules.specs.Actions.{choose, Answer, answered, refused, ifAnswered, _>>=_, _>>_, ask, give, change}
 use Rattle.rules.specs.Lists.{same, precedes, orElse}
 use Rattle.rules.specs.Program.{Limits, Name, Opnd, Const, Insn, Op, Phi, sameOpnd, about, terminated, listedCount}
 use Rattle.rules.specs.Program as P
 use Rattle.rules.specs.Reading.{Env, Parser, Reads, withEnv, withProgram, theEnv, lookup, bind, nil, valueOrNil, allKeys, pushInsn, push, phi, joinVars}
-use Rattle.variables.specs.scopes.Order.{OrderStands, before, equal, behind, stands, below-same}
-use Rattle.variables.specs.scopes.Sorted.{Above, Sorted, above-trans, lookup-here, lookup-on, absent, bind-sorted, bound, unbound, none-some, rebound}
-use Rattle.variables.specs.scopes.Made.{Bindings, over, envOf, over-sorted, env-sorted, all-over, or, lookup-over, lookup-env, over-env}
-use Rattle.variables.specs.scopes.Rows.{above-all, all-left, all-right, all-both}
+use Rattle.variables.specs.Scopes.{Above, Sorted, Bindings, over, envOf, joinOne, joinRows}
+use Rattle.variables.proofs.scopes.Order.{OrderStands, before, equal, behind, stands, below-same}
+use Rattle.variables.proofs.scopes.Sorted.{above-trans, lookup-here, lookup-on, absent, bind-sorted, bound, unbound, none-some, rebound}
+use Rattle.variables.proofs.scopes.Made.{over-sorted, env-sorted, all-over, or, lookup-over, lookup-env, over-env}
+use Rattle.variables.proofs.scopes.Rows.{above-all, all-left, all-right, all-both}
 
 -- ---- equal operands need no join
 
-same-number : (z : ℤ) → sameℤ z z ≡ true
-same-number (pos a) = eq-eqb a a refl
-same-number (negsuc a) = eq-eqb a a refl
-
 pub same-opnd : (v : Opnd) → sameOpnd v v ≡ true
 unfolding sameOf
-same-opnd (Const k) = rw (eq-eqb (tagOf k) (tagOf k) refl, same-number (numberOf k))
+same-opnd (Const k) = rw (eq-eqb (tagOf k) (tagOf k) refl, same-reflℤ (numberOf k))
 same-opnd (Insn i) = eq-eqb i i refl
 
 -- ---- a join leaves the variables alone
@@ -68,13 +64,6 @@ module _ (L : Limits) where
   pub phi-same : (b : ℕ) (v : Opnd) (c : ℕ) (st : Parser) → phi L b v c v st ≡ answered (v, st)
   unfolding phi
   phi-same b v c st = rw (same-opnd v)
-
--- The name k, which is v in one arm and w in the other, is joined, and bound in the environment in force.
-unfoldable pub joinOne : Limits → ℕ → ℕ → Name → Opnd → Opnd → Reads (Unit {0})
-joinOne L b c k v w = do
-  u ← phi L b v c w
-  e ← theEnv
-  change (withEnv (bind k u e))
 
 module _ (L : Limits) (b : ℕ) (l : Env) (c : ℕ) (r : Env) where
   abbrev joinName : Name → Reads (Unit {0})
@@ -248,10 +237,6 @@ module _ (L : Limits) (b c : ℕ) (left right : Bindings) (e : Env) where
   }
 
 -- ---- the join of two rows
-
--- The rows l and r are what the arms set, over the environment `base`; their names are joined, rising.
-unfoldable pub joinRows : Limits → ℕ → ℕ → Env → Env → Env → Reads (Unit {0})
-joinRows L b c base l r = joinVars L b (over l base) c (over r base) (allKeys l r)
 
 module _ (L : Limits) (b c : ℕ) (right : Bindings) (st : Parser) (s : Sorted (st .env)) where
   -- it is the rules' join of all names that are bound in either arm

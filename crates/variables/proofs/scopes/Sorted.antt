@@ -6,16 +6,8 @@ use mathlib.Core.Option.{Option, none, some}
 use Rattle.rules.specs.Lists.{same, precedes}
 use Rattle.rules.specs.Program.{Name, Opnd}
 use Rattle.rules.specs.Reading.{Env, lookup, bind}
-use Rattle.variables.specs.scopes.Order.{impossible, OrderStands, before, equal, behind, stands, same-self, precedes-trans}
-
--- every name of e is above k
-abbrev pub Above : Name → Env → Type 0
-Above k [] = Unit {0}
-Above k (x ∷ e) = (precedes k (x .0) ≡ true) × Above k e
-
-abbrev pub Sorted : Env → Type 0
-Sorted [] = Unit {0}
-Sorted (x ∷ e) = Above (x .0) e × Sorted e
+use Rattle.variables.proofs.scopes.Order.{impossible, OrderStands, before, equal, behind, stands, same-self, precedes-trans}
+use Rattle.variables.specs.Scopes.{Above, Sorted}
 
 pub above-trans : (j k : Name) (e : Env) → precedes j k ≡ true → Above k e → Above j e
 above-trans j k [] p a = tt

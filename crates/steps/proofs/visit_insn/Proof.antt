@@ -1,11 +1,13 @@
 -- `steps::visit_insn` meets its contract. Assumes nothing.
-use Rattle.run.proofs.Kept.{few, its-operands, stamp-asked, long-on, held-on, ring-on, read-on, set-on, rest-on, visit-refused}
+use Rattle.steps.proofs.Stamps.{few}
+use Rattle.steps.proofs.Kept.{its-operands, stamp-asked, long-on, held-on, ring-on, read-on, set-on, rest-on, visit-refused}
 use mathlib.Core.Path.{sym}
 use native.Mathlib.Omega.{arith}
 use lib.Seq.{length-take-le}
 use borrow.Author.Needs.{needs}
-use Rattle.run.proofs.visit_insn.Statement.{statement}
-use Rattle.run.proofs.visit_insn.Tie as tie
+use Rattle.steps.proofs.visit_insn.Statement.{statement}
+use Rattle.steps.proofs.visit_insn.Tie as tie
+use Rattle.state.specs.Layout.{stampsAt}
 
 slice-reshare-prefix-decisive-words : tie.Need-slice-reshare-prefix-decisive-words
 slice-reshare-prefix-decisive-words c = search needs
@@ -34,7 +36,7 @@ slice-aggregate-stamp c =
     let met = c .before .before .before .before in
     let visit = met .before .before .before .before in
     let start = visit .before .before .before .before .before .before .before .before .before in
-    sym (length-take-le 52224 (visit .visit-timed .last .1 .1 .1 .1 .1 .0) (omega (arith, long-on (start .pre .0) (start .pre .1) (visit .visit-timed .ensures) (met .went .given .1))))
+    sym (length-take-le stampsAt (visit .visit-timed .last .1 .1 .1 .1 .1 .0) (omega (arith, long-on (start .pre .0) (start .pre .1) (visit .visit-timed .ensures) (met .went .given .1))))
 
 cast-t27 : tie.Need-cast-t27
 cast-t27 c = let start = c .before .before .before .before .before .before .before .before .before .before .before .before .before .before .before .before .before in omega (arith, few (start .pre .0))
@@ -48,10 +50,14 @@ stamp-requires c κs =
     stamp-asked (start .pre .0) (c .before .if1 .taken) (held-on (start .pre .0) (start .pre .1) (visit .visit-timed .ensures) (met .went .given .1)) (words .result) (words .ensures)
 
 add-state : tie.Need-add-state
-add-state c = let start = c .before .before .before .before .before .before .before .before .before .before .before .before .before .before .before .before .before .before in omega (arith, few (start .pre .0))
+add-state c = let start =
+    c .before .before .before .before .before .before .before .before .before .before .before .before .before .before .before .before .before .before in
+    omega (arith, few (start .pre .0))
 
 mul-state : tie.Need-mul-state
-mul-state c = let start = c .before .before .before .before .before .before .before .before .before .before .before .before .before .before .before .before .before .before in omega (arith, few (start .pre .0))
+mul-state c = let start =
+    c .before .before .before .before .before .before .before .before .before .before .before .before .before .before .before .before .before .before in
+    omega (arith, few (start .pre .0))
 
 slice-write-state : tie.Need-slice-write-state
 slice-write-state c =
@@ -81,8 +87,13 @@ unsettle-requires : tie.Need-unsettle-requires
 unsettle-requires c κs =
     let met = c .before .before .before .before .before .before .before .before in
     let visit = met .before .before .before .before in
-    let start = visit .before .before .before .before .before .before .before .before .before in
-    (start .pre .0 .analysed .indexed .ready .len-mem, (long-on (start .pre .0) (start .pre .1) (visit .visit-timed .ensures) (met .went .given .1), held-on (start .pre .0) (start .pre .1) (visit .visit-timed .ensures) (met .went .given .1)))
+    let start = visit .before .before .before .before .before .before .before .before .before in (
+      start .pre .0 .analysed .indexed .ready .len-mem,
+      (
+        long-on (start .pre .0) (start .pre .1) (visit .visit-timed .ensures) (met .went .given .1),
+        held-on (start .pre .0) (start .pre .1) (visit .visit-timed .ensures) (met .went .given .1),
+      ),
+    )
 
 same-length-2 : tie.Need-same-length-2
 same-length-2 c = search needs

@@ -5,8 +5,9 @@ use mathlib.Core.List.{[], _∷_, _++_}
 use Rattle.rules.specs.Lists.{precedes}
 use Rattle.rules.specs.Program.{Name, Opnd}
 use Rattle.rules.specs.Reading.{Env, bind, allKeys}
-use Rattle.variables.specs.scopes.Order.{same-self, precedes-self, precedes-trans, below-not, below-differ}
-use Rattle.variables.specs.scopes.Sorted.{Above, Sorted, bind-front, bind-here, bind-behind, bind-above}
+use Rattle.variables.specs.Scopes.{Above, Sorted}
+use Rattle.variables.proofs.scopes.Order.{same-self, precedes-self, precedes-trans, below-not, below-differ}
+use Rattle.variables.proofs.scopes.Sorted.{bind-front, bind-here, bind-behind, bind-above}
 
 -- every name of e is below k
 abbrev pub RowBelow : Env → Name → Type 0
