@@ -17,7 +17,7 @@ use program::Counts;
 use state::Acted;
 
 // "Answered", or the number of the question that was answered "no".
-#[derive(Drop)]
+#[derive(Clone, Copy)]
 pub enum Outcome {
     Answered,
     Refused(u8),

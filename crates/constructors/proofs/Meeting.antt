@@ -1,5 +1,5 @@
 -- What is set before a block: the meet over the blocks done that lead to it. Assumes nothing.
-use mathlib.Core.Bool.{Bool as 𝔹, true, false, ◌&&◌, ◌||◌, or_false_lem}
+use mathlib.Core.Bool.{Bool as 𝔹, true, false, ◌&&◌, ◌||◌, or-false}
 use mathlib.Core.Option.{Option, none, some}
 use mathlib.Core.Path.{◌≡◌, refl, sym, ap, ap₂, ◌∙◌}
 use mathlib.Core.List.{List, [], ◌∷◌}
@@ -75,10 +75,10 @@ holds-full a h =
 -- ---- where a block leads
 
 pub leads_jump : {e : Ends} {a : BlockId} (t : ℕ) → e ≡ Jump a → eqb t a.0 ≡ any (eqb t) (targets e)
-leads_jump {e} {a} t q = rw q (sym (or_false_lem (eqb t a.0)))
+leads_jump {e} {a} t q = rw q (sym (or-false (eqb t a.0)))
 
 pub leads_if : {e : Ends} {a b : BlockId} (t : ℕ) → e ≡ IfTrue a b → (eqb t a.0 || eqb t b.0) ≡ any (eqb t) (targets e)
-leads_if {e} {a} {b} t q = rw q (ap (λ z. eqb t a.0 || z) (sym (or_false_lem (eqb t b.0))))
+leads_if {e} {a} {b} t q = rw q (ap (λ z. eqb t a.0 || z) (sym (or-false (eqb t b.0))))
 
 -- ---- the loop
 

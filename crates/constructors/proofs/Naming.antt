@@ -1,5 +1,5 @@
 -- The attribute places that bear a name. Assumes nothing.
-use mathlib.Core.Bool.{Bool as 𝔹, true, false, not, cond, ◌&&◌, ◌||◌, or_true_lem, or_false_lem}
+use mathlib.Core.Bool.{Bool as 𝔹, true, false, not, cond, ◌&&◌, ◌||◌, or-true, or-false}
 use mathlib.Core.Option.{Option, none, some}
 use mathlib.Core.Path.{◌≡◌, refl, sym, ap, ap₂, ◌∙◌}
 use mathlib.Core.List.{List, [], ◌∷◌}
@@ -95,7 +95,7 @@ module _ {s m : List ℕ} {k start len bits found a : ℕ} (z : Naming s m k sta
       record {
         high = omega arith;
         places = λ x h. z.places x h ∙ up x;
-        some = more-some ∙ (ap (λ y. any (λ x. same x (name s start len)) (tab (ivar_in s m k) a) || y) f ∙ (or_false_lem (any (λ x. same x (name s start len)) (tab (ivar_in s m k) a)) ∙ z.some));
+        some = more-some ∙ (ap (λ y. any (λ x. same x (name s start len)) (tab (ivar_in s m k) a) || y) f ∙ (or-false (any (λ x. same x (name s start len)) (tab (ivar_in s m k) a)) ∙ z.some));
       }
     where
       and-false : (t : 𝔹) → (t && false) ≡ false
@@ -119,7 +119,7 @@ module _ {s m : List ℕ} {k start len bits found a : ℕ} (z : Naming s m k sta
       record {
         high = omega arith;
         places = λ x h. holds_or x bits bit ∙ (ap₂ {C = 𝔹} (λ y w. y || w) (z.places x h) (ap (holds x) l ∙ holds_one x a) ∙ up x);
-        some = more-some ∙ (ap (λ y. any (λ x. same x (name s start len)) (tab (ivar_in s m k) a) || y) f ∙ or_true_lem (any (λ x. same x (name s start len)) (tab (ivar_in s m k) a)));
+        some = more-some ∙ (ap (λ y. any (λ x. same x (name s start len)) (tab (ivar_in s m k) a) || y) f ∙ or-true (any (λ x. same x (name s start len)) (tab (ivar_in s m k) a)));
       }
     where
       up : (x : ℕ) → ((ltb x a && same (ivar_in s m k x) (name s start len)) || eqb x a) ≡ (ltb x (a + 1) && same (ivar_in s m k x) (name s start len))
@@ -127,9 +127,9 @@ module _ {s m : List ℕ} {k start len bits found a : ℕ} (z : Naming s m k sta
         | yes q ↦
             let a-name : same (ivar_in s m k x) (name s start len) ≡ true = ap (λ y. same (ivar_in s m k y) (name s start len)) q ∙ (sym e ∙ f) in
             ap (λ y. (ltb x a && same (ivar_in s m k x) (name s start len)) || y)
-            (eq-eqb x a q) ∙ (or_true_lem (ltb x a && same (ivar_in s m k x) (name s start len)) ∙ sym (ap₂ {C = 𝔹} (λ y w. y && w) (lt-ltb x (a + 1) (omega arith)) a-name))
+            (eq-eqb x a q) ∙ (or-true (ltb x a && same (ivar_in s m k x) (name s start len)) ∙ sym (ap₂ {C = 𝔹} (λ y w. y && w) (lt-ltb x (a + 1) (omega arith)) a-name))
         | no q ↦ ap (λ y. (ltb x a && same (ivar_in s m k x) (name s start len)) || y)
-            (ne_eqb x a q) ∙ (or_false_lem (ltb x a && same (ivar_in s m k x) (name s start len)) ∙ ap (λ y. y && same (ivar_in s m k x) (name s start len)) (same_side x q))
+            (ne_eqb x a q) ∙ (or-false (ltb x a && same (ivar_in s m k x) (name s start len)) ∙ ap (λ y. y && same (ivar_in s m k x) (name s start len)) (same_side x q))
       ]
         where
           same_side : (x : ℕ) → (x ≡ a → ⊥) → ltb x a ≡ ltb x (a + 1)

@@ -1,5 +1,5 @@
 -- What a block sets, and what all blocks surely set. Assumes nothing.
-use mathlib.Core.Bool.{Bool as 𝔹, true, false, not, ◌&&◌, ◌||◌, or_false_lem}
+use mathlib.Core.Bool.{Bool as 𝔹, true, false, not, ◌&&◌, ◌||◌, or-false}
 use mathlib.Core.Option.{Option, none, some}
 use mathlib.Core.Path.{◌≡◌, refl, sym, ap, ap₂, ◌∙◌, subst}
 use mathlib.Core.List.{List, [], ◌∷◌, ◌++◌, map}
@@ -109,7 +109,7 @@ module _ {s m x : List ℕ} {c : Counts} {k b bits h : ℕ} (z : Setting s m x c
         asked = sym (sym (ap (λ l. all_declared s m c k (names_of (program_view s m c) l)) e) ∙ z.asked);
         bits = λ o q a l.
             let i : bits ≡ o = cc in
-            ap (holds a) (sym i) ∙ (sym (or_false_lem (holds a bits)) ∙ (sym (ap (λ (l : List ℕ). holds a bits || any (same (ivar_in s m k a)) (names_of (program_view s m c) l)) e) ∙ z.sets a l));
+            ap (holds a) (sym i) ∙ (sym (or-false (holds a bits)) ∙ (sym (ap (λ (l : List ℕ). holds a bits || any (same (ivar_in s m k a)) (names_of (program_view s m c) l)) e) ∙ z.sets a l));
       }
 
   module _ (g : h < c.insns) {r : Row} {t : SetName} (re : r ≡ insn_at m h) (te : t ≡ set_name r.op) where

@@ -1,5 +1,5 @@
 -- What each way through the walk shows, on plain values. Assumes nothing.
-use mathlib.Core.Bool.{Bool as 𝔹, true, false, not, cond, or_true_lem}
+use mathlib.Core.Bool.{Bool as 𝔹, true, false, not, cond, or-true}
 use mathlib.Core.Path.{◌≡◌, refl, sym, ap, ap₂, ◌∙◌, subst}
 use mathlib.Core.List.{List, [], ◌∷◌}
 use Prim.Native.Nat.{ℕ, zero, suc, ◌+◌, ◌-◌, ◌*◌, ◌≤◌, ◌<◌}
@@ -226,7 +226,7 @@ module _ {m : List ℕ} {c : Counts} {w : List ℕ} {n b : ℕ} {r : Ends} (ok :
     then_inside {u} q = inn.inside [] b t.0 l (rw (leads (t.0 ∷ u.0 ∷ []) (ap targets q) [], eq-eqb t.0 t.0 refl) refl)
 
     pub else_inside : {u : BlockId} → r ≡ IfTrue u t → t.0 < c.blocks
-    else_inside {u} q = inn.inside [] b t.0 l (rw (leads (u.0 ∷ t.0 ∷ []) (ap targets q) [], eq-eqb t.0 t.0 refl) (or_true_lem (eqb t.0 u.0)))
+    else_inside {u} q = inn.inside [] b t.0 l (rw (leads (u.0 ∷ t.0 ∷ []) (ap targets q) [], eq-eqb t.0 t.0 refl) (or-true (eqb t.0 u.0)))
 
 -- after visits: what the next call asks
 module _ (c : Counts) {w : List ℕ} {n b : ℕ} (ok : WalkGood c.blocks w n) (l : b < c.blocks) (e : get_or w b 0 ≡ 0) {F : List ℕ → ℕ → Walk → Walk}

@@ -24,7 +24,7 @@ pub const WORK: usize = OUTS + memory::BLOCKS_ROOM;
 const FULL: usize = 18446744073709551615;
 
 // How a block ends.
-#[derive(Drop)]
+#[derive(Clone, Copy)]
 pub enum Ends {
     Return,
     Jump(BlockId),
@@ -224,7 +224,7 @@ fn before(
 // ---- what a block sets
 
 // The attribute places of a class that bear a name, and whether there is one.
-#[derive(Drop)]
+#[derive(Clone, Copy)]
 pub struct Places {
     pub bits: usize,
     pub found: usize,
@@ -256,7 +256,7 @@ fn named(script: &[u8], program: &[usize], counts: Counts, k: ClassId, name: Nam
 }
 
 // The name of the attribute that an instruction sets.
-#[derive(Drop)]
+#[derive(Clone, Copy)]
 pub enum SetName {
     Of(Name),
     Nothing,
@@ -282,7 +282,7 @@ fn set_name(op: Op) -> SetName
 }
 
 // The attributes of class k that a block sets, or that one of them is not declared.
-#[derive(Drop)]
+#[derive(Clone, Copy)]
 pub enum Sets {
     Bits(usize),
     Undeclared,
@@ -326,7 +326,7 @@ fn sets_of(
 // ---- what is surely set
 
 // The attributes that are set at every return, or that a block reached sets one that is not declared.
-#[derive(Drop)]
+#[derive(Clone, Copy)]
 pub enum Sure {
     Set(usize),
     Undeclared,

@@ -24,7 +24,7 @@ use program::{Callee, Counts, Given, Limits, Name, NewInsn, Op, Opnd, Owner};
 pub const STACK: usize = variables::SIZE;
 
 // The SelfParam of the method being read.
-#[derive(Drop)]
+#[derive(Clone, Copy)]
 pub enum SelfAt {
     At(InsnId),
     Nobody,
@@ -32,7 +32,7 @@ pub enum SelfAt {
 
 // The place in the script; the tables' counts; the class and the receiver of the method being read; the block that takes
 // instructions; how many variables are bound, where the rows set aside end, how many call arguments wait.
-#[derive(Drop)]
+#[derive(Clone, Copy)]
 pub struct Cursor {
     pub at: usize,
     pub counts: Counts,
@@ -45,26 +45,26 @@ pub struct Cursor {
 }
 
 // An operand and the cursor behind it, or the number of a refusal.
-#[derive(Drop)]
+#[derive(Clone, Copy)]
 pub enum Parsed {
     Done(Cursor, Opnd),
     Refused(usize),
 }
 
-#[derive(Drop)]
+#[derive(Clone, Copy)]
 pub enum Moved {
     On(Cursor),
     Refused(usize),
 }
 
-#[derive(Drop)]
+#[derive(Clone, Copy)]
 pub enum Ident {
     Found(Cursor, Name),
     Refused(usize),
 }
 
 // Whether the next word is the one asked for; if so it is taken.
-#[derive(Drop)]
+#[derive(Clone, Copy)]
 pub enum Matched {
     Yes(Cursor),
     Not,
@@ -72,7 +72,7 @@ pub enum Matched {
 }
 
 // What stands behind an operand.
-#[derive(Drop)]
+#[derive(Clone, Copy)]
 pub enum Suffix {
     Operator(Arith, usize),
     Call,
@@ -81,7 +81,7 @@ pub enum Suffix {
 }
 
 // The function that an operand names.
-#[derive(Drop)]
+#[derive(Clone, Copy)]
 pub enum Called {
     Fun(FunId),
     Other,

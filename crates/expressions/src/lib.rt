@@ -15,7 +15,7 @@ use lexer::{Glimpse, Lexed, Word};
 use program::{Given, Limits, Op, Opnd};
 
 // After one argument: on to the next, or the end of the arguments.
-#[derive(Drop)]
+#[derive(Clone, Copy)]
 enum ArgTurn {
     Again(Cursor),
     Ends(Cursor),
@@ -23,14 +23,14 @@ enum ArgTurn {
 }
 
 // How many arguments stand behind those that wait.
-#[derive(Drop)]
+#[derive(Clone, Copy)]
 enum Args {
     Done(Cursor, usize),
     Refused(usize),
 }
 
 // After one thing behind an operand.
-#[derive(Drop)]
+#[derive(Clone, Copy)]
 enum Suffixed {
     Again(Cursor, Opnd),
     Ends,

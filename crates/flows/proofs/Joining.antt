@@ -1,5 +1,5 @@
 -- join_sets at the heads of its loops. Assumes nothing.
-use mathlib.Core.Bool.{Bool as 𝔹, true, false, cond, ◌||◌, or_false_lem}
+use mathlib.Core.Bool.{Bool as 𝔹, true, false, cond, ◌||◌, or-false}
 use mathlib.Core.Path.{◌≡◌, refl, sym, ap, ap₂, ◌∙◌}
 use mathlib.Core.List.{List, [], ◌∷◌, ◌++◌, map}
 use Prim.Native.Nat.{ℕ, zero, suc, ◌+◌, ◌-◌, ◌*◌, ◌≤◌, ◌<◌}
@@ -56,7 +56,7 @@ module _ (ks : List Kind) (b : 𝔹) (s : ℕ) where
   unfolding kind_from
   absorbed_none =
       let e : kind_in ks (opnd_of (operand_of (record { tag = 0; bits = 0 }))) ≡ Empty = ap (λ (o : Opnd). kind_in ks (opnd_of o)) (sym (opnd_const 0 (λ h. omega arith) refl)) in
-      record { classes = 0; is = ap as_set e; within = or_zero_r s; known = ap (λ (k : Kind). b || is_set k) e ∙ or_false_lem b }
+      record { classes = 0; is = ap as_set e; within = or_zero_r s; known = ap (λ (k : Kind). b || is_set k) e ∙ or-false b }
 
   absorbed_next : (o : Words) (t : ℕ) → as_set (kind_in ks (opnd_of (operand_of o))) ≡ Set t → Absorbed ks (b || is_set (kind_in ks (opnd_of (operand_of o)))) (bit_or s t) o
   absorbed_next o t e = record { classes = t; is = e; within = or_assoc s t t ∙ ap (bit_or s) (or_self t); known = or_again b (is_set (kind_in ks (opnd_of (operand_of o)))) }

@@ -1,5 +1,5 @@
 -- Where no kind is a name or Any, and one is a set, their union is the union of their classes, in any order. Assumes nothing.
-use mathlib.Core.Bool.{Bool as 𝔹, true, false, cond, ◌||◌, or_self as or-self𝔹, or_false_lem}
+use mathlib.Core.Bool.{Bool as 𝔹, true, false, cond, ◌||◌, or_self as or-self𝔹, or-false}
 use mathlib.Core.Path.{◌≡◌, refl, sym, ap, ◌∙◌}
 use mathlib.Core.List.{List, [], ◌∷◌, map}
 use Prim.Native.Nat.{ℕ, ◌<◌, ◌≤◌}
@@ -19,7 +19,7 @@ use Rattle.kinds.proofs.Laws.{union-plain, union-sets, lub-plain}
 use Rattle.kinds.proofs.Steps.{empty_is}
 use Rattle.rules.specs.Program.{Opnd, Const, Insn, same_opnd}
 use Rattle.rules.specs.Machine.{opnd_set}
-use Rattle.rules.proofs.Wellformed.Tests.{or_false_lem as or_parts}
+use Rattle.rules.proofs.Wellformed.Tests.{or-false as or_parts}
 use Rattle.machine.specs.opnds.Reads.{kind_in}
 use Rattle.flows.specs.declared.AsSet.{AsSet}
 use Rattle.flows.specs.declared.AsSet.TheVariants.{Set, Other}
@@ -148,7 +148,7 @@ module _ (ks : List Kind) where
       c = classes_are (kind o) u e
 
       go : Either (is_empty (kind o)) → Holds (take ks n t o) (b || is_set (kind o)) (bit_or s u)
-      go (yes p) = let k = empty_is (kind o) p in rw (take_empty ks n t o k, c.1, k, or_zero_r s, or_false_lem b) h
+      go (yes p) = let k = empty_is (kind o) p in rw (take_empty ks n t o k, c.1, k, or_zero_r s, or-false b) h
       go (no p) = rw (take_one n t o f p (not-any (kind o) u e), c.1) (add_holds b s t o c.0 p h)
 
   holds-close : (t : Tally) (b : 𝔹) (s r : ℕ) → cond b s 0 ≡ r → 0 < r → Holds t b s → Of (Objects r) ≡ close ks t

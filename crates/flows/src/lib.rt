@@ -17,7 +17,7 @@ use program::{Counts, Opnd};
 use state::{NextInsn, Sizes};
 
 // What was met so far: no operand, one operand and its kind, or the union of several.
-#[derive(Drop)]
+#[derive(Clone, Copy)]
 pub enum Tally {
     Nothing,
     One(Opnd, Kind),
@@ -25,7 +25,7 @@ pub enum Tally {
 }
 
 // A pass finds the least instruction whose kind is Any, and takes what stands before its bound. The first has no bound; where it finds an Any, that is the bound of a second.
-#[derive(Drop)]
+#[derive(Clone, Copy)]
 pub struct Pass {
     pub bound: usize,
     pub least: usize,
@@ -33,14 +33,14 @@ pub struct Pass {
 }
 
 // The byte and payload of a kind, or of an operand.
-#[derive(Drop)]
+#[derive(Clone, Copy)]
 pub struct Words {
     pub tag: usize,
     pub bits: usize,
 }
 
 // The classes of a kind, or that it is a name or Any.
-#[derive(Drop)]
+#[derive(Clone, Copy)]
 pub enum AsSet {
     Set(u64),
     Other,

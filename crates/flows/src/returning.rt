@@ -12,7 +12,7 @@ use program::{Counts, Opnd};
 use state::Sizes;
 
 // The classes of the kinds met so far and whether one was a set, or that a kind was a name or Any.
-#[derive(Drop)]
+#[derive(Clone, Copy)]
 enum Met {
     Classes(bool, u64),
     Other,

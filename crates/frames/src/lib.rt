@@ -11,7 +11,7 @@ use ids::{BlockId, FunId, InsnId};
 pub const LINE_MOST: usize = 32;
 
 // The next frame to write: the totals; a block's; an instruction's kind; its use at a place of the users' table; a function's from a caller on.
-#[derive(Drop)]
+#[derive(Clone, Copy)]
 pub enum NextFrame {
     Totals,
     Block(BlockId),
@@ -22,7 +22,7 @@ pub enum NextFrame {
 }
 
 // How far the writing came: the next frame, and the bytes written.
-#[derive(Drop)]
+#[derive(Clone, Copy)]
 pub struct Reach {
     pub next: NextFrame,
     pub len: usize,

@@ -16,7 +16,7 @@ use program::{Counts, Given, Limits, Name, NewFun, NewInsn, Op, Opnd, Owner};
 const STACK: usize = cursor::STACK;
 
 // A function and the cursor behind its name, or the number of a refusal.
-#[derive(Drop)]
+#[derive(Clone, Copy)]
 pub enum OpenedFun {
     Done(Cursor, FunId),
     Refused(usize),

@@ -3,7 +3,7 @@ use Prim.Native.Nat.{ℕ, ◌≤◌, ◌<◌}
 use native.Mathlib.Omega.{arith}
 use mathlib.Core.Path.{◌≡◌, refl, sym, ap, ◌∙◌, subst}
 use mathlib.Core.Logic.{◌⊎◌, inl, inr}
-use mathlib.Core.Bool.{Bool as 𝔹, true, false, ◌||◌, or_true_lem, true≢false, false≢true}
+use mathlib.Core.Bool.{Bool as 𝔹, true, false, ◌||◌, or-true, true≢false, false≢true}
 use mathlib.Core.Option.{none, some}
 use mathlib.Core.List.Memᴰ
 use mathlib.Core.List.{List, [], ◌∷◌, ◌++◌}
@@ -49,7 +49,7 @@ covered-union {k} {j} c = go (either (is_name k)) (either (is_empty j)) (either 
     go (yes m) (yes x) y z = ap (union_of k) (empty_is j x) ∙ union_empty_r k
     go (yes m) (no x) (yes y) z = absurd (true≢false (sym m ∙ ap is_name (empty_is k y)))
     go (yes m) (no x) (no y) (yes z) = absurd (true≢false (sym m ∙ ap is_name (sym (same_eq j k z)) ∙ c.plain))
-    go (yes m) (no x) (no y) (no z) = low m (lub_mix j k x y ∙ mix_alone j k z (rw m (or_true_lem (is_name j || is_any j))))
+    go (yes m) (no x) (no y) (no z) = low m (lub_mix j k x y ∙ mix_alone j k z (rw m (or-true (is_name j || is_any j))))
 
 covered_empty : (k : Kind) → Covered k Empty
 covered_empty k = record { plain = refl; below = below_empty k }

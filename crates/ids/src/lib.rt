@@ -1,19 +1,21 @@
 // The numbers of a program's things, and sets of classes.
+#![tactic(auto)]
+
 ghost use Rattle.std.specs.Prelude.{◌≡◌, ◌<◌};
 ghost use Rattle.std.specs.Int.Count.{ones};
 ghost use Rattle.ids.specs.Sets.{one_of, two_of, next_of};
 
 // A class, a function, a block and an instruction: four types, so that no number is used for another sort of thing.
-#[derive(Drop)]
+#[derive(Clone, Copy)]
 pub struct ClassId(pub u32);
 
-#[derive(Drop)]
+#[derive(Clone, Copy)]
 pub struct FunId(pub u32);
 
-#[derive(Drop)]
+#[derive(Clone, Copy)]
 pub struct BlockId(pub u32);
 
-#[derive(Drop)]
+#[derive(Clone, Copy)]
 pub struct InsnId(pub u32);
 
 impl ClassId {
@@ -27,7 +29,7 @@ impl ClassId {
 }
 
 // A step of the walk through a set: its smallest class and the set without it.
-#[derive(Drop)]
+#[derive(Clone, Copy)]
 pub enum NextClass {
     Member(ClassId, u64),
     Done,

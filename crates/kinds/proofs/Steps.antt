@@ -1,6 +1,6 @@
 -- The ways through `mix`, `union`, `by_union` and `combine`, on plain values: each flag is a callee's answer. Assumes nothing.
 use mathlib.Core.Path.{◌≡◌, refl, sym, ap, ap₂, ◌∙◌}
-use mathlib.Core.Bool.{Bool as 𝔹, true, false, ◌&&◌, ◌||◌, or_true_lem, or_false_lem}
+use mathlib.Core.Bool.{Bool as 𝔹, true, false, ◌&&◌, ◌||◌, or-true, or-false}
 use Prim.Native.Nat.{ℕ}
 use lib.IntN.{ℤ}
 use lib.Bits.{bit_or}
@@ -78,8 +78,8 @@ module _ (a b : Kind) where
       go : Either (same_kind a b) → Either (is_any a) → mix_of a b ≡ Any
       go (yes s) (yes q) = sym (mix_same s) ∙ any-is a q
       go (yes s) (no q) = sym (mix_same s) ∙ same_eq a b s ∙ any-is b (rw q at p)
-      go (no s) (yes q) = mix_alone s (rw (q, or_true_lem (is_name a)))
-      go (no s) (no q) = let r : is_any b ≡ true = rw q at p in mix_alone s (rw (r, or_true_lem (is_name b), or_true_lem (is_alone a)))
+      go (no s) (yes q) = mix_alone s (rw (q, or-true (is_name a)))
+      go (no s) (no q) = let r : is_any b ≡ true = rw q at p in mix_alone s (rw (r, or-true (is_name b), or-true (is_alone a)))
 
   module _ (p : (is_alone a || is_alone b) ≡ false) (s : same_kind a b ≡ false) where
     pub mix_number : (is_number a && is_number b) ≡ true → Int ≡ mix_of a b
@@ -100,7 +100,7 @@ module _ (a b : Kind) where
     where
       go : Either (is_empty a) → Either (is_empty b) → lub a b ≡ Any
       go (yes e) f = rw e (any-is b (rw (empty_is a e) at p))
-      go (no e) (yes f) = rw (e, f) (any-is a (rw (empty_is b f, or_false_lem (is_any a)) at p))
+      go (no e) (yes f) = rw (e, f) (any-is a (rw (empty_is b f, or-false (is_any a)) at p))
       go (no e) (no f) = rw (e, f) (mix_any p)
 
   pub union-any : (is_any a || is_any b) ≡ true → Of Any ≡ union_of a b

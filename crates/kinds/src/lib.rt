@@ -1,4 +1,6 @@
 // The kinds of values that the analysis tells apart, their union, and arithmetic on them.
+#![tactic(auto)]
+
 ghost use Rattle.std.specs.Prelude.{◌≡◌, true, false, ◌||◌, ◌<◌};
 ghost use Rattle.numbers.specs.Numbers.{fit_within};
 ghost use Rattle.ids.specs.Sets.{one_of, two_of};
@@ -9,7 +11,7 @@ ghost use Rattle.kinds.specs.Rules.{known_in, kind_of, result_of, wide_of, by_un
 use ids::{ClassId, FunId};
 use numbers::Fit;
 
-#[derive(Drop)]
+#[derive(Clone, Copy)]
 pub enum Kind {
     Empty,
     Nil,
@@ -24,14 +26,14 @@ pub enum Kind {
 }
 
 // A kind, or the number of a refusal.
-#[derive(Drop)]
+#[derive(Clone, Copy)]
 pub enum Joined {
     Of(Kind),
     Refused(usize),
 }
 
 // The operations on numbers.
-#[derive(Drop)]
+#[derive(Clone, Copy)]
 pub enum Arith {
     Add,
     Sub,
@@ -40,7 +42,7 @@ pub enum Arith {
 }
 
 // The number that a kind knows.
-#[derive(Drop)]
+#[derive(Clone, Copy)]
 pub enum Known {
     Number(i64),
     Other,

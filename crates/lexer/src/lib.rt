@@ -35,7 +35,7 @@ const MOST: u64 = 9223372036854775807;
 const MOST_TENS: u64 = 922337203685477580;
 
 // A word: its kind, a literal's value, its place in the script and the place behind it.
-#[derive(Drop)]
+#[derive(Clone, Copy)]
 pub struct Word {
     pub kind: u8,
     pub value: u64,
@@ -45,14 +45,14 @@ pub struct Word {
 }
 
 // A word, or the number of a refusal.
-#[derive(Drop)]
+#[derive(Clone, Copy)]
 pub enum Lexed {
     Found(Word),
     Refused(usize),
 }
 
 // A sign and the place behind it, any other word, or the number of a refusal.
-#[derive(Drop)]
+#[derive(Clone, Copy)]
 pub enum Glimpse {
     Sign(u8, usize),
     Other,
@@ -60,7 +60,7 @@ pub enum Glimpse {
 }
 
 // A literal's value, where i64 holds it.
-#[derive(Drop)]
+#[derive(Clone, Copy)]
 pub enum Number {
     Of(u64),
     Over,
@@ -381,7 +381,7 @@ fn sign_at(script: &[u8], at: usize) -> Glimpse
 // ---- the reader
 
 // A script and a place in it.
-#[derive(Drop)]
+#[derive(Clone, Copy)]
 pub struct Reader<'a> {
     pub src: &'a [u8],
     pub at: usize,

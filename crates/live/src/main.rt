@@ -10,7 +10,7 @@ use printing::Told;
 use streams::Input;
 
 // How many bytes were read and what was written of their script, or that they couldn't be read.
-#[derive(Drop)]
+#[derive(Clone, Copy)]
 enum Ran {
     Answer(usize, Told),
     Unread,

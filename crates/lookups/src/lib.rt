@@ -11,32 +11,32 @@ ghost use Rattle.lookups.specs.Look.{fun_found, ivar_found, fun_row, ivar_row, i
 use ids::{BlockId, ClassId, FunId};
 use program::{Counts, Limits, Name, Owner};
 
-#[derive(Drop)]
+#[derive(Clone, Copy)]
 pub enum FoundFun {
     At(FunId),
     Nothing,
 }
 
-#[derive(Drop)]
+#[derive(Clone, Copy)]
 pub enum Constructor {
     At(FunId, Name),
     Nothing,
 }
 
-#[derive(Drop)]
+#[derive(Clone, Copy)]
 pub enum FoundClass {
     At(ClassId),
     Nothing,
 }
 
 // An attribute's place in its class.
-#[derive(Drop)]
+#[derive(Clone, Copy)]
 pub enum FoundIvar {
     At(usize),
     Nothing,
 }
 
-#[derive(Drop)]
+#[derive(Clone, Copy)]
 pub enum Declared {
     Done,
     Refused(usize),

@@ -7,7 +7,7 @@ use program::Opnd;
 use state::Sizes;
 
 // The set of a receiver's classes, or 14.
-#[derive(Drop)]
+#[derive(Clone, Copy)]
 pub enum ReceiverClasses {
     Classes(u64),
     Refused(usize),

@@ -5,14 +5,14 @@ ghost use Rattle.memory.specs.tables.Tables.{listed};
 ghost use Rattle.memory.specs.tables.Bits.{bit_at, with_bit, Next, RowWord, LowestBit};
 
 // The next set bit of a row.
-#[derive(Drop)]
+#[derive(Clone, Copy)]
 pub enum FoundBit {
     At(usize),
     Nothing,
 }
 
 // The lowest bit of a word, and the word without it.
-#[derive(Drop)]
+#[derive(Clone, Copy)]
 pub struct Lowest {
     pub place: usize,
     pub rest: usize,

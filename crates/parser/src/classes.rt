@@ -16,7 +16,7 @@ use lookups::{Declared, FoundClass, FoundFun};
 use program::{Limits, NewClass, Owner};
 
 // One thing was read, or the end of things: the cursor behind it, or the number of a refusal.
-#[derive(Drop)]
+#[derive(Clone, Copy)]
 pub enum Turned {
     Again(Cursor),
     Ends(Cursor),

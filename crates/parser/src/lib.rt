@@ -22,7 +22,7 @@ use lexer::Lexed;
 use program::{Counts, Limits, Owner};
 
 // The tables' counts, or the number of a refusal.
-#[derive(Drop)]
+#[derive(Clone, Copy)]
 pub enum ReadOutcome {
     Finished(Counts),
     Refused(usize),

@@ -14,21 +14,21 @@ use ids::{BlockId, InsnId};
 use program::{Counts, Given, Limits, NewInsn, Op, Opnd};
 use variables::{FoundVar, Joint, NextJoin, Stored};
 
-#[derive(Drop)]
+#[derive(Clone, Copy)]
 pub enum Var {
     At(Opnd),
     Unbound,
 }
 
 // An operand and the counts after it, or the number of a refusal.
-#[derive(Drop)]
+#[derive(Clone, Copy)]
 pub enum NewPhi {
     Of(Opnd, Counts),
     Refused(usize),
 }
 
 // How many bindings there are, and the counts, or the number of a refusal.
-#[derive(Drop)]
+#[derive(Clone, Copy)]
 pub enum JoinedVars {
     On(usize, Counts),
     Refused(usize),
@@ -92,7 +92,7 @@ pub fn get_var(script: &[u8], scratch: &[usize], n: usize, a: usize, k: usize) -
 const FEW: usize = 8;
 
 // The block that takes instructions, and the blocks of the two sides.
-#[derive(Drop)]
+#[derive(Clone, Copy)]
 pub struct Blocks {
     pub at: BlockId,
     pub left: BlockId,
@@ -100,7 +100,7 @@ pub struct Blocks {
 }
 
 // Two rows that are set aside: where each begins, and how many entries it has.
-#[derive(Drop)]
+#[derive(Clone, Copy)]
 pub struct Sides {
     pub lo: usize,
     pub ln: usize,

@@ -12,7 +12,7 @@ use frames::NextFrame;
 use libc::STDOUT_FILENO;
 
 // A piece of the frames: the next frame behind it, its length, and how many of its bytes the output took.
-#[derive(Drop)]
+#[derive(Clone, Copy)]
 pub struct Piece {
     pub next: NextFrame,
     pub len: usize,
@@ -20,14 +20,14 @@ pub struct Piece {
 }
 
 // How many bytes the output took: all, or fewer.
-#[derive(Drop)]
+#[derive(Clone, Copy)]
 pub enum Sent {
     All(usize),
     Part(usize),
 }
 
 // What was written of a script: all frames of its answer, or the frame of its refusal, so many bytes; or fewer.
-#[derive(Drop)]
+#[derive(Clone, Copy)]
 pub enum Told {
     Answered(usize),
     Refused(u8, usize),

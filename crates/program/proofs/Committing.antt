@@ -1,5 +1,5 @@
 -- An instruction that is added: what the row and the flag make of the program. Assumes nothing.
-use mathlib.Core.Bool.{Bool, true, false, ◌&&◌, ◌||◌, or_true_lem, or_false_lem, or_assoc}
+use mathlib.Core.Bool.{Bool, true, false, ◌&&◌, ◌||◌, or-true, or-false, or_assoc}
 use mathlib.Core.Path.{◌≡◌, refl, sym, ap, ◌∙◌}
 use mathlib.Core.List.{List, [], ◌∷◌, ◌++◌, map}
 use Prim.Native.Nat.{ℕ, ◌+◌, ◌*◌, ◌≤◌, ◌<◌}
@@ -29,7 +29,7 @@ use Rattle.program.proofs.Viewing.{instructions-more}
 -- ---- what the rules ask of one instruction more
 
 pub any_snoc : {A : Type 0} (f : A → Bool) (l : List A) (x : A) → any f (l ++ x ∷ []) ≡ (any f l || f x)
-any_snoc f [] x = or_false_lem (f x)
+any_snoc f [] x = or-false (f x)
 any_snoc f (y ∷ l) x = rw (any_snoc f l x) (sym (or_assoc (f y) (any f l) (f x)))
 
 pub terminated-more : (p : P.Program) (x : P.Instruction) (b : ℕ)
@@ -94,10 +94,10 @@ flag_is : (l : List ℕ) (g d : ℕ) → blocks_at + 2 * g + 1 < length l → (t
     → flag_at (set l (blocks_at + 2 * g + 1) 1) d ≡ bit_of (t || (eqb g d && f))
 flag_is l g d long t f e x =
     elim (ℕ_discrete g d) [
-      | yes y ↦ rw (eq-eqb g d y, x, ← y) (get_or-set_same l (blocks_at + 2 * g + 1) 1 0 long ∙ sym (ap bit_of (or_true_lem t)))
+      | yes y ↦ rw (eq-eqb g d y, x, ← y) (get_or-set_same l (blocks_at + 2 * g + 1) 1 0 long ∙ sym (ap bit_of (or-true t)))
       | no y ↦
           rw (ne_eqb g d y)
-          (get_or-set_other l (blocks_at + 2 * g + 1) (blocks_at + 2 * d + 1) 1 0 (λ z. y (omega arith)) ∙ e ∙ sym (ap bit_of (or_false_lem t)))
+          (get_or-set_other l (blocks_at + 2 * g + 1) (blocks_at + 2 * d + 1) 1 0 (λ z. y (omega arith)) ∙ e ∙ sym (ap bit_of (or-false t)))
     ]
 
 flag_keeps : {m : List ℕ} {c : Counts} → ProgramReady m c → (l : List ℕ) (d : ℕ) → d < c.blocks → Keeps c l (set l (blocks_at + 2 * d + 1) 1)

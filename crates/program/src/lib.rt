@@ -74,21 +74,21 @@ pub const IVARS: usize = CLASSES + CLASS_WORDS * memory::CLASSES_MOST;
 pub const SIZE: usize = IVARS + IVAR_ROW_WORDS * memory::CLASSES_MOST;
 
 // A place in the script.
-#[derive(Drop)]
+#[derive(Clone, Copy)]
 pub struct Name {
     pub start: usize,
     pub len: usize,
 }
 
 // A constant, or the result of an instruction.
-#[derive(Drop)]
+#[derive(Clone, Copy)]
 pub enum Opnd {
     Const(Kind),
     Insn(InsnId),
 }
 
 // The sorts of instructions, without their operands.
-#[derive(Drop)]
+#[derive(Clone, Copy)]
 pub enum Op {
     Jump(BlockId),
     IfTrue(BlockId, BlockId),
@@ -105,7 +105,7 @@ pub enum Op {
 }
 
 // An instruction: its operands are a part of the operand table.
-#[derive(Drop)]
+#[derive(Clone, Copy)]
 pub struct Row {
     pub block: BlockId,
     pub op: Op,
@@ -114,13 +114,13 @@ pub struct Row {
 }
 
 // The class of a method.
-#[derive(Drop)]
+#[derive(Clone, Copy)]
 pub enum Owner {
     Class(ClassId),
     Nobody,
 }
 
-#[derive(Drop)]
+#[derive(Clone, Copy)]
 pub struct Function {
     pub name: Name,
     pub class: Owner,
@@ -128,7 +128,7 @@ pub struct Function {
 }
 
 // The operands of an instruction that is no call.
-#[derive(Drop)]
+#[derive(Clone, Copy)]
 pub enum Given {
     Zero,
     One(Opnd),
@@ -136,14 +136,14 @@ pub enum Given {
 }
 
 // Whom a call calls: a function, or the method of a name on a receiver.
-#[derive(Drop)]
+#[derive(Clone, Copy)]
 pub enum Callee {
     Static(FunId),
     Dynamic(Opnd, Name),
 }
 
 // How many rows of each table are in use, and how many operands are call arguments or join operands.
-#[derive(Drop)]
+#[derive(Clone, Copy)]
 pub struct Counts {
     pub functions: usize,
     pub classes: usize,
@@ -154,7 +154,7 @@ pub struct Counts {
 }
 
 // 01's limits, none above the tables' room; those of the script's length, of the depth and of the lists are no concern of the tables.
-#[derive(Drop)]
+#[derive(Clone, Copy)]
 pub struct Limits {
     pub script: usize,
     pub functions: usize,
@@ -202,25 +202,25 @@ pub fn same_opnd(v: Opnd, w: Opnd) -> bool
 }
 
 // The number of what was added and the counts after it, or the number of a refusal.
-#[derive(Drop)]
+#[derive(Clone, Copy)]
 pub enum NewInsn {
     Added(InsnId, Counts),
     Refused(usize),
 }
 
-#[derive(Drop)]
+#[derive(Clone, Copy)]
 pub enum NewBlock {
     Added(BlockId, Counts),
     Refused(usize),
 }
 
-#[derive(Drop)]
+#[derive(Clone, Copy)]
 pub enum NewFun {
     Added(FunId, BlockId, Counts),
     Refused(usize),
 }
 
-#[derive(Drop)]
+#[derive(Clone, Copy)]
 pub enum NewClass {
     Added(ClassId, Counts),
     Refused(usize),
@@ -228,13 +228,13 @@ pub enum NewClass {
 
 // ---- stored forms
 
-#[derive(Drop)]
+#[derive(Clone, Copy)]
 struct OpndWords {
     tag: usize,
     bits: usize,
 }
 
-#[derive(Drop)]
+#[derive(Clone, Copy)]
 struct OpWords {
     tag: usize,
     x: usize,

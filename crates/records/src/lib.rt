@@ -8,7 +8,7 @@ use ids::BlockId;
 use program::{Counts, Row};
 
 // An instruction's record, in plain numbers.
-#[derive(Drop)]
+#[derive(Clone, Copy)]
 pub struct Record {
     pub tag: usize,
     pub block: usize,

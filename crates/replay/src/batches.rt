@@ -99,7 +99,7 @@ pub fn put_attribute(
 // ---- batches
 
 // What became of a script of the batch: it was read, and is this long; there is none; or why a program stops.
-#[derive(Drop)]
+#[derive(Clone, Copy)]
 pub enum BatchTurn {
     Script(usize),
     Ended,

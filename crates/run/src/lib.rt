@@ -14,7 +14,7 @@ use state::{Acted, Regs, Sizes};
 pub const STAMPS: usize = steps::STAMPS;
 
 // Where a run stands: it goes on, and insn is the instruction of its next step, 0 where that takes a block; or it has ended. The epoch rises whenever kinds, live blocks or callers may have changed.
-#[derive(Drop)]
+#[derive(Clone, Copy)]
 pub struct Turn {
     pub going: bool,
     pub insn: usize,

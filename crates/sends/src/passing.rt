@@ -16,7 +16,7 @@ use program::Counts;
 use state::{Acted, Regs, Sizes};
 
 // Whether a kind covers another: surely, surely not, or a quick test doesn't tell.
-#[derive(Drop)]
+#[derive(Clone, Copy)]
 enum Covers {
     Yes,
     No,

@@ -12,7 +12,7 @@ use memory::ROW_WORDS;
 use memory::tables::FoundBit;
 
 // How many things the program has.
-#[derive(Drop)]
+#[derive(Clone, Copy)]
 pub struct Sizes {
     pub functions: usize,
     pub classes: usize,
@@ -21,13 +21,13 @@ pub struct Sizes {
 }
 
 // Where a worklist starts in its ring, and how many entries wait.
-#[derive(Drop)]
+#[derive(Clone, Copy)]
 pub struct Ring {
     pub head: usize,
     pub len: usize,
 }
 
-#[derive(Drop)]
+#[derive(Clone, Copy)]
 pub struct Regs {
     pub insns: Ring,
     pub blocks: Ring,
@@ -36,26 +36,26 @@ pub struct Regs {
 }
 
 // What a change that can fail gives: the registers after it, or a refusal's number.
-#[derive(Drop)]
+#[derive(Clone, Copy)]
 pub enum Acted {
     On(Regs),
     Refused(usize),
 }
 
 // The next instruction of a walk.
-#[derive(Drop)]
+#[derive(Clone, Copy)]
 pub enum NextInsn {
     Place(InsnId),
     Done,
 }
 
-#[derive(Drop)]
+#[derive(Clone, Copy)]
 pub struct TakenInsn {
     pub insn: InsnId,
     pub q: Regs,
 }
 
-#[derive(Drop)]
+#[derive(Clone, Copy)]
 pub struct TakenBlock {
     pub block: BlockId,
     pub q: Regs,

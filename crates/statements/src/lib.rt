@@ -19,7 +19,7 @@ use phis::{Blocks, JoinedVars, NewPhi};
 use program::{Given, Limits, NewBlock, NewInsn, Op, Opnd};
 
 // A block and the cursor behind its opening, or the number of a refusal.
-#[derive(Drop)]
+#[derive(Clone, Copy)]
 pub enum Opened {
     On(Cursor, BlockId),
     Refused(usize),
@@ -27,7 +27,7 @@ pub enum Opened {
 
 // What an `if` keeps while its arms are read: the condition, the blocks of the then arm and of the join, and of the then arm its
 // last block and its value.
-#[derive(Drop)]
+#[derive(Clone, Copy)]
 pub struct Branch {
     pub cond: Opnd,
     pub first: BlockId,
@@ -37,7 +37,7 @@ pub struct Branch {
 }
 
 // Whether statements end at the next word; if not, that word.
-#[derive(Drop)]
+#[derive(Clone, Copy)]
 pub enum Stops {
     Here,
     Not(Word),

@@ -16,7 +16,7 @@ use state::{Acted, Regs, Sizes};
 pub const STAMPS: usize = settled::STAMPS;
 
 // What a step came to, and the epoch after it.
-#[derive(Drop)]
+#[derive(Clone, Copy)]
 pub struct Timed {
     pub went: Acted,
     pub epoch: usize,

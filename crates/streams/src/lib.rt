@@ -8,7 +8,7 @@ use libc::STDIN_FILENO;
 const TRIES: usize = 10000;
 
 // How many bytes were read, or that a read failed.
-#[derive(Drop)]
+#[derive(Clone, Copy)]
 pub enum Input {
     Read(usize),
     Failed,

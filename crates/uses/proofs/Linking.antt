@@ -1,5 +1,5 @@
 -- What each way through the linking shows, on plain values. Assumes nothing.
-use mathlib.Core.Bool.{Bool as 𝔹, true, false, cond, ◌||◌, or_true_lem, or_false_lem}
+use mathlib.Core.Bool.{Bool as 𝔹, true, false, cond, ◌||◌, or-true, or-false}
 use mathlib.Core.Path.{◌≡◌, refl, sym, ap, ap₂, ◌∙◌, subst}
 use mathlib.Core.List.{List, [], ◌∷◌}
 use Prim.Native.Nat.{ℕ, zero, suc, ◌+◌, ◌-◌, ◌*◌, ◌≤◌, ◌<◌, min}
@@ -189,7 +189,7 @@ module _ {m : List ℕ} {n i used a : ℕ} {w₀ w : List ℕ} {e q : ℕ} (z : 
         record {
           len-same = z.len-same;
           len = z.len;
-          cells = λ j h. rw (more j, f j h, or_false_lem (names_to m i q j)) (z.cells j h);
+          cells = λ j h. rw (more j, f j h, or-false (names_to m i q j)) (z.cells j h);
           room = omega (arith, z.room);
           few = z.few;
           high = omega arith;
@@ -207,7 +207,7 @@ module _ {m : List ℕ} {n i used a : ℕ} {w₀ w : List ℕ} {e q : ℕ} (z : 
         → Cells w' r (get_or w' t.0 0) (cons_if (names_to m i (q + 1) t.0) i (pick (uses_at m t.0) (i + 1) (n - (i + 1))))
     linked {t} y f p =
         let name : names t.0 o ≡ true = ap (names t.0) y ∙ eq-eqb t.0 t.0 refl in
-        rw (more t.0, name, or_true_lem (names_to m i q t.0))
+        rw (more t.0, name, or-true (names_to m i q t.0))
         (rw (front-more (names_to m i q t.0) i (uses_at m t.0) (i + 1) (n - (i + 1)) (omega arith)) at
         (p.own (cons_if (names_to m i q t.0) i (pick (uses_at m t.0) (i + 1) (n - (i + 1)))) (z.cells t.0 f)))
 
@@ -221,7 +221,7 @@ module _ {m : List ℕ} {n i used a : ℕ} {w₀ w : List ℕ} {e q : ℕ} (z : 
                 | yes x ↦ subst (λ (k : ℕ). Cells w' r (get_or w' k 0) (cons_if (names_to m i (q + 1) k) i (pick (uses_at m k) (i + 1) (n - (i + 1))))) (sym x) (linked y f p)
                 | no x ↦
                     let no_name : names j o ≡ false = ap (names j) y ∙ ne_eqb j t.0 x in
-                    rw (more j, no_name, or_false_lem (names_to m i q j)) (p.others j _ (omega arith) x (z.cells j h))
+                    rw (more j, no_name, or-false (names_to m i q j)) (p.others j _ (omega arith) x (z.cells j h))
               ];
           room = omega (arith, z.room, p.low);
           few = omega (arith, z.few, p.high);

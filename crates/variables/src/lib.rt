@@ -43,27 +43,27 @@ const LENGTH_ROOM: usize = 2 * memory::SCRIPT_MOST;
 const TAG_ROOM: usize = 16;
 
 // An operand as it is stored.
-#[derive(Drop)]
+#[derive(Clone, Copy)]
 pub struct Stored {
     pub tag: usize,
     pub bits: usize,
 }
 
-#[derive(Drop)]
+#[derive(Clone, Copy)]
 pub enum FoundVar {
     At(Stored),
     Nothing,
 }
 
 // Where in a row a name stands, or belongs.
-#[derive(Drop)]
+#[derive(Clone, Copy)]
 enum Spot {
     At(usize),
     New(usize),
 }
 
 // Which of two rows has the next name.
-#[derive(Drop)]
+#[derive(Clone, Copy)]
 enum Side {
     Left,
     Right,
@@ -72,7 +72,7 @@ enum Side {
 }
 
 // A name to join: its word, its operand on either side, and how many entries of each row it takes.
-#[derive(Drop)]
+#[derive(Clone, Copy)]
 pub struct Joint {
     pub word: usize,
     pub left: Stored,
@@ -81,7 +81,7 @@ pub struct Joint {
     pub rights: usize,
 }
 
-#[derive(Drop)]
+#[derive(Clone, Copy)]
 pub enum NextJoin {
     Join(Joint),
     Done,

@@ -14,7 +14,7 @@ use program::{Counts, Name, Op, Opnd, Row};
 use state::{Acted, Regs, Sizes};
 
 // What a rule gives: the registers after it and the instruction's kind, or a refusal's number.
-#[derive(Drop)]
+#[derive(Clone, Copy)]
 pub enum Ruled {
     On(Regs, Kind),
     Refused(usize),

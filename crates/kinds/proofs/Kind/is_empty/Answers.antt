@@ -1,0 +1,6 @@
+-- `kinds::Kind::is_empty` meets its contract. Assumes nothing.
+use borrow.Author.Rules.{rules}
+use Rattle.kinds.proofs.Kind.is_empty.Goals as goal
+
+pub returns : goal.returns
+returns c = cc

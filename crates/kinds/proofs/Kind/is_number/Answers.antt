@@ -1,0 +1,6 @@
+-- `kinds::Kind::is_number` meets its contract. Assumes nothing.
+use borrow.Author.Rules.{rules}
+use Rattle.kinds.proofs.Kind.is_number.Goals as goal
+
+pub returns : goal.returns
+returns c = cc
