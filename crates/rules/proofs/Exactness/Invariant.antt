@@ -369,7 +369,7 @@ module _ {L : Limits} {p : Program} (K : Laws (length p.classes)) (T : Tables p)
       cl b j e m (inr (inl z)) w = inr (inl (Memᴰ.append_left l z))
       cl b j e m (inr (inr d)) (inl w) = inr (inr (record { leads = λ x n. d.leads x (w.leads x n); passed = w.passed d.passed }))
       cl b j e m (inr (inr d)) (inr w) =
-          let a = T.Code-in b j m in
+          let a = T.code_in b j m in
           inr (inl (Memᴰ.append_right s.insn_worklist (∈-keep (λ j. get_or s.live (block_of p j) false) (uses p i) (T.in_uses i j a.0 (watched_used (op_of p j) (Insn i) w)) (rw a.1 e))))
 
   -- its kind is above the rule's already
@@ -464,8 +464,8 @@ module _ {L : Limits} {p : Program} (K : Laws (length p.classes)) (T : Tables p)
     pub inv_open : Inv L p [] (with_insns (s.insn_worklist ++ code p b) (set_live b (taken true s.insn_worklist w s)))
     inv_open = record {
       sound = λ i u h. v.sound i u (above_mono K L p s t up i (op_of p i) u h);
-      fits = λ j m. ∈-append s.insn_worklist (code p b) (λ n. fit j (v.fits j n)) (λ n. let a = T.Code-in b j n in inl (record { alive = rw a.1 lit; within = a.0 })) m;
-      queued = λ j m. ∈-append s.insn_worklist (code p b) (λ n. v.queued j n) (λ n. (T.Code-in b j n).0) m;
+      fits = λ j m. ∈-append s.insn_worklist (code p b) (λ n. fit j (v.fits j n)) (λ n. let a = T.code_in b j n in inl (record { alive = rw a.1 lit; within = a.0 })) m;
+      queued = λ j m. ∈-append s.insn_worklist (code p b) (λ n. v.queued j n) (λ n. (T.code_in b j n).0) m;
       callers = λ f c h. let a = v.callers f c h in record { soon = soon (entry p f) a.soon; placed = place c a.placed; call = a.call; by = a.by };
       readers = λ c i h. place i (v.readers c i h);
       reach = λ x h. re x h;
