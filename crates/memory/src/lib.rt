@@ -1,4 +1,6 @@
 // Lent memory, and clearing it.
+#![tactic(auto)]
+
 pub mod tables;
 
 ghost use Rattle.std.specs.Prelude.{◌≡◌, length};

@@ -1,0 +1,13 @@
+-- What the loop of `memory::tables::next_bit` keeps.
+use Prim.Native.Nat.{◌-◌, ◌+◌, ◌/◌}
+use Rattle.memory.proofs.tables.Bit.{zeros-fit, place-fits}
+use Rattle.memory.specs.tables.Bits.{bit_at}
+use Rattle.memory.proofs.tables.Walk.{Walked, walk_start, walk_end, walk-on, walk-found, walk-past}
+use borrow.Author.Rules.{rules}
+use Rattle.memory.proofs.tables.next_bit.Given as goal
+
+abbrev pub invariant-loop-i : goal.invariant-loop-i
+invariant-loop-i l = Walked (bit_at l.words l.base) l.n l.from l.i
+
+abbrev pub decreases-loop-i : goal.decreases-loop-i
+decreases-loop-i l = l.n - l.i
