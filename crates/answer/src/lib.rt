@@ -1,4 +1,6 @@
 // The answer memory: its layout, publishing into it, and reading it.
+#![tactic(auto)]
+
 ghost use Rattle.std.specs.Prelude.{◌≡◌, not, [], ◌∷◌, ◌+◌, ◌*◌, ◌/◌, ◌≤◌, ◌<◌, min, eqb, length};
 ghost use Rattle.memory.specs.Memory.{over};
 ghost use Rattle.memory.specs.Layout.{functions_most, blocks_most, instructions_most, uses_most};

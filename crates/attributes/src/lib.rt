@@ -1,4 +1,6 @@
 // Reading and setting an attribute, by the classes of its receiver.
+#![tactic(auto)]
+
 ghost use Rattle.std.specs.Prelude.{◌≡◌, ◌<◌};
 ghost use Rattle.ids.specs.Sets.{members_of};
 ghost use Rattle.rules.specs.Actions.{each, fold, change};

@@ -1,4 +1,6 @@
 // The call: a script, and three lent parts of memory.
+#![tactic(auto)]
+
 ghost use Rattle.std.specs.Prelude.{◌≡◌, ◌≤◌, length};
 ghost use Rattle.program.specs.View.{program_view};
 ghost use Rattle.state.specs.View.{StateHeld};

@@ -1,4 +1,6 @@
 // For each block its instructions and its Params, and for each function its Returns: chains through the instructions, in lent memory.
+#![tactic(auto)]
+
 ghost use Rattle.std.specs.Prelude.{◌≡◌, ℕ, ◌+◌, ◌*◌, ◌≤◌, ◌<◌, length, get_or};
 ghost use Rattle.program.specs.View.{ProgramReady};
 ghost use Rattle.memory.specs.Layout.{instructions_most, blocks_room};

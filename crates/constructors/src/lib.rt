@@ -1,4 +1,6 @@
 // The attributes that a constructor surely sets.
+#![tactic(auto)]
+
 pub mod firsts;
 
 ghost use Rattle.std.specs.Prelude.{◌≡◌, eqb, ℕ, ◌+◌, ◌*◌, ◌≤◌, ◌<◌, length, get_or, set};

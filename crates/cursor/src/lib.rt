@@ -1,4 +1,6 @@
 // The parser's state, and its steps that read no expression.
+#![tactic(auto)]
+
 pub mod terms;
 
 ghost use Rattle.std.specs.Prelude.{◌≡◌, List, map, ℕ, ◌+◌, ◌≤◌, ◌<◌, pos, length};

@@ -1,4 +1,6 @@
 // The call as C and Rust link it: bindings/dinqosa.h, bindings/dinqosa.rs.
+#![tactic(auto)]
+
 ghost use Rattle.call.specs.Call.{after, lent};
 ghost use Rattle.dinqosa.specs.Exported.{Gives};
 

@@ -1,4 +1,6 @@
 // Expressions: readers that call each other, one level of depth down at each `parse_expr`.
+#![tactic(auto)]
+
 ghost use Rattle.std.specs.Prelude.{◌≡◌, ◌*◌, ◌≤◌, ◌<◌};
 ghost use Rattle.rules.specs.Actions.{loop as loop_of};
 ghost use Rattle.rules.specs.Reading.{turns, parse_group, parse_ivar, parse_name, parse_primary, parse_args, parse_call, parse_member, parse_right, operator, parse_suffix, parse_expr};

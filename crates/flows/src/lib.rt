@@ -1,4 +1,6 @@
 // The union of a set of operands in the reference's order, by one or two passes over the operands as they come; and what has flowed to a Param.
+#![tactic(auto)]
+
 pub mod returning;
 
 ghost use Rattle.std.specs.Prelude.{true, false, ◌≡◌, [], ◌∷◌, ℕ, ◌+◌, ◌<◌, length, get_or};

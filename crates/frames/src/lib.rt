@@ -1,4 +1,6 @@
 // The frames of an answer as text, written piece by piece from the answer memory.
+#![tactic(auto)]
+
 ghost use Rattle.std.specs.Prelude.{◌≡◌, [], ◌+◌, ◌≤◌, ◌<◌, length};
 ghost use Rattle.rules.specs.Frames.{digit_of, digits, refusal_frame};
 ghost use Rattle.memory.specs.Memory.{over};

@@ -1,4 +1,6 @@
 // Functions.
+#![tactic(auto)]
+
 pub mod params;
 
 ghost use Rattle.std.specs.Prelude.{◌≡◌};

@@ -1,4 +1,6 @@
 // The words of a script, and names as places in it.
+#![tactic(auto)]
+
 ghost use Rattle.std.specs.Prelude.{cond, ◌≡◌, ◌+◌, ◌-◌, ◌<◌, drop};
 ghost use Rattle.rules.specs.Lists.{same, precedes};
 ghost use Rattle.rules.specs.Words.{blank, letter, in_word, digit, sign, run, decimal};

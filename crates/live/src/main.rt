@@ -1,5 +1,7 @@
 // Reads a script from standard input and writes the frames of its answer to standard output. Standard error gets one line where the script is
 // refused, where reading or writing fails, and where the program is given an argument.
+#![tactic(auto)]
+
 ghost use Rattle.std.specs.Prelude.{◌≡◌, ◌+◌, ◌≤◌, length};
 ghost use Rattle.rules.specs.Program.{limits};
 ghost use Rattle.live.specs.Runs.{Runs, Numbered};

@@ -1,4 +1,6 @@
 // Look-ups in the program's tables by name, and attributes, which are looked up before they are declared.
+#![tactic(auto)]
+
 ghost use Rattle.std.specs.Prelude.{◌≡◌, ◌+◌, ◌*◌, ◌≤◌, ◌<◌, min, length};
 ghost use Rattle.rules.specs.Lists.{bytes, or_else};
 ghost use Rattle.rules.specs.Program.{function_named, method_named, ivar_named, main_function};

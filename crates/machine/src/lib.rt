@@ -1,4 +1,6 @@
 // The parts that the analysis reads, and a kind stored with the users that wake.
+#![tactic(auto)]
+
 pub mod blocks;
 pub mod opnds;
 pub mod receivers;

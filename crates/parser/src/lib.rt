@@ -1,4 +1,6 @@
 // The whole script.
+#![tactic(auto)]
+
 pub mod classes;
 
 ghost use Rattle.std.specs.Prelude.{◌≡◌, ◌≤◌, length};

@@ -1,4 +1,6 @@
 // Variables as operands, and their join at an `if`.
+#![tactic(auto)]
+
 ghost use Rattle.std.specs.Prelude.{◌≡◌, ◌+◌, ◌≤◌, ◌<◌, length};
 ghost use Rattle.lexer.specs.Names.{name};
 ghost use Rattle.variables.specs.Scopes.{Sorted};

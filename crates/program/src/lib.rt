@@ -1,4 +1,6 @@
 // The program that a reading leaves: its tables in one lent memory of words.
+#![tactic(auto)]
+
 ghost use Rattle.std.specs.Prelude.{◌≡◌, [], ◌∷◌, ◌++◌, map, ◌+◌, ◌*◌, ◌≤◌, ◌<◌, length};
 ghost use Rattle.rules.specs.Lists.{is_just};
 ghost use Rattle.rules.specs.Program.{limits, same_opnd};

@@ -1,4 +1,6 @@
 // The final state, written into the answer memory.
+#![tactic(auto)]
+
 ghost use Rattle.std.specs.Prelude.{◌≡◌, map, ◌≤◌, length};
 ghost use Rattle.kinds.specs.Kinds.{bit_of, tag_of, payload_of};
 ghost use Rattle.memory.specs.Memory.{over};

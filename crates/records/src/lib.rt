@@ -1,4 +1,6 @@
 // The instructions as records in one lent table.
+#![tactic(auto)]
+
 ghost use Rattle.std.specs.Prelude.{◌≡◌, ◌+◌, ◌<◌, length, get_or, set, replicate};
 ghost use Rattle.program.specs.View.{ProgramReady};
 ghost use Rattle.memory.specs.Layout.{instructions_most};

@@ -1,4 +1,6 @@
 // Reads a batch of scripts from standard input, each behind its length in four bytes, and writes the frames of each, one script's behind the other's.
+#![tactic(auto)]
+
 mod batches;
 
 use batches::BatchTurn;

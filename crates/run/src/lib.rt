@@ -1,4 +1,6 @@
 // The run of the analysis to its end, over the table of instructions.
+#![tactic(auto)]
+
 ghost use Rattle.std.specs.Prelude.{true, false, ◌≡◌, ◌+◌, ◌<◌, ◌^◌};
 ghost use Rattle.records.specs.Records.{record_at, Holds};
 ghost use Rattle.state.specs.View.{StateReady};

@@ -1,4 +1,6 @@
 // The analysis of a program that was read: chains and users, the start, and the run to its end.
+#![tactic(auto)]
+
 pub mod starts;
 
 ghost use Rattle.std.specs.Prelude.{◌≡◌, length};

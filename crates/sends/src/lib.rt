@@ -1,4 +1,6 @@
 // Calls: a new caller, the callee's Params, and a receiver's methods.
+#![tactic(auto)]
+
 pub mod calls;
 pub mod passing;
 

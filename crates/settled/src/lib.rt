@@ -1,4 +1,6 @@
 // Reads of attributes that are settled: a visit would find nothing new in the classes of a set, which is the read's stamp.
+#![tactic(auto)]
+
 ghost use Rattle.std.specs.Prelude.{true, false, ◌≡◌, [], ◌+◌, ◌*◌, ◌≤◌, ◌<◌, length, get_or};
 ghost use Rattle.kinds.specs.declared.Kind.{Kind};
 ghost use Rattle.idle.specs.Settled.{Covered};

@@ -1,4 +1,6 @@
 // The analysis machine's state in one lent memory, and its small changes.
+#![tactic(auto)]
+
 ghost use Rattle.std.specs.Prelude.{false, ◌≡◌, List, [], ℕ, ◌≤◌, ◌<◌, ◌^◌, get_or};
 ghost use Rattle.rules.specs.Machine.{set_kind, set_live, marked, add_read, set_ivar_kind, at_rest, push_insn, push_block, wake_if_wider};
 ghost use Rattle.memory.specs.tables.Bits.{RowWord};

@@ -1,4 +1,6 @@
 // Statements: the readers' second cycle.
+#![tactic(auto)]
+
 ghost use Rattle.std.specs.Prelude.{◌≡◌, ◌-◌, ◌<◌};
 ghost use Rattle.rules.specs.Reading.{parse_expr, parse_return, parse_if, parse_statements, parse_statement};
 ghost use Rattle.variables.specs.Scopes.{Sorted};

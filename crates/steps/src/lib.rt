@@ -1,4 +1,6 @@
 // One step of the analysis, and the stamps that tell which visits do nothing.
+#![tactic(auto)]
+
 ghost use Rattle.std.specs.Prelude.{true, false, ◌≡◌, ◌+◌, ◌<◌, ◌^◌};
 ghost use Rattle.rules.specs.Machine.{take_insn, step as stepped};
 ghost use Rattle.state.specs.View.{StateReady};

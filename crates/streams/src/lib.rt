@@ -1,4 +1,6 @@
 // Standard input and output.
+#![tactic(auto)]
+
 ghost use Rattle.std.specs.Prelude.{◌≤◌, length};
 ghost use Rattle.streams.specs.Input.{InputFits};
 

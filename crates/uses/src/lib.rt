@@ -1,4 +1,6 @@
 // For each instruction the instructions that use its result, in lent memory.
+#![tactic(auto)]
+
 ghost use Rattle.std.specs.Prelude.{◌≡◌, ℕ, ◌+◌, ◌*◌, ◌≤◌, ◌<◌, min, length, get_or};
 ghost use Rattle.program.specs.View.{ProgramReady};
 ghost use Rattle.memory.specs.Layout.{instructions_most, uses_most};

@@ -1,4 +1,6 @@
 // Variables in memory: the bindings in the order in which they are made, and the rows that the arms of an `if` leave.
+#![tactic(auto)]
+
 ghost use Rattle.std.specs.Prelude.{◌≡◌, ◌+◌, ◌≤◌, ◌<◌, length};
 ghost use Rattle.rules.specs.Lists.{same as same_of, precedes as precedes_of};
 ghost use Rattle.lexer.specs.Names.{name};

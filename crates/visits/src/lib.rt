@@ -1,4 +1,6 @@
 // One instruction is visited: its rule by its sort, then its new kind is stored.
+#![tactic(auto)]
+
 ghost use Rattle.std.specs.Prelude.{◌≡◌, ◌+◌, ◌≤◌, ◌<◌};
 ghost use Rattle.rules.specs.Machine.{visit as visited};
 ghost use Rattle.program.specs.Rows.{opnd_of, nth};

@@ -1,0 +1,11 @@
+-- What the loop of `lexer::compare` keeps.
+use Prim.Native.Nat.{◌-◌}
+use Rattle.lexer.proofs.Names.{Comparing, cmp_start, cmp_longer, cmp_below, cmp_above, cmp_more, cmp_same, cmp_shorter}
+use borrow.Author.Rules.{rules}
+use Rattle.lexer.proofs.compare.Given as goal
+
+abbrev pub invariant-loop-i : goal.invariant-loop-i
+invariant-loop-i l = Comparing l.script l.a l.n l.t l.b l.m l.n1 l.m1 l.i
+
+abbrev pub decreases-loop-i : goal.decreases-loop-i
+decreases-loop-i l = l.n1 - l.i

@@ -1,0 +1,14 @@
+-- What the loop of `lexer::skip_digits` keeps.
+use Prim.Native.Nat.{◌-◌}
+use lib.ListN.{length}
+use mathlib.Core.Path.{refl}
+use Rattle.rules.specs.Words.{digit}
+use Rattle.lexer.proofs.Runs.{Skipping, skip-more, skip-ends, skip_out}
+use borrow.Author.Rules.{rules}
+use Rattle.lexer.proofs.skip_digits.Given as goal
+
+abbrev pub invariant-loop-i : goal.invariant-loop-i
+invariant-loop-i l = Skipping digit l.script l.at l.i
+
+abbrev pub decreases-loop-i : goal.decreases-loop-i
+decreases-loop-i l = length l.script - l.i
