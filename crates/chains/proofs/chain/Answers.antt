@@ -15,14 +15,14 @@ loop-i-init c = search chain_start
 
 pub bounds-scratch-base-then-k-lt-HEADS-2 : goal.bounds-scratch-base-then-k-lt-HEADS-2
 bounds-scratch-base-then-k-lt-HEADS-2 c =
-    simp length-set (omega (arith, c.loop-i.invariant.only.len-same, c.fill.ensures.only.len-same))
+    simp length-set (omega (arith, c.loop-i.invariant.only.len_same, c.fill.ensures.only.len_same))
 
 pub loop-i-preserved-then-k-lt-HEADS : goal.loop-i-preserved-then-k-lt-HEADS
 loop-i-preserved-then-k-lt-HEADS c =
     chain_more c.loop-i.invariant (omega arith) _ c.key_of-k.ensures
     (omega (
       arith,
-      c.fill.ensures.only.len-same,
+      c.fill.ensures.only.len_same,
       c.requires.chains_size_in_bounds.0,
     ))
     c.requires.program_ready.insns

@@ -9,7 +9,7 @@ pub loop-i-init : goal.loop-i-init
 loop-i-init c = search copy_start
 
 pub bounds-t-base : goal.bounds-t-base
-bounds-t-base c = omega (arith, c.loop-i.invariant.only.len-same)
+bounds-t-base c = omega (arith, c.loop-i.invariant.only.len_same)
 
 pub loop-i-preserved : goal.loop-i-preserved
 loop-i-preserved c = search copy_more

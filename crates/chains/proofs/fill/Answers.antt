@@ -13,7 +13,7 @@ pub loop-i-init : goal.loop-i-init
 loop-i-init c = search fill_start
 
 pub bounds-scratch-at : goal.bounds-scratch-at
-bounds-scratch-at c = omega (arith, c.loop-i.invariant.only.len-same)
+bounds-scratch-at c = omega (arith, c.loop-i.invariant.only.len_same)
 
 pub loop-i-preserved : goal.loop-i-preserved
 loop-i-preserved c = search fill_more
