@@ -37,7 +37,7 @@ mul-u : tie.Need-overflow-mul-u invariant-loop2 decreases-loop2 invariant-loop d
 mul-u c = search rules
 
 slice-write-u : tie.Need-slice-write-u invariant-loop2 decreases-loop2 invariant-loop decreases-loop
-slice-write-u c = omega (arith, c.before.before.before.before.before.before.before.before.before.requires.0.insns, c.before.loop.invariant.len-same)
+slice-write-u c = omega (arith, c.before.before.before.before.before.before.before.before.before.requires.0.insns, c.before.loop.invariant.len_same)
 
 mul-h : tie.Need-overflow-mul-h invariant-loop2 decreases-loop2 invariant-loop decreases-loop
 mul-h c = search rules
@@ -143,13 +143,13 @@ mul-u-3 : tie.Need-overflow-mul-u-3 invariant-loop2 decreases-loop2 invariant-lo
 mul-u-3 c = search rules
 
 slice-write-u-3 : tie.Need-slice-write-u-3 invariant-loop2 decreases-loop2 invariant-loop decreases-loop
-slice-write-u-3 c = omega (arith, c.before.before.before.before.before.before.before.before.before.requires.0.insns, c.before.loop.invariant.len-same)
+slice-write-u-3 c = omega (arith, c.before.before.before.before.before.before.before.before.before.requires.0.insns, c.before.loop.invariant.len_same)
 
 same_length : tie.Need-same-length invariant-loop2 decreases-loop2 invariant-loop decreases-loop
 same_length c = search rules
 
 same-length-2 : tie.Need-same-length-2 invariant-loop2 decreases-loop2 invariant-loop decreases-loop
-same-length-2 c = simp length-set c.before.loop.invariant.len-same
+same-length-2 c = simp length-set c.before.loop.invariant.len_same
 
 returns : tie.Need-returns invariant-loop2 decreases-loop2 invariant-loop decreases-loop
 returns c =

@@ -60,7 +60,7 @@ mul-read-opnd c =
       arith,
       opnd_room c.before.loop.invariant c.before.before.before.before.before.before.before.before.before.requires.0
           c.before.before.before.before.before.before.before.before.before.requires.1.0 (omega arith),
-      c.before.before.before.before.before.before.before.before.before.requires.0.len-mem,
+      c.before.before.before.before.before.before.before.before.before.requires.0.len_mem,
     )
 
 add-read-opnd : tie.Need-overflow-add-read-opnd invariant-loop decreases-loop
@@ -69,7 +69,7 @@ add-read-opnd c =
       arith,
       opnd_room c.before.loop.invariant c.before.before.before.before.before.before.before.before.before.requires.0
           c.before.before.before.before.before.before.before.before.before.requires.1.0 (omega arith),
-      c.before.before.before.before.before.before.before.before.before.requires.0.len-mem,
+      c.before.before.before.before.before.before.before.before.before.requires.0.len_mem,
     )
 
 read-opnd-requires : tie.Need-read-opnd-requires invariant-loop decreases-loop
