@@ -6,7 +6,7 @@ use borrow.Author.Rules.{rules}
 use lib.ListN.{length}
 use Rattle.rules.specs.Reading.{parse_expr}
 use Rattle.program.specs.View.{limits_of}
-use Rattle.expressions.proofs.Turns.{ArgsInv, args-start, args-less, args-again, args-high, args_no1, args_no2, args-done}
+use Rattle.expressions.proofs.Turns.{ArgsInv, args-start, args-less, args-again, args_high, args_no1, args_no2, args_done}
 use Rattle.expressions.proofs.parse_arg.Reads as parse-arg
 use Rattle.expressions.proofs.parse_args.Reads as parse-args
 use Rattle.expressions.proofs.taken.Reads as taken-reads
@@ -73,7 +73,7 @@ taken-requires t c κs =
     let at-c12 = at-expect.before.before in
     let at-parse-arg = at-c12.before.before.before.before.before.before in
     let at-loop = at-parse-arg.before.before.before in
-    args-high _ _ _ at-loop.loop.invariant at-parse-arg.parse-arg.ensures at-c12.c12.given.1 at-expect.expect.ensures at-c2.c2.given.1
+    args_high _ _ _ at-loop.loop.invariant at-parse-arg.parse-arg.ensures at-c12.c12.given.1 at-expect.expect.ensures at-c2.c2.given.1
 
 pub same_length : (t : ℕ) → lts.Need-same-length (calls t) (parse_args-at t) parse-args.Post Inv-loop μ-loop
 same_length t c =
@@ -115,7 +115,7 @@ returns-2 t c =
     let at-c12 = at-expect.before.before in
     let at-parse-arg = at-c12.before.before.before.before.before.before in
     let at-loop = at-parse-arg.before.before.before in
-    args-done _ _ _ at-loop.loop.invariant at-parse-arg.parse-arg.ensures at-c12.c12.given.1 at-expect.expect.ensures at-c2.c2.given.1 c.taken.ensures
+    args_done _ _ _ at-loop.loop.invariant at-parse-arg.parse-arg.ensures at-c12.c12.given.1 at-expect.expect.ensures at-c2.c2.given.1 c.taken.ensures
 
 pub enum-known-e-2 : (t : ℕ) → lts.Need-enum-known-e-2 (calls t) (parse_args-at t) parse-args.Post Inv-loop μ-loop
 enum-known-e-2 t c = search rules
