@@ -71,7 +71,7 @@ module _ {v : Opnd} {c : Cursor} {w w' : List ℕ} {c' : Cursor} (p : Stacks v c
             script = h.ready.script;
             inside = h.ready.inside;
             tables = h.ready.tables;
-            scratch = omega (arith, h.ready.scratch, p.puts.only.len-same);
+            scratch = omega (arith, h.ready.scratch, p.puts.only.len_same);
             room = h.ready.room;
             args = room;
           };

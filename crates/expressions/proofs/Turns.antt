@@ -239,8 +239,8 @@ module _ (L : P.Limits) (s : List ℕ) (E : ℕ → Reads P.Opnd) where
           at-close : Acted (expect s ")") 1 s m1 w1 c1 m1 w1 tt c2
           at-close = expect-went args-here ")" y spelt_close f
 
-          pub args-high : c₀.args ≤ c2.args
-          args-high = omega (arith, at-close.step.args, ended.ok.more, i.more)
+          pub args_high : c₀.args ≤ c2.args
+          args_high = omega (arith, at-close.step.args, ended.ok.more, i.more)
 
           lower : In s m1 w1 (stack_cur c₀.args c2)
           lower =
@@ -252,7 +252,7 @@ module _ (L : P.Limits) (s : List ℕ) (E : ℕ → Reads P.Opnd) where
                   tables = h.ready.tables;
                   scratch = h.ready.scratch;
                   room = h.ready.room;
-                  args = omega (arith, h.ready.args, args-high);
+                  args = omega (arith, h.ready.args, args_high);
                 };
                 block = h.block;
               }
@@ -263,9 +263,9 @@ module _ (L : P.Limits) (s : List ℕ) (E : ℕ → Reads P.Opnd) where
               (step_trans (step_trans i.step (step_from c₀.args i.more ended.ok.step))
               (step_from c₀.args (omega (arith, ended.ok.more, i.more)) at-close.step))
 
-          pub args-done : {t : Args} → t ≡ taken_of c₀.args c2 → ArgsDid (parse_args L s E) s m₀ w₀ c₀ m1 w1 t
+          pub args_done : {t : Args} → t ≡ taken_of c₀.args c2 → ArgsDid (parse_args L s E) s m₀ w₀ c₀ m1 w1 t
           unfolding parse_args
-          args-done g =
+          args_done g =
               let a = at-close.step.args in
               rw g
               (record {
@@ -277,7 +277,7 @@ module _ (L : P.Limits) (s : List ℕ) (E : ℕ → Reads P.Opnd) where
                     let z : n ≡ c2.args - c₀.args = cc in
                     let y : c' ≡ stack_cur c₀.args c2 = cc in
                     let u : c'.args ≡ c₀.args = ap (λ (d : Cursor). d.args) y in
-                    omega (arith, args-high, at-close.here.ready.args, at-close.here.ready.inside, at-close.here.ready.script);
+                    omega (arith, args_high, at-close.here.ready.args, at-close.here.ready.inside, at-close.here.ready.script);
               })
 
   -- ---- calls

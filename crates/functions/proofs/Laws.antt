@@ -176,9 +176,9 @@ module _ {s m w : List ℕ} {c : Cursor} (g : BodyBegun s m w c) where
               unfolding body_of
               body_no4 k = record { is = let h = rw o at (a.is s) in rw (← h, ← stated.is, ← shut.is, ← gave expected (ap moved_of k)); ok = tt }
 
-              pub body-yes : {c4 c5 : Cursor} → t ≡ On c4 → c5 ≡ receive_cur Nobody c4 → Takes (body_of (View.limits_of l) s (names_in s w c.args)) 1 s m w c m3 w2 (moved_of (On c5))
+              pub body_yes : {c4 c5 : Cursor} → t ≡ On c4 → c5 ≡ receive_cur Nobody c4 → Takes (body_of (View.limits_of l) s (names_in s w c.args)) 1 s m w c m3 w2 (moved_of (On c5))
               unfolding body_of parser_of
-              body-yes {c4} {c5} k r =
+              body_yes {c4} {c5} k r =
                   let e = got expected (ap moved_of k) in
                   let st = step_trans (step_trans stated.step shut.step) e.step in
                   let q = e.here.ready in

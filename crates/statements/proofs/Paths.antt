@@ -273,7 +273,7 @@ module _ {s m w : List ℕ} {c₀ c : Cursor} (h : In s m w c) (i : StatementIns
                 script = h.ready.script;
                 inside = h.ready.inside;
                 tables = ok.0;
-                scratch = omega (arith, h.ready.scratch, g.len-same);
+                scratch = omega (arith, h.ready.scratch, g.len_same);
                 room = record { script = h.ready.room.script; aside = i.low; law = omega (arith, h.ready.room.law, i.above, most) };
                 args = h.ready.args;
               };
@@ -400,7 +400,7 @@ module _ (l : Limits) {s m w : List ℕ} {c₀ c : Cursor} (q : Branch) (h : In 
                     script = k.script;
                     inside = k.inside;
                     tables = k.tables;
-                    scratch = omega (arith, k.scratch, v.len-same);
+                    scratch = omega (arith, k.scratch, v.len_same);
                     room = record { script = k.room.script; aside = omega (arith, a.inside.low); law = omega (arith, k.room.law, v.less) };
                     args = k.args;
                   };

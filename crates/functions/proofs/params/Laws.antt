@@ -316,7 +316,7 @@ module _ (l : Limits) (k : ℕ) {m w : List ℕ} {c : Cursor} (g : ParamsRoom k 
           blocks = ap (λ (z : Counts). z.blocks) ok.counts;
           low = v.old;
           rows = v.aside;
-          long = v.len-same;
+          long = v.len_same;
         };
       })
 

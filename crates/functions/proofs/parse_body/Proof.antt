@@ -1,5 +1,5 @@
 use mathlib.Core.Path.{◌∙◌}
-use Rattle.functions.proofs.Laws.{body-filled, body_no, body_in, body_no2, body_in2, body_no3, body_no4, body-yes}
+use Rattle.functions.proofs.Laws.{body-filled, body_no, body_in, body_no2, body_in2, body_no3, body_no4, body_yes}
 use borrow.Author.Rules.{rules}
 use Rattle.functions.proofs.parse_body.Statement.{statement}
 use Rattle.functions.proofs.parse_body.Tie as tie
@@ -176,7 +176,7 @@ returns-5 c =
     let at-c1 = at-parse-statements.before.before.before.before in
     let at-open-body = at-c1.before.before.before.before.before.before in
     let start = at-open-body.before.before.before.before.before.before in
-    body-yes start.requires.0 at-open-body.open-body.ensures at-c1.c1.given.1 at-parse-statements.parse-statements.ensures at-c2.c2.given.1 at-end-block.end-block.ensures
+    body_yes start.requires.0 at-open-body.open-body.ensures at-c1.c1.given.1 at-parse-statements.parse-statements.ensures at-c2.c2.given.1 at-end-block.end-block.ensures
     at-c3.c3.given.1 at-expect.expect.ensures at-c4.c4.given.1 c.received.ensures
 
 pub parse-body-spec : {M : Type 1} → statement M
