@@ -44,7 +44,7 @@ use Rattle.state.specs.View.{kinds_of, called_of, StateHeld}
 use Rattle.state.specs.View.{state_view}
 use Rattle.state.specs.Changes.{marks_from, Following}
 use Rattle.machine.specs.opnds.Reads.{OperandInside, kind_in, StateReads}
-use Rattle.machine.proofs.opnds.Given.{kind_of}
+use Rattle.machine.proofs.opnds.Given.{kind_of_lem}
 use Rattle.program.specs.Layout.{insns_at, opnds_at, insn_words}
 use Rattle.flows.specs.declared.Pass.{Pass}
 use Rattle.flows.specs.declared.Tally.TheVariants.{Nothing as None}
@@ -269,7 +269,7 @@ param_is L p i n s e =
 
 pub kinds_of_lem : (s : State) (l : List P.Opnd) → map (kind_in s.kinds) l ≡ map (kind_of s) l
 kinds_of_lem s [] = refl
-kinds_of_lem s (o ∷ l) = rw (kind_of s o, kinds_of_lem s l)
+kinds_of_lem s (o ∷ l) = rw (kind_of_lem s o, kinds_of_lem s l)
 
 finish-same : (ks : List Kind) (n a : ℕ) (t : Rattle.flows.specs.Tally.Tally) → finish [] n a t ≡ finish ks n a t
 finish-same ks n a Nothing = refl

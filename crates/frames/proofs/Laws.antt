@@ -9,7 +9,7 @@ use lib.ListN.{length, get_or, set, take, drop, length-set, length-append, take-
 use lib.Seq.{take_all, take_at, drop_at, drop-cons, drop-drop, set_at, set_split, take-set-le, length-take-le}
 use borrow.Author.Tests.{lt-ltb, le-ltb}
 use Rattle.rules.specs.Lists.{concat}
-use Rattle.rules.specs.Frames.{digit_of, digits, field, line}
+use Rattle.rules.specs.Frames.{digit_of, digits, field}
 use Rattle.memory.specs.Memory.{over}
 use Rattle.frames.specs.Text.{fields_of, line_of, room_for, Wrote}
 
