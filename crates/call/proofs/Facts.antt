@@ -67,9 +67,9 @@ module _ (script : List ℕ) where
       pub answer : drop answer_length m.answer ≡ drop answer_length l.answer
       pub program : drop program_length m.program ≡ drop program_length l.program
       pub state : drop state_length m.state ≡ drop state_length l.state
-      pub len-answer : length m.answer ≡ length l.answer
-      pub len-program : length m.program ≡ length l.program
-      pub len-state : length m.state ≡ length l.state
+      pub len_answer : length m.answer ≡ length l.answer
+      pub len_program : length m.program ≡ length l.program
+      pub len_state : length m.state ≡ length l.state
 
     front_length : (t d : List ℕ) (n : ℕ) → length t ≡ n → n ≤ length d → length (t ++ drop n d) ≡ length d
     front_length t d n e h = length-append t (drop n d) ∙ rw (length-drop, e) (omega arith)
@@ -81,16 +81,16 @@ module _ (script : List ℕ) where
           answer = drop_at t (drop answer_length l.answer) answer_length e;
           program = drop_at (zeros program_length) (drop program_length l.program) program_length (zeros-length program_length);
           state = drop_at (zeros state_length) (drop state_length l.state) state_length (zeros-length state_length);
-          len-answer = front_length t l.answer answer_length e h.0;
-          len-program = front_length (zeros program_length) l.program program_length (zeros-length program_length) h.1;
-          len-state = front_length (zeros state_length) l.state state_length (zeros-length state_length) h.2;
+          len_answer = front_length t l.answer answer_length e h.0;
+          len_program = front_length (zeros program_length) l.program program_length (zeros-length program_length) h.1;
+          len_state = front_length (zeros state_length) l.state state_length (zeros-length state_length) h.2;
         }
 
     pub kept : Kept (after script l).lent
     kept = go ways
       where
         same : Kept l
-        same = record { answer = refl; program = refl; state = refl; len-answer = refl; len-program = refl; len-state = refl }
+        same = record { answer = refl; program = refl; state = refl; len_answer = refl; len_program = refl; len_state = refl }
 
         of : (x : Answer Analysis) → analyze limits script ≡ x → long_enough l ≡ true → Kept (ended x l).lent
         of (answered a) e f = holding-kept (answer_of a) (answer-length a e) f

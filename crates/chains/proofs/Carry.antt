@@ -20,7 +20,7 @@ pub record Copying (base a n : ℕ) (w t₀ t : List ℕ) (i : ℕ) : Type 0 whe
   pub here : (k : ℕ) → k < i → get_or t (base + (a + k)) 0 ≡ get_or w (a + k) 0
 
 pub copy_start : (base a n : ℕ) (w t : List ℕ) → Copying base a n w t t 0
-copy_start base a n w t = record { high = omega arith; only = record { len-same = refl; others = λ k h. refl }; here = λ k h. absurd (omega arith) }
+copy_start base a n w t = record { high = omega arith; only = record { len_same = refl; others = λ k h. refl }; here = λ k h. absurd (omega arith) }
 
 module _ {base a n : ℕ} {w t₀ t : List ℕ} {i : ℕ} (z : Copying base a n w t₀ t i) where
   pub copy_more : base + (a + n) ≤ length t₀ → i < n → Copying base a n w t₀ (set t (base + (a + i)) (get_or w (a + i) 0)) (i + 1)
@@ -28,12 +28,12 @@ module _ {base a n : ℕ} {w t₀ t : List ℕ} {i : ℕ} (z : Copying base a n 
       record {
         high = omega arith;
         only = record {
-          len-same = length-set t (base + (a + i)) (get_or w (a + i) 0) ∙ z.only.len-same;
+          len_same = length-set t (base + (a + i)) (get_or w (a + i) 0) ∙ z.only.len_same;
           others = λ k g. get_or-set_other t (base + (a + i)) k (get_or w (a + i) 0) 0 (λ q. g (omega arith) (omega arith)) ∙ z.only.others k g;
         };
         here = λ k g.
             elim (ℕ_discrete k i) [
-              | yes q ↦ rw q (get_or-set_same t (base + (a + i)) (get_or w (a + i) 0) 0 (omega (arith, z.only.len-same)))
+              | yes q ↦ rw q (get_or-set_same t (base + (a + i)) (get_or w (a + i) 0) 0 (omega (arith, z.only.len_same)))
               | no q ↦ get_or-set_other t (base + (a + i)) (base + (a + k)) (get_or w (a + i) 0) 0 (λ x. q (omega arith)) ∙ z.here k (omega arith)
             ];
       }
@@ -58,7 +58,7 @@ chain_carried w w' n sort b l h e d =
 module _ (c : Counts) {base : ℕ} {w t t₁ t₂ t₃ : List ℕ} {n : ℕ} (few : c.insns ≤ instructions_most) (e : n ≡ blocks_room + c.insns)
     (x : Copied base 0 n w t t₁) (y : Copied base sort_words n w t₁ t₂) (z : Copied base returns_at n w t₂ t₃) where
   long : length t₃ ≡ length t
-  long = z.only.len-same ∙ y.only.len-same ∙ x.only.len-same
+  long = z.only.len_same ∙ y.only.len_same ∙ x.only.len_same
 
   first : (j : ℕ) → j < blocks_room + c.insns → get_or (drop base t₃) (sort_words * 0 + j) 0 ≡ get_or w (sort_words * 0 + j) 0
   first j h = get_or-drop base t₃ (0 + j) 0 ∙ z.only.others (base + (0 + j)) (λ a b. omega arith) ∙ y.only.others (base + (0 + j)) (λ a b. omega arith) ∙ x.here j (omega arith)
@@ -72,7 +72,7 @@ module _ (c : Counts) {base : ℕ} {w t t₁ t₂ t₃ : List ℕ} {n : ℕ} (fe
   pub index-carried : base + chains_size ≤ length t → Carried c base w t t₃
   index-carried room = record {
     only = record {
-      len-same = long;
+      len_same = long;
       others = λ k g. z.only.others k (λ a b. g (omega arith) (omega arith)) ∙ y.only.others k (λ a b. g (omega arith) (omega arith)) ∙ x.only.others k (λ a b. g (omega arith) (omega arith));
     };
     index = λ m i. record {

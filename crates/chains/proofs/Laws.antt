@@ -28,7 +28,7 @@ pub record Filling (a n v : ℕ) (w₀ w : List ℕ) (i : ℕ) : Type 0 where
   pub here : (k : ℕ) → k < i → get_or w (a + k) 0 ≡ v
 
 pub fill_start : (a n v : ℕ) (w : List ℕ) → Filling a n v w w 0
-fill_start a n v w = record { high = omega arith; only = record { len-same = refl; others = λ k h. refl }; here = λ k h. absurd (omega arith) }
+fill_start a n v w = record { high = omega arith; only = record { len_same = refl; others = λ k h. refl }; here = λ k h. absurd (omega arith) }
 
 module _ {a n v : ℕ} {w₀ w : List ℕ} {i : ℕ} (z : Filling a n v w₀ w i) where
   pub fill_more : a + n ≤ length w₀ → i < n → Filling a n v w₀ (set w (a + i) v) (i + 1)
@@ -36,12 +36,12 @@ module _ {a n v : ℕ} {w₀ w : List ℕ} {i : ℕ} (z : Filling a n v w₀ w i
       record {
         high = omega arith;
         only = record {
-          len-same = length-set w (a + i) v ∙ z.only.len-same;
+          len_same = length-set w (a + i) v ∙ z.only.len_same;
           others = λ k g. get_or-set_other w (a + i) k v 0 (λ q. g (omega arith) (omega arith)) ∙ z.only.others k g;
         };
         here = λ k g.
             elim (ℕ_discrete k i) [
-              | yes q ↦ rw q (get_or-set_same w (a + i) v 0 (omega (arith, z.only.len-same)))
+              | yes q ↦ rw q (get_or-set_same w (a + i) v 0 (omega (arith, z.only.len_same)))
               | no q ↦ get_or-set_other w (a + i) (a + k) v 0 (λ x. q (omega arith)) ∙ z.here k (omega arith)
             ];
       }
@@ -73,7 +73,7 @@ module _ (m : List ℕ) (sort i : ℕ) {r : Row} (e : r ≡ insn_at m i) where
   key_no_return q y g h = rw (ne_eqb sort 0 g, ne_eqb sort 1 h, sym (ap (λ (x : Row). is_return x.op) e), sym q, y)
 
   pub key_inside : {c : Counts} → ProgramReady m c → i < c.insns → blocks_at + 2 * r.block.0 < length m
-  key_inside ok h = let q : r.block.0 ≡ (insn_at m i).block.0 = ap (λ (x : Row). x.block.0) e in omega (arith, ok.inside i h, ok.blocks, ok.len-mem)
+  key_inside ok h = let q : r.block.0 ≡ (insn_at m i).block.0 = ap (λ (x : Row). x.block.0) e in omega (arith, ok.inside i h, ok.blocks, ok.len_mem)
 
 -- ---- chains
 
@@ -86,7 +86,7 @@ pub chain_start : (m : List ℕ) (n sort : ℕ) (v w : List ℕ) → ChainsFille
 chain_start m n sort v w f =
     record {
       high = omega arith;
-      only = record { len-same = refl; others = λ k g. refl };
+      only = record { len_same = refl; others = λ k g. refl };
       held = λ b h. rw (f.here b h, pick_end (λ j. eqb (key_of m sort j) b) n) (chained_end self (at w (sort_words * sort + blocks_room)) n n);
     }
 
@@ -97,7 +97,7 @@ module _ {m : List ℕ} {n sort : ℕ} {w₀ w : List ℕ} {i : ℕ} (z : Chaini
       let f : n - 0 ≡ n = omega arith in
       record {
         only = record {
-          len-same = z.only.len-same ∙ y.only.len-same;
+          len_same = z.only.len_same ∙ y.only.len_same;
           others = λ k g. z.only.others k g ∙ y.only.others k (λ p q. g p (omega arith));
         };
         held = λ b l. rw f at ((rw e at z.held) b l);
@@ -136,14 +136,14 @@ module _ {m : List ℕ} {n sort : ℕ} {w₀ w : List ℕ} {i : ℕ} (z : Chaini
           )) d
 
       inside : length w1 ≡ length w₀
-      inside = length-set w (sort_words * sort + blocks_room + (i - 1)) (get_or w (sort_words * sort + k) 0) ∙ z.only.len-same
+      inside = length-set w (sort_words * sort + blocks_room + (i - 1)) (get_or w (sort_words * sort + k) 0) ∙ z.only.len_same
 
       own : ChainsChained self (at w2 (sort_words * sort + blocks_room)) n (i - 1) (get_or w2 (sort_words * sort + k) 0) ((i - 1) ∷ pick (λ j. eqb (key_of m sort j) k) i (n - i))
       own =
           let p : suc (i - 1) ≡ i = omega arith in
           rw (get_or-set_same w1 (sort_words * sort + k) (i - 1) 0 (omega (arith, inside)))
           (chained_more self (at w2 (sort_words * sort + blocks_room)) n (i - 1) (i - 1) _ (omega (arith, z.high)) refl
-          (rw (p, linked (i - 1) (omega (arith, z.high)), get_or-set_same w (sort_words * sort + blocks_room + (i - 1)) (get_or w (sort_words * sort + k) 0) 0 (omega (arith, z.high, z.only.len-same)))
+          (rw (p, linked (i - 1) (omega (arith, z.high)), get_or-set_same w (sort_words * sort + blocks_room + (i - 1)) (get_or w (sort_words * sort + k) 0) 0 (omega (arith, z.high, z.only.len_same)))
           (stays _ _ (z.held k g))))
 
       other : (b : ℕ) → b < blocks_room → (k ≡ b → ⊥) → ChainsChained self (at w2 (sort_words * sort + blocks_room)) n (i - 1)
@@ -160,7 +160,7 @@ module _ {m : List ℕ} {n sort : ℕ} {w₀ w : List ℕ} {i : ℕ} (z : Chaini
           record {
             high = omega (arith, z.high);
             only = record {
-              len-same = length-set w1 (sort_words * sort + k) (i - 1) ∙ inside;
+              len_same = length-set w1 (sort_words * sort + k) (i - 1) ∙ inside;
               others = λ x y.
                   get_or-set_other w1 (sort_words * sort + k) x (i - 1) 0 (λ q. y (omega arith) (omega arith))
                   ∙ (get_or-set_other w (sort_words * sort + blocks_room + (i - 1)) x (get_or w (sort_words * sort + k) 0) 0 (λ q. y (omega arith) (omega (arith, z.high))) ∙ z.only.others x y);

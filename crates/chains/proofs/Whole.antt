@@ -122,7 +122,7 @@ index_is {m} {c} {w3 = w3} ok room d e f =
     let d0 = kept m c.insns 0 returns_at (kept m c.insns 0 sort_words d.held e.only few (omega arith)) f.only few (omega arith) in
     let d1 = kept m c.insns 1 returns_at e.held f.only few (omega arith) in
     record {
-      len = omega (arith, d.only.len-same, e.only.len-same, f.only.len-same);
+      len = omega (arith, d.only.len_same, e.only.len_same, f.only.len_same);
       codes = λ s b h. subst (λ l. ChainIs w3 c.insns 0 b l) (sym (code_is s m c b ∙ pick_ext _ _ 0 c.insns (λ i g. key_0 s m c i b))) (d0 b h);
       params = λ s k g h. subst (λ l. ChainIs w3 c.insns 1 (entry (program_view s m c) k) l) (sym (params_is s m c k h)) (d1 (entry (program_view s m c) k) h);
       returning = λ s b h. subst (λ l. ChainIs w3 c.insns 2 b l) (sym (returns_is s m c ok b h)) (f.held b h);

@@ -69,7 +69,7 @@ self i = i
 
 -- only the n words from a on may have changed
 pub record ChainsOnly (a n : ℕ) (w w' : List ℕ) : Type 0 where
-  pub len-same : length w' ≡ length w
+  pub len_same : length w' ≡ length w
   pub others : (k : ℕ) → (a ≤ k → k < a + n → ⊥) → get_or w' k 0 ≡ get_or w k 0
 
 pub record ChainsFilled (a n v : ℕ) (w w' : List ℕ) : Type 0 where

@@ -149,7 +149,7 @@ name_done {s} {m} {k} {bits} {found} {a} {n} {c} z g h =
 
 module _ {m : List ℕ} {c : Counts} {k : ℕ} (ok : ProgramReady m c) (h : k < c.classes) where
   pub class-room : classes_at + class_words * k + 2 < length m
-  class-room = omega (arith, ok.classes, ok.len-mem)
+  class-room = omega (arith, ok.classes, ok.len_mem)
 
   pub ivar_room : (a : ℕ) → a < ivars_of m k → (ivars_at + ivar_row_words * k + 2 * a + 1 < length m) × (a < 64)
-  ivar_room a g = (omega (arith, ok.classes, ok.len-mem, ok.ivars k h), omega (arith, ok.ivars k h))
+  ivar_room a g = (omega (arith, ok.classes, ok.len_mem, ok.ivars k h), omega (arith, ok.ivars k h))

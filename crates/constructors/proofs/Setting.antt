@@ -153,8 +153,8 @@ module _ {s m x : List ℕ} {c : Counts} {k b bits h : ℕ} (z : Setting s m x c
                 sym (ap (all_declared s m c k) o ∙ ap (λ y. y && all_declared s m c k (names_of (program_view s m c) more.rest)) (d.declared ∙ ap not (ne_eqb p.found 0 f))) ∙ z.asked;
           }
 
-      pub set-stop : p.found ≡ 0 → SetsIs s m c k b S.Undeclared
-      set-stop f =
+      pub set_stop : p.found ≡ 0 → SetsIs s m c k b S.Undeclared
+      set_stop f =
           record {
             asked = sym (sym (ap (all_declared s m c k) o ∙ ap (λ y. y && all_declared s m c k (names_of (program_view s m c) more.rest)) (d.declared ∙ ap not (eq-eqb p.found 0 f))) ∙ z.asked);
             bits = λ y e. absurd (let w : ◌≡◌ {A = ℕ} 0 1 = cc in omega arith);
@@ -174,7 +174,7 @@ done-same w w' a q (suc f) e =
     ap₂ {C = List (ℕ × 𝔹)} (λ u l. u ∷ l) (ap₂ {C = ℕ × 𝔹} (λ u v. (u, holds a v)) y.0 y.1) (done-same w w' a (suc q) f (λ j g h. e j (omega arith) (omega arith)))
 
 pub record Passing (s m : List ℕ) (c : Counts) (k n : ℕ) (w₀ w : List ℕ) (res i : ℕ) : Type 0 where
-  pub len-same : length w ≡ length w₀
+  pub len_same : length w ≡ length w₀
   pub high : i ≤ n
   pub order : (j : ℕ) → j < n → get_or w (order_at + j) 0 ≡ get_or w₀ (order_at + j) 0
   pub flows : (a : ℕ) → a < ivars_of m k → flow (program_view s m c) (ivar_in s m k a) (out_of w₀ i) (done_from w a i (n - i)) ≡ flow (program_view s m c) (ivar_in s m k a) (out_of w₀ n) []
@@ -186,7 +186,7 @@ unfolding done_from
 pass-start s m c k n w few =
     let e : n - n ≡ 0 = omega arith in
     record {
-      len-same = refl;
+      len_same = refl;
       high = omega arith;
       order = λ j h. refl;
       flows = λ a l. ap (λ f. flow (program_view s m c) (ivar_in s m k a) (out_of w n) (done_from w a n f)) e;
@@ -263,7 +263,7 @@ module _ {s m : List ℕ} {c : Counts} {k n : ℕ} {w₀ w : List ℕ} {res i : 
           let f : suc (i - 1) ≡ i = omega arith in
           ap (done_from w' a (i - 1)) e
           ∙ ap₂ {C = List (ℕ × 𝔹)} (λ u l. u ∷ l)
-          (ap₂ {C = ℕ × 𝔹} (λ u v. (u, holds a v)) (kept-order (i - 1) (omega (arith, z.high))) (get_or-set_same w (outs_at + (i - 1)) (bit_or o ins) 0 (omega (arith, z.len-same, z.high))))
+          (ap₂ {C = ℕ × 𝔹} (λ u v. (u, holds a v)) (kept-order (i - 1) (omega (arith, z.high))) (get_or-set_same w (outs_at + (i - 1)) (bit_or o ins) 0 (omega (arith, z.len_same, z.high))))
           (ap (λ u. done_from w' a u (n - i)) f
           ∙ done-same w w' a i (n - i) (λ j g l. (kept-order j (omega (arith, z.high)), get_or-set_other w (outs_at + (i - 1)) (outs_at + j) (bit_or o ins) 0 (λ x. omega arith))))
 
@@ -297,7 +297,7 @@ module _ {s m : List ℕ} {c : Counts} {k n : ℕ} {w₀ w : List ℕ} {res i : 
       next : (v : ℕ) → ((a : ℕ) → a < ivars_of m k → all (at_end (program_view s m c)) (done_from w' a (i - 1) (n - (i - 1))) ≡ holds a v) → Passing s m c k n w₀ w' v (i - 1)
       next v e =
           record {
-            len-same = length-set w (outs_at + (i - 1)) (bit_or o ins) ∙ z.len-same;
+            len_same = length-set w (outs_at + (i - 1)) (bit_or o ins) ∙ z.len_same;
             high = omega (arith, z.high);
             order = λ j l. kept-order j l ∙ z.order j l;
             flows = flows_on;

@@ -161,7 +161,7 @@ module _ (m : List ℕ) (c : Counts) {w : List ℕ} {n : ℕ} {b : ℕ} (ok : Wa
           fewer = rw (unseen-push w2 n2 b K ok.few) (omega (arith, d.fewer, one_less));
           room = rw (unseen-push w2 n2 b K ok.few) (omega (arith, d.room, one_less));
           good = push-good K w2 n2 b d.good l h fits;
-          len-same = length-set w2 (order_at + n2) b ∙ (d.len-same ∙ length-set w b 1);
+          len_same = length-set w2 (order_at + n2) b ∙ (d.len_same ∙ length-set w b 1);
         })
 
 -- ---- the blocks that it leads to
@@ -176,11 +176,11 @@ each_none m c ok =
       fewer = omega arith;
       room = omega arith;
       good = ok;
-      len-same = refl;
+      len_same = refl;
     }
 
 each_one : (m : List ℕ) (c : Counts) (t : ℕ) {w w2 : List ℕ} {n n2 : ℕ} → WalkDid (visit_of m c t) c.blocks w n w2 n2 → WalkDid (Each m c (t ∷ [])) c.blocks w n w2 n2
-each_one m c t d = record { is = d.is; fewer = d.fewer; room = d.room; good = d.good; len-same = d.len-same }
+each_one m c t d = record { is = d.is; fewer = d.fewer; room = d.room; good = d.good; len_same = d.len_same }
 
 each_two : (m : List ℕ) (c : Counts) (t u : ℕ) {w w2 w3 : List ℕ} {n n2 n3 : ℕ} → WalkDid (visit_of m c t) c.blocks w n w2 n2 → WalkDid (visit_of m c u) c.blocks w2 n2 w3 n3
     → WalkDid (Each m c (t ∷ u ∷ [])) c.blocks w n w3 n3
@@ -194,7 +194,7 @@ each_two m c t u {w} {w2} {w3} {n} {n2} {n3} d d' =
       fewer = omega (arith, d.fewer, d'.fewer);
       room = omega (arith, d.room, d'.room);
       good = d'.good;
-      len-same = d'.len-same ∙ d.len-same;
+      len_same = d'.len_same ∙ d.len_same;
     }
 
 module _ {m : List ℕ} {c : Counts} {w : List ℕ} {n b : ℕ} {r : Ends} (ok : WalkGood c.blocks w n) (l : b < c.blocks) (e : get_or w b 0 ≡ 0) (en : Ended m c b r) where
@@ -253,7 +253,7 @@ module _ (m : List ℕ) (c : Counts) {w : List ℕ} {n b : ℕ} (ok : WalkGood c
         fewer = d.fewer;
         room = d.room;
         good = d.good;
-        len-same = d.len-same;
+        len_same = d.len_same;
       }
 
   pub visit-old : (get_or w b 0 ≡ 0 → ⊥) → WalkDid (visit_of m c b) c.blocks w n w n
@@ -263,7 +263,7 @@ module _ (m : List ℕ) (c : Counts) {w : List ℕ} {n b : ℕ} (ok : WalkGood c
         fewer = omega arith;
         room = omega arith;
         good = ok;
-        len-same = refl;
+        len_same = refl;
       }
 
 -- ---- from an entry
@@ -284,7 +284,7 @@ module _ (c : Counts) {v w : List ℕ} (f : ChainsFilled 0 blocks_room 0 v w) (l
   pub clear-good : WalkGood c.blocks w 0
   clear-good =
       record {
-        len = omega (arith, f.only.len-same);
+        len = omega (arith, f.only.len_same);
         few = few;
         room = omega (arith, unseen_le w c.blocks);
         order = λ i h. absurd (omega arith);

@@ -89,7 +89,7 @@ pub record WalkDid (F : List ℕ → ℕ → Walk → Walk) (k : ℕ) (w : List 
   pub fewer : unseen w' k ≤ unseen w k
   pub room : r + unseen w' k ≤ n + unseen w k
   pub good : WalkGood k w' r
-  pub len-same : length w' ≡ length w
+  pub len_same : length w' ≡ length w
 
 -- the blocks that b leads to
 pub record Walked (m : List ℕ) (c : Counts) (b : ℕ) (w : List ℕ) (n : ℕ) : Type 0 where

@@ -43,7 +43,7 @@ ivar_put m k j n long hk hj =
     let l1 = length-set m at n.start in
     let l2 = length-set m1 (at + 1) n.len in
     record {
-      len-same = length-set m2 row (j + 1) ∙ l2 ∙ l1;
+      len_same = length-set m2 row (j + 1) ∙ l2 ∙ l1;
       other = λ i a b c.
           get_or-set_other m2 row i (j + 1) 0 c ∙ get_or-set_other m1 (at + 1) i n.len 0 b ∙ get_or-set_other m at i n.start 0 a;
       here =
@@ -112,7 +112,7 @@ module _ {m m' : List ℕ} {c : Counts} {k : ℕ} (n : Name) (r : ProgramReady m
   rest-ready : ProgramReady m (none_of c)
   rest-ready =
       record {
-        len-mem = r.len-mem;
+        len_mem = r.len_mem;
         functions = r.functions;
         classes = omega arith;
         blocks = r.blocks;
@@ -134,7 +134,7 @@ module _ {m m' : List ℕ} {c : Counts} {k : ℕ} (n : Name) (r : ProgramReady m
       let b = r.blocks in
       let f = r.functions in
       record {
-        len-same = p.len-same;
+        len_same = p.len_same;
         insns = λ d a z. apart d (omega arith);
         opnds = λ d a z. apart d (omega arith);
         blocks = λ d a. apart (blocks_at + 2 * d) (omega arith);
@@ -163,7 +163,7 @@ module _ {m m' : List ℕ} {c : Counts} {k : ℕ} (n : Name) (r : ProgramReady m
   ivar_ready : ProgramReady m' c
   ivar_ready =
       record {
-        len-mem = rw p.len-same r.len-mem;
+        len_mem = rw p.len_same r.len_mem;
         functions = r.functions;
         classes = r.classes;
         blocks = r.blocks;

@@ -81,7 +81,7 @@ pub record LookTells (m : List ℕ) (c : Counts) (b : ℕ) (r : 𝔹) : Type 0 w
 
 -- an attribute's name stands at place j of class k, and the class has one attribute more
 pub record PutsIvar (k j : ℕ) (n : Name) (m m' : List ℕ) : Type 0 where
-  pub len-same : length m' ≡ length m
+  pub len_same : length m' ≡ length m
   pub other : (i : ℕ) → (i ≡ ivars_at + ivar_row_words * k + 2 * j → ⊥) → (i ≡ ivars_at + ivar_row_words * k + 2 * j + 1 → ⊥) → (i ≡ classes_at + class_words * k + 2 → ⊥)
       → get_or m' i 0 ≡ get_or m i 0
   pub here : ivar_at m' k j ≡ n

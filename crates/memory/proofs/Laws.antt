@@ -75,19 +75,19 @@ grow_table t u a a' at k n lt le ea e =
 -- at its loop's head the first i places are cleared
 pub record Clearing (d₀ d : List ℕ) (i : ℕ) : Type 0 where
   pub in_range : i ≤ length d₀
-  pub len-same : length d ≡ length d₀
+  pub len_same : length d ≡ length d₀
   pub is : d ≡ zeros i ++ drop i d₀
 
 pub clearing_start : (d : List ℕ) → Clearing d d 0
 unfolding zeros
-clearing_start d = record { in_range = omega arith; len-same = refl; is = fill_none d 0 }
+clearing_start d = record { in_range = omega arith; len_same = refl; is = fill_none d 0 }
 
 module _ {d₀ d : List ℕ} {i : ℕ} (g : Clearing d₀ d i) where
   pub clearing_more : i < length d → Clearing d₀ (set d i 0) (i + 1)
   unfolding zeros
   clearing_more lt = record {
     in_range = omega arith;
-    len-same = length-set d i 0 ∙ g.len-same;
+    len_same = length-set d i 0 ∙ g.len_same;
     is = rw g.is (fill_more i 0 d₀ (omega arith));
   }
 
@@ -174,27 +174,27 @@ over_apart i j l t d h k =
 pub record Writing (t d₀ d : List ℕ) (at i : ℕ) : Type 0 where
   pub in_range : i ≤ length t
   pub room : at + length t ≤ length d₀
-  pub len-same : length d ≡ length d₀
+  pub len_same : length d ≡ length d₀
   pub is : d ≡ over at (take i t) d₀
 
 pub writing_start : (t d : List ℕ) (at : ℕ) → at + length t ≤ length d → Writing t d d at 0
 unfolding over
-writing_start t d at h = record { in_range = omega arith; room = h; len-same = refl; is = let e : at + 0 ≡ at = omega arith in rw e (sym (take-append-drop at d)) }
+writing_start t d at h = record { in_range = omega arith; room = h; len_same = refl; is = let e : at + 0 ≡ at = omega arith in rw e (sym (take-append-drop at d)) }
 
 module _ {t d₀ d : List ℕ} {at i : ℕ} (g : Writing t d₀ d at i) where
   pub writing_more : {x : ℕ} → i < length t → x ≡ get_or t i 0 → Writing t d₀ (set d (at + i) x) at (i + 1)
   writing_more {x} lt e =
       let q : length (take i t) ≡ i = length-take-le i t (omega arith) in
       let r : length (take (i + 1) t) ≡ i + 1 = length-take-le (i + 1) t (omega arith) in
-      let l : length (set d (at + i) x) ≡ length d₀ = length-set d (at + i) x ∙ g.len-same in
+      let l : length (set d (at + i) x) ≡ length d₀ = length-set d (at + i) x ∙ g.len_same in
       record {
         in_range = omega arith;
         room = g.room;
-        len-same = l;
+        len_same = l;
         is =
             over-known at (take (i + 1) t) d₀ (set d (at + i) x) (omega (arith, g.room)) l
             (λ j h. elim (ℕ_discrete j i) [
-              | yes z ↦ rw z (get_or-set_same d (at + i) x 0 (omega (arith, g.room, g.len-same)) ∙ e ∙ sym (get_or-take (i + 1) t i 0 (omega arith)))
+              | yes z ↦ rw z (get_or-set_same d (at + i) x 0 (omega (arith, g.room, g.len_same)) ∙ e ∙ sym (get_or-take (i + 1) t i 0 (omega arith)))
               | no z ↦
                   get_or-set_other d (at + i) (at + j) x 0 (λ y. z (omega arith))
                   ∙ ap (λ (y : List ℕ). get_or y (at + j) 0) g.is

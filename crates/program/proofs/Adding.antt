@@ -79,7 +79,7 @@ module _ {m m' : List ℕ} {c : Counts} {l : Limits} (f : ℕ) (r : ProgramReady
   block-ready =
       let K = block_keeps in
       record {
-        len-mem = rw K.len-same r.len-mem;
+        len_mem = rw K.len_same r.len_mem;
         functions = r.functions;
         classes = r.classes;
         blocks = omega (arith, small.blocks);
@@ -136,7 +136,7 @@ module _ {m m' : List ℕ} {c : Counts} (x : Function) (r : ProgramReady m c) (f
       let K = fun_keeps in
       let b = r.blocks in
       record {
-        len-mem = rw K.len-same r.len-mem;
+        len_mem = rw K.len_same r.len_mem;
         functions = omega arith;
         classes = r.classes;
         blocks = r.blocks;
@@ -242,7 +242,7 @@ module _ {m m' : List ℕ} {c : Counts} {l : Limits} (n : Name) (r : ProgramRead
       let K = class_keeps in
       let b = r.blocks in
       record {
-        len-mem = rw K.len-same r.len-mem;
+        len_mem = rw K.len_same r.len_mem;
         functions = r.functions;
         classes = omega (arith, small.classes);
         blocks = r.blocks;
@@ -315,7 +315,7 @@ starts_is {m4 = m4} x z long p0 p1 p2 p3 =
       is = λ s. rw (empty_class s m4 0 len0 none0, empty_class s m4 1 len1 none1, empty_class s m4 2 len2 none2, empty_class s m4 3 len3 p3.none);
       ok =
           record {
-            len-mem = omega (arith, p0.only.len-same, p1.only.len-same, p2.only.len-same, p3.only.len-same);
+            len_mem = omega (arith, p0.only.len_same, p1.only.len_same, p2.only.len_same, p3.only.len_same);
             functions = omega arith;
             classes = omega arith;
             blocks = omega arith;

@@ -13,12 +13,12 @@ use Rattle.program.proofs.Tables.{tab_ext, tab-add, tab-length}
 
 module _ {lo hi : ℕ} where
   pub only_none : (m : List ℕ) → ProgramOnly lo hi m m
-  only_none m = record { len-same = refl; below = λ k h. refl; above = λ k h. refl }
+  only_none m = record { len_same = refl; below = λ k h. refl; above = λ k h. refl }
 
   pub only_set : {m m' : List ℕ} (k v : ℕ) → ProgramOnly lo hi m m' → lo ≤ k → k < hi → ProgramOnly lo hi m (set m' k v)
   only_set {m' = m'} k v o l h =
       record {
-        len-same = length-set m' k v ∙ o.len-same;
+        len_same = length-set m' k v ∙ o.len_same;
         below = λ j p. get_or-set_other m' k j v 0 (λ e. omega arith) ∙ o.below j p;
         above = λ j p. get_or-set_other m' k j v 0 (λ e. omega arith) ∙ o.above j p;
       }
@@ -26,14 +26,14 @@ module _ {lo hi : ℕ} where
   pub only_then : {m m' m'' : List ℕ} → ProgramOnly lo hi m m' → ProgramOnly lo hi m' m'' → ProgramOnly lo hi m m''
   only_then o p =
       record {
-        len-same = p.len-same ∙ o.len-same;
+        len_same = p.len_same ∙ o.len_same;
         below = λ k h. p.below k h ∙ o.below k h;
         above = λ k h. p.above k h ∙ o.above k h;
       }
 
   pub only-wide : (lo' hi' : ℕ) {m m' : List ℕ} → ProgramOnly lo hi m m' → lo' ≤ lo → hi ≤ hi' → ProgramOnly lo' hi' m m'
   only-wide lo' hi' o l h =
-      record { len-same = o.len-same; below = λ k p. o.below k (omega arith); above = λ k p. o.above k (omega arith) }
+      record { len_same = o.len_same; below = λ k p. o.below k (omega arith); above = λ k p. o.above k (omega arith) }
 
 -- what stands outside stays
 abbrev pub Same : ℕ → ℕ → List ℕ → List ℕ → Type 0

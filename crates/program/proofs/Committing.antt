@@ -106,7 +106,7 @@ flag_keeps {c = c} r l d h =
     let e = opnds-end r in
     let n = r.blocks in
     record {
-      len-same = length-set l (blocks_at + 2 * d + 1) 1;
+      len_same = length-set l (blocks_at + 2 * d + 1) 1;
       insns = λ k p q. get_or-set_other l (blocks_at + 2 * d + 1) k 1 0 (λ z. omega arith);
       opnds = λ k p q. get_or-set_other l (blocks_at + 2 * d + 1) k 1 0 (λ z. omega arith);
       blocks = λ g p. get_or-set_other l (blocks_at + 2 * d + 1) (blocks_at + 2 * g) 1 0 (λ z. omega arith);
@@ -146,7 +146,7 @@ module _ {m : List ℕ} {c : Counts} (b : BlockId) (o : Op) (n : ℕ) (r : Progr
     commit_ready : ((s : List ℕ) (d : ℕ) → d < c.blocks → flag_at m' d ≡ bit_of (terminated (P.with_instruction (new s) (program_view s m c)) d)) → ProgramReady m' (more_insns o n c)
     commit_ready F =
         record {
-          len-mem = rw K.len-same r.len-mem;
+          len_mem = rw K.len_same r.len_mem;
           functions = r.functions;
           classes = r.classes;
           blocks = r.blocks;
@@ -207,7 +207,7 @@ module _ {m : List ℕ} {c : Counts} (b : BlockId) (o : Op) (n : ℕ) (r : Progr
         ok =
             commit_ready K S H
             (λ s d h.
-            flag_is m' b.0 d (omega (arith, r.len-mem, r.blocks, room.block, w.only.len-same)) (terminated (program_view s m c) d) (is_terminator (new s).op)
+            flag_is m' b.0 d (omega (arith, r.len_mem, r.blocks, room.block, w.only.len_same)) (terminated (program_view s m c) d) (is_terminator (new s).op)
             (flags-same c w.only (omega arith) d h ∙ r.flags s d h) (ends_is s o _ ∙ sym p ∙ q)
             ∙ ap bit_of (sym (terminated-more (program_view s m c) (new s) d)));
         counts = refl;

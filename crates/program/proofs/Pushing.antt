@@ -42,23 +42,23 @@ given_two e p q = rw e (puts_then p (omega arith) q)
 pub record Copying (args : List ℕ) (a n at : ℕ) (m₀ m : List ℕ) (i : ℕ) : Type 0 where
   pub high : i ≤ n
   pub puts : Puts at (opnds_in args a i) m₀ m
-  pub len-same : length m ≡ length m₀
+  pub len_same : length m ≡ length m₀
 
 pub copy_start : (args : List ℕ) (a n at : ℕ) (m : List ℕ) → Copying args a n at m m 0
 unfolding opnds_in Rattle.program.specs.Tab.tab
-copy_start args a n at m = record { high = omega arith; puts = puts_none at m; len-same = refl }
+copy_start args a n at m = record { high = omega arith; puts = puts_none at m; len_same = refl }
 
 module _ {args : List ℕ} {a n at : ℕ} {m₀ m : List ℕ} {i : ℕ} (g : Copying args a n at m₀ m i) where
   pub copy_more : i < n → at + 2 * n ≤ length m₀
       → Copying args a n at m₀ (set (set m (at + 2 * i) (get_or args (a + 2 * i) 0)) (at + 2 * i + 1) (get_or args (a + 2 * i + 1) 0)) (i + 1)
   copy_more h long =
-      let same = g.len-same in
+      let same = g.len_same in
       let one = puts_one m (at + 2 * i) (get_or args (a + 2 * i) 0) (get_or args (a + 2 * i + 1) 0) {o = opnd_at args (a + 2 * i)} refl (omega arith) in
       let all = puts_then g.puts (ap (λ (k : ℕ). at + 2 * k) (sym (opnds-length args a i))) one in
       record {
         high = omega arith;
         puts = rw (opnds-add args a i 1, opnds_one args (a + 2 * i)) all;
-        len-same = all.only.len-same;
+        len_same = all.only.len_same;
       }
 
   pub copy_done : n ≤ i → Puts at (opnds_in args a n) m₀ m

@@ -18,7 +18,7 @@ use Rattle.program.proofs.Areas.{Same, same-below, same_above, opnds-same}
 
 -- the rows in use stay; of a block only its function
 pub record Keeps (c : Counts) (m m' : List ℕ) : Type 0 where
-  pub len-same : length m' ≡ length m
+  pub len_same : length m' ≡ length m
   pub insns : Same insns_at (insns_at + insn_words * c.insns) m m'
   pub opnds : Same opnds_at (opnds_at + 2 * c.opnds) m m'
   pub blocks : (b : ℕ) → b < c.blocks → get_or m' (blocks_at + 2 * b) 0 ≡ get_or m (blocks_at + 2 * b) 0
@@ -33,7 +33,7 @@ Flags c m m' = (b : ℕ) → b < c.blocks → flag_at m' b ≡ flag_at m b
 pub keeps_then : {c : Counts} {m m' m'' : List ℕ} → Keeps c m m' → Keeps c m' m'' → Keeps c m m''
 keeps_then p q =
     record {
-      len-same = q.len-same ∙ p.len-same;
+      len_same = q.len_same ∙ p.len_same;
       insns = λ k a e. q.insns k a e ∙ p.insns k a e;
       opnds = λ k a e. q.opnds k a e ∙ p.opnds k a e;
       blocks = λ b h. q.blocks b h ∙ p.blocks b h;
@@ -135,7 +135,7 @@ module _ {m m' : List ℕ} {c : Counts} (r : ProgramReady m c) (K : Keeps c m m'
   pub ready-keep : Flags c m m' → ProgramReady m' c
   ready-keep F =
       record {
-        len-mem = rw K.len-same r.len-mem;
+        len_mem = rw K.len_same r.len_mem;
         functions = r.functions;
         classes = r.classes;
         blocks = r.blocks;
@@ -162,7 +162,7 @@ module _ {m m' : List ℕ} {c : Counts} (r : ProgramReady m c) where
   free_opnds o l h =
       let i = r.insns in
       record {
-        len-same = o.len-same;
+        len_same = o.len_same;
         insns = same-below o insns_at (insns_at + insn_words * c.insns) (omega arith);
         opnds = same-below o opnds_at (opnds_at + 2 * c.opnds) (omega arith);
         blocks = λ b p. o.above (blocks_at + 2 * b) (omega arith);
@@ -174,7 +174,7 @@ module _ {m m' : List ℕ} {c : Counts} (r : ProgramReady m c) where
   pub free_insns : ProgramOnly (insns_at + insn_words * c.insns) (insns_at + insn_words * c.insns + 6) m m' → c.insns < instructions_most → Keeps c m m'
   free_insns o h =
       record {
-        len-same = o.len-same;
+        len_same = o.len_same;
         insns = same-below o insns_at (insns_at + insn_words * c.insns) (omega arith);
         opnds = same_above o opnds_at (opnds_at + 2 * c.opnds) (omega arith);
         blocks = λ b p. o.above (blocks_at + 2 * b) (omega arith);
@@ -188,7 +188,7 @@ module _ {m m' : List ℕ} {c : Counts} (r : ProgramReady m c) where
       let i = r.insns in
       let e = opnds-end r in
       record {
-        len-same = o.len-same;
+        len_same = o.len_same;
         insns = same-below o insns_at (insns_at + insn_words * c.insns) (omega arith);
         opnds = same-below o opnds_at (opnds_at + 2 * c.opnds) (omega arith);
         blocks = λ b p. o.below (blocks_at + 2 * b) (omega arith);
@@ -203,7 +203,7 @@ module _ {m m' : List ℕ} {c : Counts} (r : ProgramReady m c) where
       let e = opnds-end r in
       let n = r.blocks in
       record {
-        len-same = o.len-same;
+        len_same = o.len_same;
         insns = same-below o insns_at (insns_at + insn_words * c.insns) (omega arith);
         opnds = same-below o opnds_at (opnds_at + 2 * c.opnds) (omega arith);
         blocks = λ b p. o.below (blocks_at + 2 * b) (omega arith);
@@ -219,7 +219,7 @@ module _ {m m' : List ℕ} {c : Counts} (r : ProgramReady m c) where
       let n = r.blocks in
       let f = r.functions in
       record {
-        len-same = o.len-same;
+        len_same = o.len_same;
         insns = same-below o insns_at (insns_at + insn_words * c.insns) (omega arith);
         opnds = same-below o opnds_at (opnds_at + 2 * c.opnds) (omega arith);
         blocks = λ b p. o.below (blocks_at + 2 * b) (omega arith);

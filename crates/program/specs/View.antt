@@ -64,7 +64,7 @@ pub record OwnsFrom (m : List ℕ) (n k x : ℕ) : Type 0 where
 -- the counts stay within the tables; each instruction's block and operands are there; the flags of blocks and the number of listed operands are the
 -- program's; a class's methods stand from its first function on
 pub record ProgramReady (m : List ℕ) (c : Counts) : Type 0 where
-  pub len-mem : program_size ≤ length m
+  pub len_mem : program_size ≤ length m
   pub functions : c.functions ≤ functions_most
   pub classes : c.classes ≤ classes_most
   pub blocks : c.blocks ≤ blocks_room
@@ -124,7 +124,7 @@ pub record ReadsBlock (m : List ℕ) (c : Counts) (b f : ℕ) : Type 0 where
 
 -- only the words from lo up to hi may have changed
 pub record ProgramOnly (lo hi : ℕ) (m m' : List ℕ) : Type 0 where
-  pub len-same : length m' ≡ length m
+  pub len_same : length m' ≡ length m
   pub below : (k : ℕ) → k < lo → get_or m' k 0 ≡ get_or m k 0
   pub above : (k : ℕ) → hi ≤ k → get_or m' k 0 ≡ get_or m k 0
 

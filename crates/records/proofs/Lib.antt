@@ -1,4 +1,2 @@
 pub mod Rows
 pub mod Table
-pub mod Again
-pub mod Local

@@ -43,7 +43,7 @@ module _ {m : List ℕ} {c : Counts} (i : ℕ) (r : ProgramReady m c) where
   module _ {t : List Record} (holds : Holds t m c) where
     -- a place of the table
     pub holds-place : i < c.insns → i < length t
-    holds-place h = omega (arith, h, r.insns, holds.len-table)
+    holds-place h = omega (arith, h, r.insns, holds.len_table)
 
     -- what is read there, and what it means
     pub holds_read : {x : Record} {w : Row} → i < c.insns → x ≡ get_or t i none → w ≡ row_of x → ReadsInsn m c i w

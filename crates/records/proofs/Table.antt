@@ -38,4 +38,4 @@ module _ (t : List Record) (m : List ℕ) where
       ]
 
   pub committed_holds : {c : Counts} → ProgramReady m c → length t ≡ instructions_most → Holds (committed t m c.insns) m c
-  committed_holds {c} r e = record { len-table = committed_length c.insns ∙ e; records = λ i h. committed_at c.insns i (omega (arith, r.insns)) h }
+  committed_holds {c} r e = record { len_table = committed_length c.insns ∙ e; records = λ i h. committed_at c.insns i (omega (arith, r.insns)) h }

@@ -29,5 +29,5 @@ row_of x = record { block = record { 0 = x.block % 2 ^ 32 }; op = op_from x.tag 
 
 -- the table holds the program's instructions
 pub record Holds (t : List Record) (m : List ℕ) (c : Counts) : Type 0 where
-  pub len-table : length t ≡ instructions_most
+  pub len_table : length t ≡ instructions_most
   pub records : (i : ℕ) → i < c.insns → get_or t i none ≡ record_at m i

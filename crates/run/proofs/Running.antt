@@ -206,7 +206,7 @@ module _ {s p : List ℕ} {c : Counts} {z : Sizes} {m : List ℕ} {a : Turn} whe
 
 module _ {t : List Record} {p : List ℕ} {c : Counts} (holds : Holds t p c) where
   pub turn_place : {s : List ℕ} {z : Sizes} {m : List ℕ} {a : Turn} → Under s p c z m a → a.insn < length t
-  turn_place U = omega (arith, U.below, holds.len-table)
+  turn_place U = omega (arith, U.below, holds.len_table)
 
   pub turn_read : {r : Record} (i : ℕ) → r ≡ get_or t i none → i < c.insns → r ≡ record_at p i
   turn_read i e l = e ∙ holds.records i l

@@ -40,7 +40,7 @@ module _ (m w : List ℕ) (lm : length m ≡ state_length) (lw : length w ≡ le
   pub index-laid : (c : Counts) (p p' : List ℕ) → length p ≡ program_length → Index (tables_of p) c w → Carried c program_size (take chains_size (w ++ drop chains_size m)) p p' → SctpChained c p p'
   index-laid c p p' lp i e =
       let l = length-take-le program_size p (omega arith) in
-      let l' = length-take-le program_size p' (omega (arith, e.only.len-same)) in
+      let l' = length-take-le program_size p' (omega (arith, e.only.len_same)) in
       record {
         tables = ext_get_or 0 (take program_size p') (take program_size p) (l' ∙ sym l)
             (λ k h. get_or-take program_size p' k 0 (omega arith) ∙ e.only.others k (λ a b. omega arith) ∙ sym (get_or-take program_size p k 0 (omega arith)));
@@ -51,7 +51,7 @@ module _ (m w : List ℕ) (lm : length m ≡ state_length) (lw : length w ≡ le
 pub tables_cleared : {z : Sizes} {m m₁ m₂ m₃ m₄ : List ℕ} {a b : ℕ} → StateHeld z m → a ≡ row_words * z.functions → b ≡ row_words * z.classes
     → ChainsFilled 0 z.insns 0 m m₁ → ChainsFilled live_blocks_at z.blocks 0 m₁ m₂ → ChainsFilled called_at a 0 m₂ m₃ → ChainsFilled reads_at b 0 m₃ m₄ → StateCleared z m₄
 tables_cleared {z} {m} {m₁} {m₂} {m₃} {m₄} h e f w x y r =
-    let len : length m₄ ≡ state_size = r.only.len-same ∙ y.only.len-same ∙ x.only.len-same ∙ w.only.len-same ∙ h.len in
+    let len : length m₄ ≡ state_size = r.only.len_same ∙ y.only.len_same ∙ x.only.len_same ∙ w.only.len_same ∙ h.len in
     record {
       held = record { len = len; functions = h.functions; classes = h.classes; blocks = h.blocks; insns = h.insns };
       kinds = λ i l.

@@ -77,7 +77,7 @@ start-ended {s} {p} {c} {z} {u} {u'} {m} {b} {n} d e =
 -- the state's tables were lent and came back as w, and n stamps behind them were cleared
 module _ {n : ℕ} (m w m' : List ℕ) (long : length m ≡ state_length) (same : length w ≡ length (take state_size m)) (f : ChainsFilled state_size n 0 (w ++ drop state_size m) m') where
   cleared_long : length m' ≡ state_length
-  cleared_long = f.only.len-same ∙ back_long m w long same
+  cleared_long = f.only.len_same ∙ back_long m w long same
 
   pub cleared_same : length m' ≡ length m
   cleared_same = cleared_long ∙ sym long
@@ -120,7 +120,7 @@ users-kept {p} {c} {u} {u'} few len a g = record {
     at j h = a.same (starts_at + j) (omega arith)
 
 pub users-laid : {p : List ℕ} {c : Counts} {u u' : List ℕ} → length u ≡ answer_length → Uses p c starts_at users_at u u' → Users p c u'
-users-laid {p} {c} {u} {u'} len g = record { long = omega (arith, g.len-same); begins = g.begins; rises = g.rises; total = g.total; part = g.part }
+users-laid {p} {c} {u} {u'} len g = record { long = omega (arith, g.len_same); begins = g.begins; rises = g.rises; total = g.total; part = g.part }
 
 -- ---- the whole
 

@@ -54,7 +54,7 @@ module _ (w : List ℕ) (e i j : ℕ) {x : ℕ} (q : x ≡ first_of w (get_or w 
   pub link_old : x ≡ i → UsersPut e i j w w e
   link_old y =
       record {
-        len-same = refl;
+        len_same = refl;
         low = omega arith;
         high = omega arith;
         own = λ l d. rw (front-old w e i (get_or w j 0) l d (sym q ∙ y) fits) d;
@@ -112,7 +112,7 @@ module _ (w : List ℕ) (e i j : ℕ) {x : ℕ} (q : x ≡ first_of w (get_or w 
     pub link_new : UsersPut e i j w w3 (e - 1)
     link_new =
         record {
-          len-same = length-set w2 j d ∙ len2;
+          len_same = length-set w2 j d ∙ len2;
           low = omega arith;
           high = omega arith;
           own = λ l c.
@@ -150,7 +150,7 @@ front-more false i u k f h = front-pick i u k f h
 
 -- the users from instruction i + 1 on, and i where it is among the first q operands
 pub record Turning (m : List ℕ) (n i used a : ℕ) (w₀ w : List ℕ) (e q : ℕ) : Type 0 where
-  pub len-same : length w ≡ length w₀
+  pub len_same : length w ≡ length w₀
   pub len : uses_size ≤ length w
   pub cells : (j : ℕ) → j < n → Cells w e (get_or w j 0) (cons_if (names_to m i q j) i (pick (uses_at m j) (i + 1) (n - (i + 1))))
   pub room : used_to m i + used ≤ e + q
@@ -165,7 +165,7 @@ unfolding used_at
 turn_start {m} {n} {i} {e} {w} {r} {k} {u} p y z l =
     let is : u ≡ used_at m i = z ∙ rw (y, p) in
     record {
-      len-same = refl;
+      len_same = refl;
       len = l.len;
       cells = λ j h. rw (names-none m i j) (l.cells j h);
       room = omega (arith, l.room, sum_more (used_at m) i);
@@ -178,7 +178,7 @@ turn_start {m} {n} {i} {e} {w} {r} {k} {u} p y z l =
 module _ {m : List ℕ} {n i used a : ℕ} {w₀ w : List ℕ} {e q : ℕ} (z : Turning m n i used a w₀ w e q) where
   pub opnd_room : {c : Counts} → ProgramReady m c → i < c.insns → q < used → a + 2 * q + 1 < length m
   unfolding used_at
-  opnd_room ok h g = omega (arith, z.used_is, z.place, ok.ranges i h, ok.opnds, ok.listed, ok.insns, ok.len-mem)
+  opnd_room ok h g = omega (arith, z.used_is, z.place, ok.ranges i h, ok.opnds, ok.listed, ok.insns, ok.len_mem)
 
   module _ (g : q < used) {o : Opnd} (is : o ≡ opnd_at m (a + 2 * q)) where
     more : (j : ℕ) → names_to m i (q + 1) j ≡ (names_to m i q j || names j o)
@@ -187,7 +187,7 @@ module _ {m : List ℕ} {n i used a : ℕ} {w₀ w : List ℕ} {e q : ℕ} (z : 
     same : ((j : ℕ) → j < n → names j o ≡ false) → Turning m n i used a w₀ w e (q + 1)
     same f =
         record {
-          len-same = z.len-same;
+          len_same = z.len_same;
           len = z.len;
           cells = λ j h. rw (more j, f j h, or-false (names_to m i q j)) (z.cells j h);
           room = omega (arith, z.room);
@@ -214,8 +214,8 @@ module _ {m : List ℕ} {n i used a : ℕ} {w₀ w : List ℕ} {e q : ℕ} (z : 
     pub turn_link : {t : InsnId} {w' : List ℕ} {r : ℕ} → o ≡ Insn t → t.0 < n → n ≤ instructions_most → UsersPut e i t.0 w w' r → Turning m n i used a w₀ w' r (q + 1)
     turn_link {t} {w'} {r} y f b p =
         record {
-          len-same = p.len-same ∙ z.len-same;
-          len = omega (arith, z.len, p.len-same);
+          len_same = p.len_same ∙ z.len_same;
+          len = omega (arith, z.len, p.len_same);
           cells = λ j h.
               elim (ℕ_discrete j t.0) [
                 | yes x ↦ subst (λ (k : ℕ). Cells w' r (get_or w' k 0) (cons_if (names_to m i (q + 1) k) i (pick (uses_at m k) (i + 1) (n - (i + 1))))) (sym x) (linked y f p)
@@ -249,17 +249,17 @@ module _ {m : List ℕ} {n i used a : ℕ} {w₀ w : List ℕ} {e q : ℕ} (z : 
 -- ---- all instructions
 
 pub record Linking (m : List ℕ) (n : ℕ) (w₀ w : List ℕ) (e i : ℕ) : Type 0 where
-  pub len-same : length w ≡ length w₀
+  pub len_same : length w ≡ length w₀
   pub high : i ≤ n
   pub linked : Linked m n i e w
 
 pub all_start : {m v w : List ℕ} {c : Counts} → ProgramReady m c → uses_size ≤ length v → ChainsFilled 0 instructions_most uses_most v w → Linking m c.insns w w uses_most c.insns
 all_start {m} {v} {w} {c} ok room f =
     record {
-      len-same = refl;
+      len_same = refl;
       high = omega arith;
       linked = record {
-        len = omega (arith, f.only.len-same);
+        len = omega (arith, f.only.len_same);
         cells = λ j h.
             let a : 0 + j ≡ j = omega arith in
             rw (sym (ap (λ k. get_or w k 0) a) ∙ f.here j (omega (arith, ok.insns)), pick_end (uses_at m j) c.insns) (chained_end (at w items_at) (at w links_at) uses_most uses_most);
@@ -273,7 +273,7 @@ module _ {m : List ℕ} {n : ℕ} {w₀ w : List ℕ} {e i : ℕ} (z : Linking m
   all-next h = let a : i - 1 + 1 ≡ i = omega arith in rw a z.linked
 
   pub all_more : {w' : List ℕ} {r : ℕ} → 0 < i → length w' ≡ length w → Linked m n (i - 1) r w' → Linking m n w₀ w' r (i - 1)
-  all_more h s l = record { len-same = s ∙ z.len-same; high = omega (arith, z.high); linked = l }
+  all_more h s l = record { len_same = s ∙ z.len_same; high = omega (arith, z.high); linked = l }
 
   pub all_done : i ≤ 0 → Linked m n 0 e w
   all_done h = let a : i ≡ 0 = omega arith in rw a at z.linked

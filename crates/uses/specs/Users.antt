@@ -70,7 +70,7 @@ front i [] = i ∷ []
 front i (x ∷ l) = cond (eqb x i) (x ∷ l) (i ∷ x ∷ l)
 
 pub record UsersPut (e i j : ℕ) (w w' : List ℕ) (r : ℕ) : Type 0 where
-  pub len-same : length w' ≡ length w
+  pub len_same : length w' ≡ length w
   pub low : e ≤ r + 1
   pub high : r ≤ e
   pub own : (l : List ℕ) → Cells w e (get_or w j 0) l → Cells w' r (get_or w' j 0) (front i l)
@@ -92,7 +92,7 @@ abbrev pub words : List ℕ → ℕ → ℕ → List ℕ
 words u a n = tab (λ q. get_or u (a + q) 0) n
 
 pub record Uses (m : List ℕ) (c : Counts) (starts users : ℕ) (u u' : List ℕ) : Type 0 where
-  pub len-same : length u' ≡ length u
+  pub len_same : length u' ≡ length u
   pub begins : get_or u' (starts + 0) 0 ≡ 0
   pub rises : (j : ℕ) → j < c.insns → get_or u' (starts + j) 0 ≤ get_or u' (starts + (j + 1)) 0
   pub total : get_or u' (starts + c.insns) 0 ≤ uses_most

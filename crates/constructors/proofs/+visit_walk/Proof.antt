@@ -349,7 +349,7 @@ walk-same-length-2 t c =
     let at-push2 = c.before.before in
     let at-visit = at-push2.before.before.before.before in
     let start = at-visit.before.before.before.before.before.before.before.before.before.before in
-    at-push2.push2.auto.0 ∙ (at-visit.visit.ensures.len-same ∙ length-set start.args.scratch.now start.args.b.0 1)
+    at-push2.push2.auto.0 ∙ (at-visit.visit.ensures.len_same ∙ length-set start.args.scratch.now start.args.b.0 1)
 
 walk-returns-2 : (t : ℕ) → walk-lts.Need-returns-2 (
   end-of-reads.Asked,
@@ -379,7 +379,7 @@ walk-same-length-3 t c =
     let at-visit3 = at-push3.before.before.before.before in
     let at-visit2 = at-visit3.before.before.before.before in
     let start = at-visit2.before.before.before.before.before.before.before.before.before.before in
-    at-push3.push3.auto.0 ∙ (at-visit3.visit3.ensures.len-same ∙ (at-visit2.visit2.ensures.len-same ∙ length-set start.args.scratch.now start.args.b.0 1))
+    at-push3.push3.auto.0 ∙ (at-visit3.visit3.ensures.len_same ∙ (at-visit2.visit2.ensures.len_same ∙ length-set start.args.scratch.now start.args.b.0 1))
 
 walk-returns-3 : (t : ℕ) → walk-lts.Need-returns-3 (
   end-of-reads.Asked,

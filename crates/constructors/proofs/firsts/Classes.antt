@@ -71,7 +71,7 @@ pub record Classes (s m : List ℕ) (c : Counts) (tags payloads : ℕ) (w₀ u�
 
 pub classes-start : (s m : List ℕ) (c : Counts) (tags payloads : ℕ) (w u : List ℕ) → Classes s m c tags payloads w u w u 0
 classes-start s m c tags payloads w u =
-    record { high = omega arith; kept = refl; only = record { len-same = refl; others = λ i a b. refl }; done = λ i h. absurd (omega arith) }
+    record { high = omega arith; kept = refl; only = record { len_same = refl; others = λ i a b. refl }; done = λ i h. absurd (omega arith) }
 
 module _ {s m : List ℕ} {c : Counts} {tags payloads : ℕ} {w₀ u₀ w u : List ℕ} {k : ℕ} (g : Classes s m c tags payloads w₀ u₀ w u k) (r : ProgramReady m c) where
   pub class-fits : k < c.classes → Fits w32 k
@@ -83,7 +83,7 @@ module _ {s m : List ℕ} {c : Counts} {tags payloads : ℕ} {w₀ u₀ w u : Li
   module _ (h : k < c.classes) (apart : tags + (classes_most * ivars_most) ≤ payloads) {u' : List ℕ} {e : ℕ} (f : FirstIs s m c k tags payloads u u' e) where
     wide : FirstsOnly tags payloads (classes_most * ivars_most) u₀ u'
     wide = record {
-      len-same = f.only.len-same ∙ g.only.len-same;
+      len_same = f.only.len_same ∙ g.only.len_same;
       others = λ i a b. f.only.others i (λ x y. a (omega arith) (omega (arith, class-below h))) (λ x y. b (omega arith) (omega (arith, class-below h))) ∙ g.only.others i a b;
     }
 

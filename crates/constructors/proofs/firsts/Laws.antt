@@ -55,18 +55,18 @@ pub record Putting (tags payloads n bits : ℕ) (u₀ u : List ℕ) (a : ℕ) : 
 
 pub put-start : (tags payloads n bits : ℕ) (u : List ℕ) → Putting tags payloads n bits u u 0
 put-start tags payloads n bits u =
-    record { high = omega arith; only = record { len-same = refl; others = λ i g h. refl }; here = λ x h. absurd (omega arith) }
+    record { high = omega arith; only = record { len_same = refl; others = λ i g h. refl }; here = λ x h. absurd (omega arith) }
 
 module _ {tags payloads n bits : ℕ} {u₀ u : List ℕ} {a : ℕ} (z : Putting tags payloads n bits u₀ u a) where
   pub put-more : tags + n ≤ payloads → payloads + n ≤ length u₀ → a < n → Putting tags payloads n bits u₀ (set (set u (tags + a) (1 - bits / 2 ^ a % 2)) (payloads + a) 0) (a + 1)
   unfolding holds
   put-more apart room g =
       let u1 : List ℕ = set u (tags + a) (1 - bits / 2 ^ a % 2) in
-      let l1 : length u1 ≡ length u₀ = length-set u (tags + a) (1 - bits / 2 ^ a % 2) ∙ z.only.len-same in
+      let l1 : length u1 ≡ length u₀ = length-set u (tags + a) (1 - bits / 2 ^ a % 2) ∙ z.only.len_same in
       record {
         high = omega arith;
         only = record {
-          len-same = length-set u1 (payloads + a) 0 ∙ l1;
+          len_same = length-set u1 (payloads + a) 0 ∙ l1;
           others = λ i p q.
               get_or-set_other u1 (payloads + a) i 0 0 (λ x. q (omega arith) (omega arith))
               ∙ (get_or-set_other u (tags + a) i (1 - bits / 2 ^ a % 2) 0 (λ x. p (omega arith) (omega arith)) ∙ z.only.others i p q);
@@ -76,7 +76,7 @@ module _ {tags payloads n bits : ℕ} {u₀ u : List ℕ} {a : ℕ} (z : Putting
               | yes q ↦
                   rw q
                   (ap₂ {C = Kind} kind_from
-                  (get_or-set_other u1 (payloads + a) (tags + a) 0 0 (λ y. omega arith) ∙ get_or-set_same u (tags + a) (1 - bits / 2 ^ a % 2) 0 (omega (arith, z.only.len-same)))
+                  (get_or-set_other u1 (payloads + a) (tags + a) 0 0 (λ y. omega arith) ∙ get_or-set_same u (tags + a) (1 - bits / 2 ^ a % 2) 0 (omega (arith, z.only.len_same)))
                   (get_or-set_same u1 (payloads + a) 0 0 (omega (arith, l1)))
                   ∙ bit_kind (bits / 2 ^ a % 2) (omega arith))
               | no q ↦
@@ -148,7 +148,7 @@ module _ (s m : List ℕ) (c : Counts) (k : ℕ) (h : k < c.classes) where
   first_by o e = ap by e
 
   wider : {t p n bits : ℕ} {u u' : List ℕ} → n ≤ ivars_most → PutsKinds t p n bits u u' → FirstsOnly t p 64 u u'
-  wider few d = record { len-same = d.only.len-same; others = λ i a b. d.only.others i (λ x y. a x (omega arith)) (λ x y. b x (omega arith)) }
+  wider few d = record { len_same = d.only.len_same; others = λ i a b. d.only.others i (λ x y. a x (omega arith)) (λ x y. b x (omega arith)) }
 
   module _ {r : Constructor} (few : ivars_of m k ≤ 64) (co : Constructs s m c k r) where
     pub first-none : {tags payloads : ℕ} {u u' : List ℕ} → r ≡ K.Nothing → PutsKinds (tags + ivars_most * k) (payloads + ivars_most * k) (ivars_of m k) 0 u u' → FirstIs s m c k tags payloads u u' 0
@@ -169,8 +169,8 @@ module _ (s m : List ℕ) (c : Counts) (k : ℕ) (h : k < c.classes) where
       told : SureIs s m c k (reverse_post_order (program_view s m c) (entry (program_view s m c) f.0)) sure
       told = subst (λ (e : ℕ). SureIs s m c k (reverse_post_order (program_view s m c) e) sure) (sym entry-is) an
 
-      pub first-refused : (tags payloads : ℕ) (u : List ℕ) → sure ≡ Q.Undeclared → FirstIs s m c k tags payloads u u 13
-      first-refused tags payloads u e =
+      pub first_refused : (tags payloads : ℕ) (u : List ℕ) → sure ≡ Q.Undeclared → FirstIs s m c k tags payloads u u 13
+      first_refused tags payloads u e =
           record {
             is =
                 sym
@@ -182,7 +182,7 @@ module _ (s m : List ℕ) (c : Counts) (k : ℕ) (h : k < c.classes) where
                 (class (program_view s m c) k).ivars))
                 (refused 13))
                 (told.asked ∙ ap (λ x. has (sure_in x)) e));
-            only = record { len-same = refl; others = λ i a b. refl };
+            only = record { len_same = refl; others = λ i a b. refl };
           }
 
       pub first_some : {tags payloads : ℕ} {u u' : List ℕ} {bits : ℕ} → sure ≡ Q.Set bits

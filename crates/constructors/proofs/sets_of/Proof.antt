@@ -1,5 +1,5 @@
 use Rattle.constructors.proofs.Endings.{code-word, code-next}
-use Rattle.constructors.proofs.Setting.{Setting, set-start, set-done, set-rises, set-skip, set_more, set-stop}
+use Rattle.constructors.proofs.Setting.{Setting, set-start, set-done, set-rises, set-skip, set_more, set_stop}
 use mathlib.Core.Path.{◌≡◌}
 use Prim.Native.Nat.{ℕ, ◌-◌, ◌<◌}
 use native.Mathlib.Omega.{arith}
@@ -68,7 +68,7 @@ named-requires c κs =
 
 returns : tie.Need-returns invariant-loop decreases-loop
 returns c =
-    set-stop
+    set_stop
     (c.before.before.before.before.before.before.before.before.before.before.before.loop.invariant _
     c.before.before.before.before.before.before.before.before.before.before.before.before.before.before.before.before.requires.1.1.1
     c.before.before.before.before.before.before.before.before.before.before.before.before.first-insn.ensures)

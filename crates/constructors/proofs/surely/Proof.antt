@@ -37,7 +37,7 @@ slice-read-d c =
       arith,
       c.before.before.before.before.before.before.before.requires.1.1.0.few,
       c.before.before.before.before.before.before.before.requires.1.1.1.0,
-      c.before.before.loop.invariant.len-same,
+      c.before.before.loop.invariant.len_same,
       c.before.before.loop.invariant.high,
     )
 
@@ -57,7 +57,7 @@ add-before c =
       arith,
       c.before.before.before.before.before.before.before.before.requires.1.1.0.few,
       c.before.before.before.before.before.before.before.before.requires.1.1.1.0,
-      c.before.before.before.loop.invariant.len-same,
+      c.before.before.before.loop.invariant.len_same,
       c.before.before.before.loop.invariant.high,
     )
 
@@ -75,14 +75,14 @@ before-requires c κs = (
           arith,
           c.before.before.before.before.before.before.before.before.requires.1.1.0.few,
           c.before.before.before.before.before.before.before.before.requires.1.1.1.0,
-          c.before.before.before.loop.invariant.len-same,
+          c.before.before.before.loop.invariant.len_same,
           c.before.before.before.loop.invariant.high,
         ),
         omega (
           arith,
           c.before.before.before.before.before.before.before.before.requires.1.1.0.few,
           c.before.before.before.before.before.before.before.before.requires.1.1.1.0,
-          c.before.before.before.loop.invariant.len-same,
+          c.before.before.before.loop.invariant.len_same,
           c.before.before.before.loop.invariant.high,
         ),
       ),
@@ -141,7 +141,7 @@ add-scratch c =
       arith,
       c.before.before.before.before.before.before.before.before.before.before.before.before.before.before.before.requires.1.1.0.few,
       c.before.before.before.before.before.before.before.before.before.before.before.before.before.before.before.requires.1.1.1.0,
-      c.before.before.before.before.before.before.before.before.before.before.loop.invariant.len-same,
+      c.before.before.before.before.before.before.before.before.before.before.loop.invariant.len_same,
       c.before.before.before.before.before.before.before.before.before.before.loop.invariant.high,
     )
 
@@ -151,7 +151,7 @@ mul-scratch c =
       arith,
       c.before.before.before.before.before.before.before.before.before.before.before.before.before.before.before.requires.1.1.0.few,
       c.before.before.before.before.before.before.before.before.before.before.before.before.before.before.before.requires.1.1.1.0,
-      c.before.before.before.before.before.before.before.before.before.before.loop.invariant.len-same,
+      c.before.before.before.before.before.before.before.before.before.before.loop.invariant.len_same,
       c.before.before.before.before.before.before.before.before.before.before.loop.invariant.high,
     )
 
@@ -161,7 +161,7 @@ slice-write-scratch c =
       arith,
       c.before.before.before.before.before.before.before.before.before.before.before.before.before.before.before.requires.1.1.0.few,
       c.before.before.before.before.before.before.before.before.before.before.before.before.before.before.before.requires.1.1.1.0,
-      c.before.before.before.before.before.before.before.before.before.before.loop.invariant.len-same,
+      c.before.before.before.before.before.before.before.before.before.before.loop.invariant.len_same,
       c.before.before.before.before.before.before.before.before.before.before.loop.invariant.high,
     )
 

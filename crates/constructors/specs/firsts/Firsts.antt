@@ -22,7 +22,7 @@ start_of false = Nil
 
 -- only the n words from a on and the n words from b on may have changed
 pub record FirstsOnly (a b n : ℕ) (u u' : List ℕ) : Type 0 where
-  pub len-same : length u' ≡ length u
+  pub len_same : length u' ≡ length u
   pub others : (i : ℕ) → (a ≤ i → i < a + n → ⊥) → (b ≤ i → i < b + n → ⊥) → get_or u' i 0 ≡ get_or u i 0
 
 pub record PutsKinds (tags payloads n bits : ℕ) (u u' : List ℕ) : Type 0 where

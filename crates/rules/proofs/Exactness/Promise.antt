@@ -285,8 +285,8 @@ module _ {L : Limits} {p : Program} (R : Finished L p) where
   cond-under true false = omega arith
   cond-under false b = omega arith
 
-  params-few : (f : ℕ) → f < length p.functions → length (parameters p f) ≤ params# p
-  params-few f h =
+  params_few : (f : ℕ) → f < length p.functions → length (parameters p f) ≤ params# p
+  params_few f h =
       omega (arith, params-sum f h, sum_le (λ i. cond (is_param (op_of p i)) (cond (eqb (function_of p i) f) 1 0) 0) (λ i. cond (is_param (op_of p i)) 1 0) (from 0 (length p.instructions)) (λ i. cond-under (is_param (op_of p i)) (eqb (function_of p i) f)), number-sum p (λ o. has (about o).place) 1)
 
   -- a method belongs to one class: so all methods of a name in different classes have no more Params than there are
@@ -339,6 +339,6 @@ module _ {L : Limits} {p : Program} (R : Finished L p) where
     params_in = params_in;
     params_of = params_of;
     in_returns = in_returns;
-    params-few = params-few;
+    params_few = params_few;
     methods_few = methods_few;
   }

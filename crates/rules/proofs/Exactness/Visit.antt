@@ -47,7 +47,7 @@ pub record Formed (p : Program) : Type 0 where
   pub params_in : (f x : ℕ) → x ∈ parameters p f → (x < length p.instructions) × (is_param (op_of p x) ≡ true)
   pub params_of : (f x : ℕ) → f < length p.functions → x ∈ parameters p f → function_of p x ≡ f
   pub in_returns : (x : ℕ) (v : Opnd) → x < length p.instructions → op_of p x ≡ Ends (Return v) → v ∈ returns p (function_of p x)
-  pub params-few : (f : ℕ) → f < length p.functions → length (parameters p f) ≤ params# p
+  pub params_few : (f : ℕ) → f < length p.functions → length (parameters p f) ≤ params# p
   pub methods_few : (s : ℕ) (n : Name) → sum (λ c. sum (λ f. length (parameters p f)) (to_list (method_named p c n))) (members_of s) ≤ params# p
 
 module _ (L : Limits) (p : Program) (K : Laws (length p.classes)) (F : Formed p) where
@@ -288,7 +288,7 @@ module _ (L : Limits) (p : Program) (K : Laws (length p.classes)) (F : Formed p)
       rw d.1 (record {
         inv = z.ok.inv;
         count = z.calm.count;
-        cost = omega (arith, z.cost, F.params-few f hf);
+        cost = omega (arith, z.cost, F.params_few f hf);
         leads = λ b x. rw x (n.0.calm.soon (entry p f) m.1);
         passed = tt;
         rule = sent_rule i (Static f) l c.0.1 r.0 d.0;

@@ -284,9 +284,9 @@ module _ {M : Type 1} {𝓤 : Ura M} (𝓛 : Logic 𝓤) (mem : Memory → SProp
         use1 𝓛
         (later (some (λ (γ' : GName). ‵ (OwnS l₉ ν' γ' ws.0 (length ws.0))
         ⊛ ‵ (flent (ν' ∷ []) ((arr_parts (shares R.the_row) (length ws.0)).part full_share ws.0 l₉ 0)))))
-        (lends_shr_slice 𝓛 R.the_row (named 0) (ν' ∷ []) full_share ws.0 l₉ 0 (table-room ws.0 holds.len-table)) $
+        (lends_shr_slice 𝓛 R.the_row (named 0) (ν' ∷ []) full_share ws.0 l₉ 0 (table-room ws.0 holds.len_table)) $
         await ! tt $ pick ! (λ γ'. split ! $
-        rewrite ! 0 (λ (n : ℕ). ‵ (OwnS l₉ ν' γ' ws.0 n)) holds.len-table refl $
+        rewrite ! 0 (λ (n : ℕ). ‵ (OwnS l₉ ν' γ' ws.0 n)) holds.len_table refl $
         -- [what t owns; what is lent; the token of ν'; p's token; true; what the parameters own; the tokens behind p's; s's token; the locals]
         assigns ! (addr ! (from ! (stop !))) (from ! (stop !)) (init ! 14 refl (tt, tt)) $
         assigns ! (agg ! (and_then ! (load ! (from ! (stop !)) (look ! 14 refl)) (and_then ! (big_lit ! (record { fits = count_fits })) (no_more !)))) (from ! (stop !))
@@ -322,7 +322,7 @@ module _ {M : Type 1} {𝓤 : Ura M} (𝓛 : Logic 𝓤) (mem : Memory → SProp
         -- [what says m's last list; true; the tokens and the result; true; what is lent; true; the locals]
         move ! (2 ∷ []) $ split ! $ split ! $ lft_end ! tt $ move ! (0 ∷ 6 ∷ []) $ lent_back ! tt $
         use1 𝓛 (‵ (froom (ty_array (lone (R.the_row).mir) (length ws.0)) l₉ 0)) (freed 𝓛 R.the_row (length ws.0) ws.0 l₉) $ rewrite ! 0
-        (λ (n : ℕ). ‵ (froom (ty_array (lone (R.the_row).mir) n) l₉ 0)) holds.len-table refl $
+        (λ (n : ℕ). ‵ (froom (ty_array (lone (R.the_row).mir) n) l₉ 0)) holds.len_table refl $
         move ! (2 ∷ []) $ peeks ! G.the_row (Is G.the_row) (shows 𝓛 G.the_row) r (v₂ ∷ []) (λ is₂.
         land ! (from ! (stop !)) (init ! 40 refl ((EL.lawful G.the_type G'.the_laws 𝓛 tt).typed r _ is₂).0) $
         -- [what the result owns; _9; the tokens; what says m's last list; true; true; true; the other locals]

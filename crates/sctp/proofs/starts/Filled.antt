@@ -67,7 +67,7 @@ module _ (s p : List ℕ) (c : Counts) (z : Sizes) (e : MachineSized c z) where
   module _ (r : P.ProgramReady p c) (m w : List ℕ) (g : StateCleared z m) (o : FirstsOnly ivar_kinds_at ivar_bits_at (classes_most * ivars_most) m w) where
     cleared_still : StateCleared z w
     cleared_still = record {
-      held = held_at w r (o.len-same ∙ g.held.len);
+      held = held_at w r (o.len_same ∙ g.held.len);
       kinds = λ i h. let few = g.held.insns in o.others i (λ a b. omega arith) (λ a b. omega arith) ∙ g.kinds i h;
       live = λ b h. let few = g.held.blocks in o.others (live_blocks_at + b) (λ a k. omega arith) (λ a k. omega arith) ∙ g.live b h;
       called = λ j h. o.others (called_at + j) (λ a b. omega arith) (λ a b. omega arith) ∙ g.called j h;

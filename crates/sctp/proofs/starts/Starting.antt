@@ -82,7 +82,7 @@ module _ {s p : List ℕ} {c : Counts} {x : List ℕ} {z : Sizes} (a : Indexed s
   main-live g = omega (arith, g.inside, a.sized.blocks)
 
   pub filled-ready : {m w : List ℕ} {e : ℕ} {q : Regs} → StateCleared z m → FirstsAre s p c ivar_kinds_at ivar_bits_at m w e → q ≡ no_entries → StateReady z w q
-  filled-ready {m} {w} g f h = rw h (blank-ready z w (held_at s p c z a.sized w a.ready (f.only.len-same ∙ g.held.len)))
+  filled-ready {m} {w} g f h = rw h (blank-ready z w (held_at s p c z a.sized w a.ready (f.only.len_same ∙ g.held.len)))
 
   -- ---- the ways
 

@@ -88,7 +88,7 @@ unsettle-requires c κs =
     let met = c.before.before.before.before.before.before.before.before in
     let visit = met.before.before.before.before in
     let start = visit.before.before.before.before.before.before.before.before.before in (
-      start.requires.0.analysed.indexed.ready.len-mem,
+      start.requires.0.analysed.indexed.ready.len_mem,
       (
         long-on start.requires.0 start.requires.1 visit.visit-timed.ensures met.went.given.1,
         held_on start.requires.0 start.requires.1 visit.visit-timed.ensures met.went.given.1,

@@ -45,7 +45,7 @@ first-kinds-requires c κs = (
             c.before.before.before.before.before.before.before.before.before.requires.1.1.1.1.1.0,
             omega (
               arith,
-              c.before.before.before.loop.invariant.only.len-same,
+              c.before.before.before.loop.invariant.only.len_same,
               c.before.before.before.before.before.before.before.before.before.requires.1.1.1.1.1.1,
             ),
           ),

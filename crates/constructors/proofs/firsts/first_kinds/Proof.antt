@@ -1,4 +1,4 @@
-use Rattle.constructors.proofs.firsts.Laws.{ctor_below, entry-below, first-none, first-refused, first_some}
+use Rattle.constructors.proofs.firsts.Laws.{ctor_below, entry-below, first-none, first_refused, first_some}
 use native.Mathlib.Omega.{arith}
 use borrow.Author.Rules.{rules}
 use Rattle.constructors.proofs.firsts.first_kinds.Statement.{statement}
@@ -159,7 +159,7 @@ same-length-2 c = search rules
 
 returns-2 : tie.Need-returns-2
 returns-2 c =
-    first-refused c.before.before.before.before.before.before.before.before.before.before.before.before.before.before.before.before.before.before.before.args.script.now
+    first_refused c.before.before.before.before.before.before.before.before.before.before.before.before.before.before.before.before.before.before.before.args.script.now
     c.before.before.before.before.before.before.before.before.before.before.before.before.before.before.before.before.before.before.before.args.program.now
     c.before.before.before.before.before.before.before.before.before.before.before.before.before.before.before.before.before.before.before.args.counts _
     c.before.before.before.before.before.before.before.before.before.before.before.before.before.before.before.before.before.before.before.requires.1.1.1.1.0.1

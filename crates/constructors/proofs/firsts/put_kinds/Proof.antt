@@ -30,7 +30,7 @@ mul-users : tie.Need-overflow-mul-users invariant-loop decreases-loop
 mul-users c = search rules
 
 slice-write-users : tie.Need-slice-write-users invariant-loop decreases-loop
-slice-write-users c = omega (arith, c.before.loop.invariant.only.len-same)
+slice-write-users c = omega (arith, c.before.loop.invariant.only.len_same)
 
 add-users-2 : tie.Need-overflow-add-users-2 invariant-loop decreases-loop
 add-users-2 c = search rules
@@ -39,7 +39,7 @@ mul-users-2 : tie.Need-overflow-mul-users-2 invariant-loop decreases-loop
 mul-users-2 c = search rules
 
 slice-write-users-2 : tie.Need-slice-write-users-2 invariant-loop decreases-loop
-slice-write-users-2 c = simp length-set (omega (arith, c.before.loop.invariant.only.len-same))
+slice-write-users-2 c = simp length-set (omega (arith, c.before.loop.invariant.only.len_same))
 
 add_a : tie.Need-overflow-add-a invariant-loop decreases-loop
 add_a c = search rules

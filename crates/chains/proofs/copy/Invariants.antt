@@ -1,0 +1,12 @@
+-- What the loop of `chains::copy` keeps.
+use Rattle.chains.proofs.Carry.{Copying, copy_start, copy_more, copy_done}
+use Prim.Native.Nat.{◌-◌}
+use native.Mathlib.Omega.{arith}
+use borrow.Author.Rules.{rules}
+use Rattle.chains.proofs.copy.Given as goal
+
+abbrev pub invariant-loop-i : goal.invariant-loop-i
+invariant-loop-i l = Copying l.base l.at l.n l.scratch l.initial.t l.t l.i
+
+abbrev pub decreases-loop-i : goal.decreases-loop-i
+decreases-loop-i l = l.n - l.i

@@ -1,0 +1,19 @@
+-- `lookups::class_named` meets its contract. Assumes nothing.
+use Rattle.program.specs.Rows.{name_in, class_at}
+use Rattle.lookups.specs.Look.{is_class}
+use Rattle.lookups.proofs.Finds.{Latest, latest-start, latest-more}
+use Rattle.lookups.proofs.Rows.{class-none, class_hit}
+use borrow.Author.Rules.{rules}
+use Rattle.lookups.proofs.class_named.Goals as goal
+
+pub loop-i-init : goal.loop-i-init
+loop-i-init c = search latest-start
+
+pub returns-then-class_is : goal.returns-then-class_is
+returns-then-class_is c = search class_hit
+
+pub loop-i-preserved : goal.loop-i-preserved
+loop-i-preserved c = search latest-more
+
+pub returns : goal.returns
+returns c = search class-none

@@ -1,0 +1,12 @@
+-- What the loop of `lookups::main_function` keeps.
+use Rattle.lookups.specs.Look.{is_main, fun_row}
+use Rattle.lookups.proofs.Finds.{Latest, latest-start, latest-more}
+use Rattle.lookups.proofs.Rows.{main-none, main_hit}
+use borrow.Author.Rules.{rules}
+use Rattle.lookups.proofs.main_function.Given as goal
+
+abbrev pub invariant-loop-i : goal.invariant-loop-i
+invariant-loop-i l = Latest is_main (fun_row l.script l.program) l.initial.i l.i
+
+abbrev pub decreases-loop-i : goal.decreases-loop-i
+decreases-loop-i l = l.i

@@ -1,0 +1,19 @@
+-- `program::copy_opnds` meets its contract. Assumes nothing.
+use native.Mathlib.Omega.{arith}
+use lib.ListN.{length-set}
+use Prim.Native.Nat.{◌-◌}
+use Rattle.program.proofs.Pushing.{Copying, copy_start, copy_more, copy_done}
+use borrow.Author.Rules.{rules}
+use Rattle.program.proofs.copy_opnds.Goals as goal
+
+pub loop-i-init : goal.loop-i-init
+loop-i-init c = search copy_start
+
+pub bounds-program-at-in-loop-i : goal.bounds-program-at-in-loop-i
+bounds-program-at-in-loop-i c = simp length-set (omega arith)
+
+pub loop-i-preserved : goal.loop-i-preserved
+loop-i-preserved c = search copy_more
+
+pub returns : goal.returns
+returns c = search copy_done

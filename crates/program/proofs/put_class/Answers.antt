@@ -1,0 +1,18 @@
+-- `program::put_class` meets its contract. Assumes nothing.
+use native.Mathlib.Omega.{arith}
+use lib.ListN.{length-set}
+use Rattle.program.proofs.Stores.{class-put}
+use borrow.Author.Rules.{rules}
+use Rattle.program.proofs.put_class.Goals as goal
+
+pub bounds-program-at-2 : goal.bounds-program-at-2
+bounds-program-at-2 c = simp length-set (omega arith)
+
+pub bounds-program-at-3 : goal.bounds-program-at-3
+bounds-program-at-3 c = simp length-set (omega arith)
+
+pub bounds-program-at-4 : goal.bounds-program-at-4
+bounds-program-at-4 c = simp length-set (omega arith)
+
+pub returns : goal.returns
+returns c = search class-put
