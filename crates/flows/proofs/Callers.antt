@@ -16,7 +16,7 @@ use lib.Seq.{drop-cons, get_or-drop}
 use Rattle.ids.specs.declared.InsnId.{InsnId}
 use Rattle.ids.proofs.Bits.{Either, yes, no, either}
 use Rattle.kinds.specs.declared.Kind.{Kind}
-use Rattle.kinds.specs.declared.Kind.TheVariants.{Empty, Any, Nil, Objects}
+use Rattle.kinds.specs.declared.Kind.TheVariants.{Empty, Nil, Objects}
 use Rattle.kinds.specs.declared.Joined.{Joined}
 use Rattle.kinds.specs.declared.Joined.TheVariants.{Of}
 use Rattle.kinds.specs.Kinds.{is_set}
@@ -157,7 +157,7 @@ module _ (m : List ℕ) (c : Counts) (i n : ℕ) (r : ProgramReady m c) (below :
           ∙ at-any given (skip + n) (P.Const Nil) (P.Const Empty) (let k = given-length m (opnds_at + 2 * first) count in omega arith)
           ∙ sym (argument_is L s h);
     };
-    inside = let a = row-range m c i r below in let b = r.len-mem in omega arith;
+    inside = let a = row-range m c i r below in let b = r.len_mem in omega arith;
   }
 
   pub argument-none : count ≤ skip + n → ArguesAt m c i n 0
@@ -167,7 +167,7 @@ module _ (m : List ℕ) (c : Counts) (i n : ℕ) (r : ProgramReady m c) (below :
           ap opnd_of (stands_none m refl)
           ∙ sym (argument_is L s h ∙ get_or-eq_default given (P.Const Empty) (let k = given-length m (opnds_at + 2 * first) count in omega arith));
     };
-    inside = let b = r.len-mem in omega arith;
+    inside = let b = r.len_mem in omega arith;
   }
 
 pub fits-inside : (z : Sizes) (r : Opnd) → FitsAt z.insns (opnd_of r) → OperandInside z r
