@@ -7,8 +7,10 @@ ghost use Rattle.rules.specs.Program.{limits};
 ghost use Rattle.live.specs.Runs.{Runs, Numbered};
 ghost use Rattle.live.specs.Questions.{words_of, line_of, line_most, words_most, QuestionPut};
 
-use libc::STDERR_FILENO;
 use printing::Told;
+use std::env::FillError;
+use std::io::{Read, Write};
+use std::rt::Env;
 use streams::Input;
 
 // How many bytes were read and what was written of their script, or that they couldn't be read.
@@ -19,13 +21,13 @@ enum Ran {
 }
 
 // Reads a script and writes its frames. The buffer has one byte more than the longest script: a longer input fills it, and is refused.
-fn run(script: &mut [u8]) -> Ran
+fn run<R: Read, W: Write>(from: &mut R, to: &mut W, script: &mut [u8]) -> Ran
     requires { length script.old ≡ limits.script + 1 }
     ensures { Runs script.new result }
 {
-    match streams::read(script) {
+    match streams::read(from, script) {
         Input::Read(n) => {
-            let told = printing::write_answer(&script[..n]);
+            let told = printing::write_answer(to, &script[..n]);
             Ran::Answer(n, told)
         }
         Input::Failed => Ran::Unread,
@@ -112,37 +114,48 @@ fn put_line(n: u8, out: &mut [u8]) -> usize
 
 // ---- standard error
 
-fn say(line: &[u8]) {
-    streams::write(STDERR_FILENO, line);
+fn say<W: Write>(to: &mut W, line: &[u8]) {
+    streams::write(to, line);
 }
 
-fn say_question(n: u8)
+fn say_question<W: Write>(to: &mut W, n: u8)
     requires { (1 ≤ n) × (n ≤ 20) }
 {
     let mut line = [0u8; 96];
     let len = put_line(n, &mut line);
-    say(&line[..len]);
+    say(to, &line[..len]);
 }
 
 // What the frames don't say.
-fn report(t: Told)
+fn report<W: Write>(to: &mut W, t: Told)
     requires { Numbered t }
 {
     match t {
         Told::Answered(_) => {}
-        Told::Refused(q, _) => say_question(q),
-        Told::Stopped(_) => say(b"live: standard output can't be written\n"),
+        Told::Refused(q, _) => say_question(to, q),
+        Told::Stopped(_) => say(to, b"live: standard output can't be written\n"),
     }
 }
 
-fn main() {
-    if 1 < os::arg_count() {
-        say(b"usage: live < SCRIPT (no arguments)\n");
+// Whether the program was given an argument behind its own name; how long it is doesn't matter.
+fn has_argument(env: &impl Env) -> bool {
+    let mut start = [0u8; 1];
+    match env.arg(1, &mut start) {
+        Ok(_) => true,
+        Err(FillError::TooLong) => true,
+        Err(FillError::NotPresent) => false,
+    }
+}
+
+fn main(rt: HostRuntime) {
+    let mut errors = rt.stderr();
+    if has_argument(&rt) {
+        say(&mut errors, b"usage: live < SCRIPT (no arguments)\n");
         return;
     }
     let mut script = [0u8; call::SCRIPT_MOST + 1];
-    match run(&mut script) {
-        Ran::Answer(_, t) => report(t),
-        Ran::Unread => say(b"live: standard input can't be read\n"),
+    match run(&mut rt.stdin(), &mut rt.stdout(), &mut script) {
+        Ran::Answer(_, t) => report(&mut errors, t),
+        Ran::Unread => say(&mut errors, b"live: standard input can't be read\n"),
     }
 }

@@ -1,4 +1,4 @@
-// Frames on standard output.
+// Frames on an output.
 #![tactic(auto)]
 
 ghost use Rattle.std.specs.Prelude.{◌≡◌, ◌≤◌, length};
@@ -11,7 +11,7 @@ ghost use Rattle.printing.specs.Sent.{Handed, Sends, number_in, SentTells};
 
 use call::Outcome;
 use frames::NextFrame;
-use libc::STDOUT_FILENO;
+use std::io::Write;
 
 // A piece of the frames: the next frame behind it, its length, and how many of its bytes the output took.
 #[derive(Clone, Copy)]
@@ -37,7 +37,7 @@ pub enum Told {
 }
 
 // Writes the frames from a cursor on, as many as the buffer holds.
-fn write_some(answer: &[usize], from: NextFrame, out: &mut [u8]) -> Piece
+fn write_some<W: Write>(to: &mut W, answer: &[usize], from: NextFrame, out: &mut [u8]) -> Piece
     requires answer_len { length answer.now ≡ answer_length }
     requires line_most_in_bounds { line_most ≤ length out.old }
     ensures { Handed answer.now from out.old result out.new }
@@ -45,20 +45,20 @@ fn write_some(answer: &[usize], from: NextFrame, out: &mut [u8]) -> Piece
     let reach = frames::write_from(answer, from, out);
     let next = reach.next;
     let len = reach.len;
-    let taken = streams::write(STDOUT_FILENO, &out[..len]);
+    let taken = streams::write(to, &out[..len]);
     Piece { next, len, taken }
 }
 
 // Writes all frames of an answer, up to the first write that fails.
-pub fn write_frames(answer: &[usize]) -> Sent
+pub fn write_frames<W: Write>(to: &mut W, answer: &[usize]) -> Sent
     requires { length answer.now ≡ answer_length }
     ensures { Sends (rest_of answer.now NextFrame.Totals) result }
 {
-    let mut out = io::large_buffer();
+    let mut out = [0u8; 65536];
     let mut cursor = NextFrame::Totals;
     let mut done = 0;
     while frames::more(cursor) {
-        let piece = write_some(answer, cursor, &mut out);
+        let piece = write_some(to, answer, cursor, &mut out);
         let reached = done + piece.taken;
         if piece.taken < piece.len {
             return Sent::Part(reached);
@@ -71,46 +71,46 @@ pub fn write_frames(answer: &[usize]) -> Sent
 }
 
 // Writes the frame of a refusal.
-pub fn write_refusal(n: u8) -> Sent
+pub fn write_refusal<W: Write>(to: &mut W, n: u8) -> Sent
     ensures { Sends (refusal_frame n) result }
 {
     let mut line = [0u8; 32];
     let len = frames::write_refusal(n, &mut line);
-    let taken = streams::write(STDOUT_FILENO, &line[..len]);
+    let taken = streams::write(to, &line[..len]);
     if taken < len {
         return Sent::Part(taken);
     }
     Sent::All(taken)
 }
 
-fn tell_answer(answer: &[usize]) -> Told
+fn tell_answer<W: Write>(to: &mut W, answer: &[usize]) -> Told
     requires { length answer.now ≡ answer_length }
     ensures { SentTells none (rest_of answer.now NextFrame.Totals) result }
 {
-    match write_frames(answer) {
+    match write_frames(to, answer) {
         Sent::All(n) => Told::Answered(n),
         Sent::Part(n) => Told::Stopped(n),
     }
 }
 
-fn tell_refusal(q: u8) -> Told
+fn tell_refusal<W: Write>(to: &mut W, q: u8) -> Told
     ensures { SentTells (some q) (refusal_frame q) result }
 {
-    match write_refusal(q) {
+    match write_refusal(to, q) {
         Sent::All(n) => Told::Refused(q, n),
         Sent::Part(n) => Told::Stopped(n),
     }
 }
 
 // Writes the frames of a script's answer, or of its refusal.
-pub fn write_answer(script: &[u8]) -> Told
+pub fn write_answer<W: Write>(to: &mut W, script: &[u8]) -> Told
     ensures { SentTells (number_in (analyze limits script.now)) (live script.now) result }
 {
     let mut answer = [0usize; call::ANSWER_LEN];
     let mut program = [0usize; call::PROGRAM_LEN];
     let mut state = [0usize; call::STATE_LEN];
     match call::analyze(script, &mut answer, &mut program, &mut state) {
-        Outcome::Answered => tell_answer(&answer),
-        Outcome::Refused(q) => tell_refusal(q),
+        Outcome::Answered => tell_answer(to, &answer),
+        Outcome::Refused(q) => tell_refusal(to, q),
     }
 }

@@ -1,8 +1,9 @@
-// Texts put together in memory, and batches: on standard input and output each part stands behind its length in four bytes.
+// Texts put together in memory, and batches: read and written, each part stands behind its length in four bytes.
 ghost use Rattle.std.specs.Prelude.{◌≤◌, length};
 ghost use Rattle.replay.specs.batches.Turns.{TurnWithin};
 
-use libc::{STDERR_FILENO, STDOUT_FILENO};
+use itoa::Buffer;
+use std::io::{Read, Write};
 use streams::Input;
 
 // ---- texts: each of these puts something at `at` of `out`, as far as there is room, and answers the place behind it
@@ -51,9 +52,8 @@ pub fn put_number(out: &mut [u8], at: usize, n: u64) -> usize
     requires { at ≤ length out.old }
     ensures { result ≤ length out.old }
 {
-    let mut digits = [0u8; 20];
-    let k = io::decimal(n, &mut digits);
-    put_bytes(out, at, &digits[..k])
+    let mut digits = Buffer::new();
+    put_bytes(out, at, digits.format(n).as_bytes())
 }
 
 // A letter and a number.
@@ -121,13 +121,13 @@ fn length_in(head: &[u8; 4]) -> usize {
 }
 
 // n bytes into a script's memory.
-fn read_bytes(script: &mut [u8], n: usize) -> BatchTurn
+fn read_bytes<R: Read>(from: &mut R, script: &mut [u8], n: usize) -> BatchTurn
     ensures { TurnWithin script.new result }
 {
     if script.len() < n {
         return BatchTurn::Cut;
     }
-    match streams::read(&mut script[..n]) {
+    match streams::read(from, &mut script[..n]) {
         Input::Read(k) => {
             if k < n {
                 return BatchTurn::Cut;
@@ -139,11 +139,11 @@ fn read_bytes(script: &mut [u8], n: usize) -> BatchTurn
 }
 
 // The next script of the batch.
-pub fn read_script(script: &mut [u8]) -> BatchTurn
+pub fn read_script<R: Read>(from: &mut R, script: &mut [u8]) -> BatchTurn
     ensures { TurnWithin script.new result }
 {
     let mut head = [0u8; 4];
-    match streams::read(&mut head) {
+    match streams::read(from, &mut head) {
         Input::Read(k) => {
             if k == 0 {
                 return BatchTurn::Ended;
@@ -151,37 +151,37 @@ pub fn read_script(script: &mut [u8]) -> BatchTurn
             if k < 4 {
                 return BatchTurn::Cut;
             }
-            read_bytes(script, length_in(&head))
+            read_bytes(from, script, length_in(&head))
         }
         Input::Failed => BatchTurn::Unread,
     }
 }
 
 // The first n bytes; whether all were written.
-fn write_front(fd: i32, out: &[u8], n: usize) -> bool
+fn write_front<W: Write>(to: &mut W, out: &[u8], n: usize) -> bool
     requires { n ≤ length out.now }
 {
-    streams::write(fd, &out[..n]) == n
+    streams::write(to, &out[..n]) == n
 }
 
-fn write_length(n: usize) -> bool {
+fn write_length<W: Write>(to: &mut W, n: usize) -> bool {
     let bytes = [
         (n / 16777216 % 256) as u8,
         (n / 65536 % 256) as u8,
         (n / 256 % 256) as u8,
         (n % 256) as u8,
     ];
-    write_front(STDOUT_FILENO, &bytes, 4)
+    write_front(to, &bytes, 4)
 }
 
 // The first n bytes as a part of the batch; whether all was written.
-pub fn write_part(out: &[u8], n: usize) -> bool
+pub fn write_part<W: Write>(to: &mut W, out: &[u8], n: usize) -> bool
     requires { n ≤ length out.now }
 {
-    if !write_length(n) {
+    if !write_length(to, n) {
         return false;
     }
-    write_front(STDOUT_FILENO, out, n)
+    write_front(to, out, n)
 }
 
 fn put_reason(out: &mut [u8], at: usize, t: BatchTurn) -> usize
@@ -198,13 +198,13 @@ fn put_reason(out: &mut [u8], at: usize, t: BatchTurn) -> usize
     }
 }
 
-// Says on standard error why a program stops, if the batch isn't at its end.
-pub fn tell(program: &[u8], t: BatchTurn) {
+// Says why a program stops, if the batch isn't at its end.
+pub fn tell<W: Write>(to: &mut W, program: &[u8], t: BatchTurn) {
     if let BatchTurn::Ended = t {
         return;
     }
     let mut line = [0u8; 128];
     let named = put_bytes(&mut line, 0, program);
     let n = put_reason(&mut line, named, t);
-    write_front(STDERR_FILENO, &line, n);
+    write_front(to, &line, n);
 }

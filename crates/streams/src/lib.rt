@@ -1,10 +1,11 @@
 // Standard input and output.
 #![tactic(auto)]
 
-ghost use Rattle.std.specs.Prelude.{◌≤◌, length};
-ghost use Rattle.streams.specs.Input.{InputFits};
+ghost use Rattle.std.specs.Prelude.{◌≤◌, length, take};
+ghost use Rattle.std.specs.Io.KnownBytes.{Appends};
+ghost use Rattle.streams.specs.Input.{InputFits, PieceTaken, InputTaken};
 
-use libc::STDIN_FILENO;
+use std::io::{Error, ErrorKind, Read, Write};
 
 // How often a call is made that signals interrupt before it moves a byte. Nothing bounds how many signals come, and a loop must end.
 const TRIES: usize = 10000;
@@ -16,23 +17,25 @@ pub enum Input {
     Failed,
 }
 
-// Whether it was a signal that made the last call fail.
-fn interrupted() -> bool {
-    os::errno() == libc::EINTR
+// Whether it was a signal that made a call fail.
+fn interrupted(e: Error) -> bool {
+    e.kind() == ErrorKind::Interrupted
 }
 
 // One write: how many bytes were taken, none where it failed.
-fn write_some(fd: i32, bytes: &[u8]) -> usize
-    ensures { result ≤ length bytes.now }
+fn write_some<W: Write>(to: &mut W, bytes: &[u8]) -> usize
+    ensures in_bounds { result ≤ length bytes.now }
+    ensures appends { Appends (W.contents to.old) (W.contents to.new) (take result bytes.now) }
 {
     let mut tries = TRIES;
     while 0 < tries {
-        let got = libc::write(fd, bytes);
-        if 0 <= got {
-            return io::count(got, bytes);
-        }
-        if !interrupted() {
-            return 0;
+        match to.write(bytes) {
+            Ok(n) => return n,
+            Err(e) => {
+                if !interrupted(e) {
+                    return 0;
+                }
+            }
         }
         tries -= 1;
     }
@@ -40,12 +43,13 @@ fn write_some(fd: i32, bytes: &[u8]) -> usize
 }
 
 // Writes all bytes, and answers how many were taken: fewer than all where a write failed, after which none is made.
-pub fn write(fd: i32, bytes: &[u8]) -> usize
-    ensures { result ≤ length bytes.now }
+pub fn write<W: Write>(to: &mut W, bytes: &[u8]) -> usize
+    ensures in_bounds { result ≤ length bytes.now }
+    ensures appends { Appends (W.contents to.old) (W.contents to.new) (take result bytes.now) }
 {
     let mut done = 0;
     while done < bytes.len() {
-        let n = write_some(fd, &bytes[done..]);
+        let n = write_some(to, &bytes[done..]);
         if n == 0 {
             return done;
         }
@@ -55,17 +59,19 @@ pub fn write(fd: i32, bytes: &[u8]) -> usize
 }
 
 // One read: no bytes at the end of the input.
-fn read_some(buffer: &mut [u8]) -> Input
-    ensures { InputFits buffer.new result }
+fn read_some<R: Read>(from: &mut R, buffer: &mut [u8]) -> Input
+    ensures fits { InputFits buffer.new result }
+    ensures taken { PieceTaken (R.remaining from.old) (R.remaining from.new) buffer.new result }
 {
     let mut tries = TRIES;
     while 0 < tries {
-        let got = libc::read(STDIN_FILENO, buffer);
-        if 0 <= got {
-            return Input::Read(io::count(got, buffer));
-        }
-        if !interrupted() {
-            return Input::Failed;
+        match from.read(buffer) {
+            Ok(n) => return Input::Read(n),
+            Err(e) => {
+                if !interrupted(e) {
+                    return Input::Failed;
+                }
+            }
         }
         tries -= 1;
     }
@@ -73,12 +79,13 @@ fn read_some(buffer: &mut [u8]) -> Input
 }
 
 // Reads until the input ends or the buffer is full.
-pub fn read(buffer: &mut [u8]) -> Input
-    ensures { InputFits buffer.new result }
+pub fn read<R: Read>(from: &mut R, buffer: &mut [u8]) -> Input
+    ensures fits { InputFits buffer.new result }
+    ensures taken { InputTaken (R.remaining from.old) (R.remaining from.new) buffer.new result }
 {
     let mut done = 0;
     while done < buffer.len() {
-        match read_some(&mut buffer[done..]) {
+        match read_some(from, &mut buffer[done..]) {
             Input::Read(n) => {
                 if n == 0 {
                     return Input::Read(done);

@@ -38,7 +38,7 @@ use Rattle.state.proofs.Wakes.{wake_same, wake_wider}
 use Rattle.chains.specs.Chains.{ChainsChained, at, self, ChainIs, FitsId}
 use Rattle.chains.proofs.Lists.{Starts, chained_below, chained_none, chained_some, chained_low, chained_high, chained_next}
 use Rattle.machine.specs.opnds.Reads.{OperandInside, kind_in}
-use Rattle.machine.proofs.opnds.Given.{kind_of}
+use Rattle.machine.proofs.opnds.Given.{kind_of_lem}
 use Rattle.flows.specs.declared.AsSet.TheVariants.{Set}
 use Rattle.flows.specs.Flows.{Argues, as_set}
 use Rattle.flows.proofs.Callers.{fits-inside}
@@ -106,7 +106,7 @@ module _ {m : List ℕ} {c : Counts} {z : Sizes} {w : List ℕ} {q : Regs} {i j 
     is = λ L room p v u.
         let s = state_view z v w q in
         let y = program_view u.script m c in
-        let e : k ≡ kind_of s (argument L y (place_of L y j) i) = a.is L u.script u.call ∙ sym (kind_of s (argument L y (place_of L y j) i)) in
+        let e : k ≡ kind_of s (argument L y (place_of L y j) i) = a.is L u.script u.call ∙ sym (kind_of_lem s (argument L y (place_of L y j) i)) in
         g.is L room p v tt ∙ rw u.program (ap (λ (t : Kind). wake_if_wider L y t j s) e ∙ pass-is L y i j s);
     ok = g.ok;
   }

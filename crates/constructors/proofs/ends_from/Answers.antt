@@ -1,0 +1,12 @@
+-- `constructors::ends_from` meets its contract. Assumes nothing.
+use Rattle.constructors.proofs.Endings.{ends_jump, ends_if}
+use borrow.Author.Rules.{rules}
+use Rattle.constructors.proofs.ends_from.Reads as reads
+use Rattle.constructors.proofs.ends_from.Lts as lts
+use Rattle.constructors.proofs.ends_from.Goals as goal
+
+pub returns-in-Jump : goal.returns-in-Jump
+returns-in-Jump c = search ends_jump
+
+pub returns-in-IfTrue : goal.returns-in-IfTrue
+returns-in-IfTrue c = search ends_if

@@ -1,0 +1,23 @@
+-- What the loop of `uses::compute_uses` keeps.
+use Rattle.uses.proofs.Laying.{Laying, Copying, lay_start, copy_start, copy_done, on_room, lay_done, copy_rises, copy_room, copy_inside, copy_more}
+use lib.ListN.{length-set}
+use Prim.Native.Nat.{◌-◌}
+use native.Mathlib.Omega.{arith}
+use borrow.Author.Rules.{rules}
+use Rattle.uses.proofs.compute_uses.Reads as reads
+use Rattle.uses.proofs.compute_uses.Lts as lts
+use Rattle.uses.proofs.link_all.Reads as link-all-reads
+use Rattle.memory.specs.Layout.{uses_most}
+use Rattle.uses.proofs.compute_uses.Given as goal
+
+abbrev pub invariant-loop-h : goal.invariant-loop-h
+invariant-loop-h l = Copying l.program l.n l.starts l.users l.scratch l.initial.u l.u l.j l.pos l.h
+
+abbrev pub decreases-loop-h : goal.decreases-loop-h
+decreases-loop-h l = uses_most - l.h
+
+abbrev pub invariant-loop-j : goal.invariant-loop-j
+invariant-loop-j l = Laying l.program l.n l.starts l.users l.initial.u l.u l.pos l.j
+
+abbrev pub decreases-loop-j : goal.decreases-loop-j
+decreases-loop-j l = l.n - l.j
