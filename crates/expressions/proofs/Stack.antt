@@ -4,7 +4,7 @@ use mathlib.Core.List.{List, [], ◌∷◌, ◌++◌, map}
 use Prim.Native.Nat.{ℕ, ◌+◌, ◌-◌, ◌*◌, ◌≤◌, ◌<◌}
 use native.Mathlib.Omega.{arith}
 use lib.ListN.{get_or}
-use Rattle.variables.specs.Memory.{entry, vars}
+use Rattle.variables.specs.Memory.{entry}
 use Rattle.variables.proofs.Entries.{made_move}
 use Rattle.program.specs.Rows.{opnds_in, opnd_of}
 use Rattle.program.specs.declared.Opnd.{Opnd}

@@ -19,7 +19,6 @@ use Rattle.lexer.specs.Lexed.{text_of, word_in, Glances}
 use Rattle.lexer.specs.declared.Lexed.{Lexed}
 use Rattle.lexer.specs.declared.Lexed.TheVariants as Seen
 use Rattle.lexer.specs.declared.Glimpse.{Glimpse}
-use Rattle.lexer.specs.declared.Glimpse.TheVariants as Glimpse
 use Rattle.lexer.specs.declared.Word.{Word}
 use Rattle.lexer.proofs.Lexes.{signed, unsigned, unseen}
 use Rattle.program.specs.Rows.{opnds_in, opnd_of, op_in, given, name_in}
@@ -35,24 +34,17 @@ use Rattle.cursor.specs.declared.Cursor.{Cursor}
 use Rattle.cursor.specs.declared.Parsed.{Parsed}
 use Rattle.cursor.specs.declared.Parsed.TheVariants.{Done, Refused}
 use Rattle.cursor.specs.declared.Moved.{Moved}
-use Rattle.cursor.specs.declared.Moved.TheVariants as Moved
 use Rattle.cursor.specs.declared.Ident.{Ident}
-use Rattle.cursor.specs.declared.Ident.TheVariants as Ident
 use Rattle.cursor.specs.declared.Matched.{Matched}
-use Rattle.cursor.specs.declared.Matched.TheVariants as Matched
 use Rattle.cursor.specs.declared.Suffix.{Suffix}
-use Rattle.cursor.specs.declared.Suffix.TheVariants as Suffix
 use Rattle.cursor.proofs.Laws.{step-none, step_less, step_trans, Acted, got, gave, refuses, arrives, ends_as, added_did}
 use Rattle.cursor.proofs.Wording.{is-yes, is_no, spelt_open, spelt_close, spelt_comma, spelt_plus, spelt_minus, spelt_times, spelt_less, spelt_dot, word_read, peek-found, peek-none, glanced}
 use Rattle.memory.specs.Layout.{operands_most}
 use Rattle.cursor.specs.Layout.{scratch_size}
 use Rattle.expressions.specs.Readers.{again_of, Agains, taken_of, ArgDid, args_of, ArgsDid, suffixed_of, SuffixDid}
 use Rattle.expressions.specs.declared.ArgTurn.{ArgTurn}
-use Rattle.expressions.specs.declared.ArgTurn.TheVariants as ArgTurn
 use Rattle.expressions.specs.declared.Args.{Args}
-use Rattle.expressions.specs.declared.Args.TheVariants as Args
 use Rattle.expressions.specs.declared.Suffixed.{Suffixed}
-use Rattle.expressions.specs.declared.Suffixed.TheVariants as Suffixed
 use Rattle.expressions.proofs.Loops.{Loops, loops_start, loops_on, loops_end, loops_stop}
 use Rattle.expressions.proofs.Stack.{height_free, waiting-same, stacks_args, stacks_at, stacks_more, stacks_state, stacks_in, stacks_step, step_height, step_from}
 use Rattle.expressions.proofs.Ways.{ident_went, match_went, match_not, match_gave, expect-went, expect_gave, suffix_low, operator-passed, call-passed, member_passed}

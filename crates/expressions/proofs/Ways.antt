@@ -12,14 +12,13 @@ use Rattle.kinds.specs.declared.Arith.{Arith}
 use Rattle.kinds.specs.declared.Kind.TheVariants.{Num}
 use Rattle.rules.specs.Actions.{answered, refused, loop}
 use Rattle.rules.specs.Program as P
-use Rattle.rules.specs.Words.{is, decimal}
-use Rattle.rules.specs.Reading.{Reads, pass, expect, expect_ident, match_token, turns, get_self, Operator, parse_group, parse_ivar, parse_name, parse_primary, parse_member, parse_suffix, parse_expr}
+use Rattle.rules.specs.Words.{decimal}
+use Rattle.rules.specs.Reading.{Reads, pass, expect, expect_ident, match_token, turns, get_self, parse_group, parse_ivar, parse_name, parse_primary, parse_member, parse_suffix, parse_expr}
 use Rattle.lexer.specs.Lexed.{value_of, text_of, Glances}
 use Rattle.lexer.specs.Lexed as Lexed
 use Rattle.lexer.specs.declared.Lexed.{Lexed}
 use Rattle.lexer.specs.declared.Lexed.TheVariants as Seen
 use Rattle.lexer.specs.declared.Glimpse.{Glimpse}
-use Rattle.lexer.specs.declared.Glimpse.TheVariants as Glimpse
 use Rattle.lexer.specs.declared.Word.{Word}
 use Rattle.lexer.proofs.Lexes.{signed}
 use Rattle.program.specs.Rows.{opnd_of, name_in}
@@ -32,13 +31,9 @@ use Rattle.cursor.specs.declared.Cursor.{Cursor}
 use Rattle.cursor.specs.declared.Parsed.{Parsed}
 use Rattle.cursor.specs.declared.Parsed.TheVariants.{Done, Refused}
 use Rattle.cursor.specs.declared.Moved.{Moved}
-use Rattle.cursor.specs.declared.Moved.TheVariants as Moved
 use Rattle.cursor.specs.declared.Ident.{Ident}
-use Rattle.cursor.specs.declared.Ident.TheVariants as Ident
 use Rattle.cursor.specs.declared.Matched.{Matched}
-use Rattle.cursor.specs.declared.Matched.TheVariants as Matched
 use Rattle.cursor.specs.declared.Suffix.{Suffix}
-use Rattle.cursor.specs.declared.Suffix.TheVariants as Suffix
 use Rattle.cursor.proofs.Laws.{step-none, step_trans, Acted, got, gave, refuses, arrives, ends_as, in_moved, step-moved, moved-did, added_did}
 use Rattle.cursor.proofs.Wording.{is-yes, is_no, literal_yes, literal_no, spelt_open, spelt_close, spelt_equals, spelt_at, word_read, peek-found, peek-none, pass-found, glanced}
 use Rattle.memory.specs.Layout.{script_most}
