@@ -10,7 +10,7 @@ use lib.Dec.{eqb, ltb}
 use lib.ListN.{length}
 use Rattle.kinds.specs.declared.Arith.{Arith}
 use Rattle.kinds.specs.declared.Arith.TheVariants.{Add, Sub, Mul, Less}
-use Rattle.rules.specs.Actions.{answered, Turn, again, ends, loop, if◌then◌else◌, give}
+use Rattle.rules.specs.Actions.{answered, Turn, again, ends, loop, when◌then◌else◌, give}
 use Rattle.rules.specs.Program as P
 use Rattle.rules.specs.Words.{is}
 use Rattle.rules.specs.Reading.{Parser, Reads, pass, expect, match_token, turns, push, Operator, operator, on_with, parse_arg, parse_args, parse_call, parse_member, parse_right, parse_suffix}
@@ -356,10 +356,10 @@ module _ (L : P.Limits) (s : List ℕ) (E : ℕ → Reads P.Opnd) where
     -- the rules' choice, over what the tests of the word come to
     abbrev on_operator : Option Operator → Bool → Bool → Reads (Turn P.Opnd P.Opnd)
     on_operator u f g = elim u [
-      | some o ↦ if ltb o.prec prec then give (ends v) else on_with L s E (parse_right L s E o v)
+      | some o ↦ when ltb o.prec prec then give (ends v) else on_with L s E (parse_right L s E o v)
       | none ↦
-          if f then on_with L s E (parse_call L s E v)
-          else if g then on_with L s E (parse_member L s E v)
+          when f then on_with L s E (parse_call L s E v)
+          else when g then on_with L s E (parse_member L s E v)
           else give (ends v)
     ]
 
@@ -373,7 +373,7 @@ module _ (L : P.Limits) (s : List ℕ) (E : ℕ → Reads P.Opnd) where
     three r p q x i = on_operator (p i) (q i) (x i) r
 
     weighed : (t : Bool) (o : Arith) (n right : ℕ) (r : Parser)
-        → on_suffix (cond t Suffix.Ends (Suffix.Operator o right)) r ≡ (if t then give (ends v) else on_with L s E (parse_right L s E (operator o n right) v)) r
+        → on_suffix (cond t Suffix.Ends (Suffix.Operator o right)) r ≡ (when t then give (ends v) else on_with L s E (parse_right L s E (operator o n right) v)) r
     unfolding parse_right
     weighed true o n right r = refl
     weighed false o n right r = refl
