@@ -13,10 +13,10 @@ use Rattle.streams.specs.Input.{InputFits}
 -- at the loop's head
 pub record Reading (d₀ d : List ℕ) (done : ℕ) : Type 0 where
   pub in_range : done ≤ length d
-  pub len_same : length d ≡ length d₀
+  pub len-same : length d ≡ length d₀
 
 pub reading_start : (d : List ℕ) → Reading d d 0
-reading_start d = record { in_range = omega arith; len_same = refl }
+reading_start d = record { in_range = omega arith; len-same = refl }
 
 pub reading_done : {d₀ d : List ℕ} {done : ℕ} → Reading d₀ d done → InputFits d (Read done)
 reading_done {d = d} {done = done} g = (g.in_range, sym (length-take-le done d g.in_range))
@@ -36,7 +36,7 @@ module _ (d u : List ℕ) {d₀ : List ℕ} {done : ℕ} (g : Reading d₀ d don
     pub reading_more : Reading d₀ (put_mid done (length d - done) d u) (done + n)
     reading_more =
         let l = same_len_mid done (length d - done) d u e in
-        record { in_range = omega (arith, l, reading_room); len_same = l ∙ g.len_same }
+        record { in_range = omega (arith, l, reading_room); len-same = l ∙ g.len-same }
 
 -- ---- where the bytes are known
 
