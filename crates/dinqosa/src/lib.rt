@@ -1,4 +1,4 @@
-// The call as C and Rust link it: bindings/dinqosa.h, bindings/dinqosa.rs.
+// The call as crate dinqosa_c exports it to C and Rust.
 #![tactic(auto)]
 
 ghost use Rattle.call.specs.Call.{after, lent};
@@ -7,8 +7,7 @@ ghost use Rattle.dinqosa.specs.Exported.{Gives};
 use call::Outcome;
 
 // 0 for an answer, else the number of the refusal.
-#[unsafe(no_mangle)]
-pub extern "C" fn dinqosa_analyze(
+pub fn dinqosa_analyze(
     script: &[u8],
     answer: &mut [usize],
     program: &mut [usize],

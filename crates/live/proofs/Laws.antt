@@ -69,11 +69,11 @@ full-refused d {n} e f =
 pub record Putting (t : List ℕ) (at : ℕ) (d out : List ℕ) (i : ℕ) : Type 0 where
   pub in_range : i ≤ length t
   pub room : at + length t ≤ length d
-  pub len-same : length out ≡ length d
+  pub len_same : length out ≡ length d
   pub is : out ≡ paste d at t i
 
 pub putting_start : (t : List ℕ) (at : ℕ) (d : List ℕ) → at + length t ≤ length d → Putting t at d d 0
-putting_start t at d h = record { in_range = omega arith; room = h; len-same = refl; is = paste-zero d at t }
+putting_start t at d h = record { in_range = omega arith; room = h; len_same = refl; is = paste-zero d at t }
 
 module _ {t : List ℕ} {at : ℕ} {d out : List ℕ} {i : ℕ} (g : Putting t at d out i) where
   pub putting_more : i < length t → Putting t at d (set out (at + i) (get_or t i 0)) (i + 1)
@@ -81,14 +81,14 @@ module _ {t : List ℕ} {at : ℕ} {d out : List ℕ} {i : ℕ} (g : Putting t a
       record {
         in_range = omega arith;
         room = g.room;
-        len-same = length-set out (at + i) (get_or t i 0) ∙ g.len-same;
+        len_same = length-set out (at + i) (get_or t i 0) ∙ g.len_same;
         is = rw (g.is, add-one) (paste-suc d at t i 0 (omega (arith, g.room)) h);
       }
 
   pub putting_done : length t ≤ i → QuestionPut t at d (at + i) out
   putting_done h =
       let e : i ≡ length t = omega (arith, g.in_range) in
-      let f : at + i ≤ length out = omega (arith, g.room, g.len-same) in
+      let f : at + i ≤ length out = omega (arith, g.room, g.len_same) in
       record {
         text = rw (g.is, take-paste d at t i (omega (arith, g.room)) g.in_range, take_all i t h);
         end = rw e;

@@ -1,5 +1,5 @@
 -- The input is read piece by piece. Assumes nothing.
-use Rattle.std.proofs.Common.{◌≡◌, ℕ, ◌+◌, ◌-◌, ◌≤◌, List, ◌++◌, Option, arith, length, take, drop, refl, sym, ap, ◌∙◌, subst, le_refl, length-take-le}
+use Rattle.std.proofs.Common.{◌≡◌, ℕ, ◌+◌, ◌-◌, ◌≤◌, List, ◌++◌, Option, arith, length, take, drop, sym, ap, ◌∙◌, subst, le_refl, length-take-le}
 use Rattle.std.proofs.lemmas.List.{take_rest}
 use Rattle.std.proofs.lemmas.Slice.{take-put_mid_below}
 use Rattle.std.specs.Io.KnownBytes.{Appends, Consumes, Keeps}
@@ -13,22 +13,10 @@ use Rattle.streams.specs.Input.{InputFits}
 -- at the loop's head
 pub record Reading (d₀ d : List ℕ) (done : ℕ) : Type 0 where
   pub in_range : done ≤ length d
-  pub len-same : length d ≡ length d₀
-
-pub reading_start : (d : List ℕ) → Reading d d 0
-reading_start d = record { in_range = omega arith; len-same = refl }
-
-pub reading_done : {d₀ d : List ℕ} {done : ℕ} → Reading d₀ d done → InputFits d (Read done)
-reading_done {d = d} {done = done} g = (g.in_range, sym (length-take-le done d g.in_range))
+  pub len_same : length d ≡ length d₀
 
 -- the rest of the buffer was lent, and came back
 module _ (d u : List ℕ) {d₀ : List ℕ} {done : ℕ} (g : Reading d₀ d done) (e : length u ≡ length (mid_of done (length d - done) d)) where
-  pub reading_stop : InputFits (put_mid done (length d - done) d u) (Read done)
-  reading_stop =
-      let l = same_len_mid done (length d - done) d u e in
-      let h : done ≤ length (put_mid done (length d - done) d u) = omega (arith, l, g.in_range) in
-      (h, sym (length-take-le done (put_mid done (length d - done) d u) h))
-
   module _ {r : Input} {n : ℕ} (f : InputFits u r) (q : r ≡ Read n) where
     pub reading_room : done + n ≤ length d
     reading_room = omega (arith, (rw q at f).0, mid_len done (length d) d (omega arith), g.in_range)
@@ -36,7 +24,7 @@ module _ (d u : List ℕ) {d₀ : List ℕ} {done : ℕ} (g : Reading d₀ d don
     pub reading_more : Reading d₀ (put_mid done (length d - done) d u) (done + n)
     reading_more =
         let l = same_len_mid done (length d - done) d u e in
-        record { in_range = omega (arith, l, reading_room); len-same = l ∙ g.len-same }
+        record { in_range = omega (arith, l, reading_room); len_same = l ∙ g.len_same }
 
 -- ---- where the bytes are known
 

@@ -1,11 +1,6 @@
 -- `attributes::gets` meets its contract. Assumes nothing.
 use Rattle.attributes.proofs.Woken.{gets-is}
 use Rattle.program.specs.Rows.{name_in}
-use borrow.Author.Rules.{rules}
-use Rattle.attributes.proofs.gets.Reads as reads
-use Rattle.attributes.proofs.gets.Lts as lts
-use Rattle.attributes.proofs.op_gets.Reads as op-gets-reads
-use Rattle.program.proofs.read_insn.Reads as read-insn-reads
 use Rattle.attributes.proofs.gets.Goals as goal
 
 pub returns : goal.returns

@@ -1,11 +1,7 @@
 -- `attributes::mark_each` meets its contract. Assumes nothing.
 use borrow.Author.Rules.{rules}
-use Rattle.attributes.proofs.Marks.{Marking, marking_start, marking_more, marking_done}
+use Rattle.attributes.proofs.Marks.{marking_start, marking_more, marking_done}
 use Rattle.machine.proofs.receivers.Walk.{step, none_left, class-below}
-use Rattle.attributes.proofs.mark_each.Reads as reads
-use Rattle.attributes.proofs.mark_each.Lts as lts
-use Rattle.ids.proofs.smallest.Reads as smallest-reads
-use Rattle.state.proofs.add_read.Reads as add-read-reads
 use Rattle.attributes.proofs.mark_each.Goals as goal
 
 pub loop-c-init : goal.loop-c-init

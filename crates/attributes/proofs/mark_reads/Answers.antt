@@ -1,11 +1,6 @@
 -- `attributes::mark_reads` meets its contract. Assumes nothing.
 use Rattle.attributes.proofs.Marks.{marks_met, marks_unmet}
 use Rattle.machine.proofs.receivers.Walk.{met-below}
-use borrow.Author.Rules.{rules}
-use Rattle.attributes.proofs.mark_reads.Reads as reads
-use Rattle.attributes.proofs.mark_reads.Lts as lts
-use Rattle.attributes.proofs.mark_each.Reads as mark-each-reads
-use Rattle.machine.proofs.receivers.classes_of.Reads as classes-of-reads
 use Rattle.attributes.proofs.mark_reads.Goals as goal
 
 pub mark_each-requires-clause-state_held : goal.mark_each-requires-clause-state_held
@@ -13,7 +8,7 @@ mark_each-requires-clause-state_held c = c.requires.state_ready.held
 
 pub mark_each-requires-clause-classes_below : goal.mark_each-requires-clause-classes_below
 mark_each-requires-clause-classes_below c = met-below c.args.sizes c.args.state.now c.args.o c.classes_of.ensures c.in-Classes.is
-            c.requires.receiver_within
+    c.requires.receiver_within
 
 pub mark_each-requires-clause-i_lt_insns : goal.mark_each-requires-clause-i_lt_insns
 mark_each-requires-clause-i_lt_insns c = c.requires.i_lt_insns

@@ -1,10 +1,6 @@
 -- `attributes::op_gets` meets its contract. Assumes nothing.
 use Rattle.attributes.proofs.Woken.{same-gets}
 use Rattle.program.specs.Rows.{name_in}
-use borrow.Author.Rules.{rules}
-use Rattle.attributes.proofs.op_gets.Reads as reads
-use Rattle.attributes.proofs.op_gets.Lts as lts
-use Rattle.lexer.proofs.same_name.Reads as same-name-reads
 use Rattle.attributes.proofs.op_gets.Goals as goal
 
 pub returns-in-GetIvar : goal.returns-in-GetIvar

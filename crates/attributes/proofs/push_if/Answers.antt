@@ -1,9 +1,5 @@
 -- `attributes::push_if` meets its contract. Assumes nothing.
 use Rattle.attributes.proofs.Woken.{if_pushed, if_passed}
-use borrow.Author.Rules.{rules}
-use Rattle.attributes.proofs.push_if.Reads as reads
-use Rattle.attributes.proofs.push_if.Lts as lts
-use Rattle.state.proofs.push_insn.Reads as push-insn-reads
 use Rattle.attributes.proofs.push_if.Goals as goal
 
 pub returns-then-yes : goal.returns-then-yes

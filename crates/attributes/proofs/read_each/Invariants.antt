@@ -1,13 +1,8 @@
 -- What the loop of `attributes::read_each` keeps.
-use borrow.Author.Rules.{rules}
 use Rattle.attributes.specs.Attributes.{ProgramIs}
-use Rattle.machine.proofs.receivers.Walk.{Walking, step, none_left, class-below, walk-on, Folding, folding_start, folding_more, folding_stop, folding_done}
+use Rattle.machine.proofs.receivers.Walk.{Walking, Folding}
 use Rattle.rules.specs.Machine.{get_ivar}
 use Rattle.program.specs.Rows.{name_in}
-use Rattle.attributes.proofs.read_each.Reads as reads
-use Rattle.attributes.proofs.read_each.Lts as lts
-use Rattle.attributes.proofs.read_one.Reads as read-one-reads
-use Rattle.ids.proofs.smallest.Reads as smallest-reads
 use Rattle.attributes.proofs.read_each.Given as goal
 
 abbrev pub invariant-loop-x : goal.invariant-loop-x

@@ -5,11 +5,6 @@ use Rattle.rules.specs.Machine.{get_ivar}
 use Rattle.rules.specs.Actions.{fold}
 use Rattle.kinds.specs.declared.Kind.TheVariants.{Empty}
 use Rattle.program.specs.Rows.{name_in}
-use borrow.Author.Rules.{rules}
-use Rattle.attributes.proofs.read_ivar.Reads as reads
-use Rattle.attributes.proofs.read_ivar.Lts as lts
-use Rattle.attributes.proofs.read_each.Reads as read-each-reads
-use Rattle.machine.proofs.receivers.classes_of.Reads as classes-of-reads
 use Rattle.attributes.proofs.read_ivar.Goals as goal
 
 pub read_each-requires-clause-state_held : goal.read_each-requires-clause-state_held

@@ -1,12 +1,6 @@
 -- `attributes::read_one` meets its contract. Assumes nothing.
 use native.Mathlib.Omega.{arith}
 use Rattle.attributes.proofs.Found.{at_low, got, got_none}
-use borrow.Author.Rules.{rules}
-use Rattle.attributes.proofs.read_one.Reads as reads
-use Rattle.attributes.proofs.read_one.Lts as lts
-use Rattle.kinds.proofs.union.Reads as union-reads
-use Rattle.lookups.proofs.ivar_named.Reads as ivar-named-reads
-use Rattle.state.proofs.ivar_at.Reads as ivar-at-reads
 use Rattle.attributes.proofs.read_one.Goals as goal
 
 pub ivar_named-requires-clause-program_ready : goal.ivar_named-requires-clause-program_ready
@@ -20,10 +14,10 @@ ivar_at-j-requires-clause-state_held c = c.requires.state_held
 
 pub ivar_at-j-requires-clause-c_lt_classes : goal.ivar_at-j-requires-clause-c_lt_classes
 ivar_at-j-requires-clause-c_lt_classes c = (
-        c.requires.x_lt_classes,
-        at_low c.args.script.now c.args.program.now c.args.counts c.args.x.0 c.args.n
-            c.ivar_named.ensures c.requires.state_matches c.requires.x_lt_classes c.in-At.is,
-      )
+  c.requires.x_lt_classes,
+  at_low c.args.script.now c.args.program.now c.args.counts c.args.x.0 c.args.n
+      c.ivar_named.ensures c.requires.state_matches c.requires.x_lt_classes c.in-At.is,
+)
 
 pub returns-in-At : goal.returns-in-At
 returns-in-At c =

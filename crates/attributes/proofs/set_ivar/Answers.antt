@@ -1,12 +1,6 @@
 -- `attributes::set_ivar` meets its contract. Assumes nothing.
 use Rattle.attributes.proofs.Widened.{set-met, set_unmet}
 use Rattle.machine.proofs.receivers.Walk.{met-below}
-use borrow.Author.Rules.{rules}
-use Rattle.attributes.proofs.set_ivar.Reads as reads
-use Rattle.attributes.proofs.set_ivar.Lts as lts
-use Rattle.attributes.proofs.widen_each.Reads as widen-each-reads
-use Rattle.machine.proofs.opnds.kind_of.Reads as kind-of-reads
-use Rattle.machine.proofs.receivers.classes_of.Reads as classes-of-reads
 use Rattle.attributes.proofs.set_ivar.Goals as goal
 
 pub widen_each-requires-clause-state_ready : goal.widen_each-requires-clause-state_ready

@@ -1,12 +1,6 @@
 -- `attributes::wake_reads` meets its contract. Assumes nothing.
 use borrow.Author.Rules.{rules}
-use Rattle.attributes.proofs.Woken.{Waking, waking_start, read_below, read-there, read_fits, read-falls, waking_more, waking_stop, waking_done}
-use Prim.Native.Nat.{◌-◌}
-use Rattle.attributes.proofs.wake_reads.Reads as reads
-use Rattle.attributes.proofs.wake_reads.Lts as lts
-use Rattle.attributes.proofs.gets.Reads as gets-reads
-use Rattle.attributes.proofs.push_if.Reads as push-if-reads
-use Rattle.state.proofs.next_read.Reads as next-read-reads
+use Rattle.attributes.proofs.Woken.{waking_start, read_below, read-there, read_fits, read-falls, waking_more, waking_stop, waking_done}
 use Rattle.attributes.proofs.wake_reads.Goals as goal
 
 pub loop-i-init : goal.loop-i-init

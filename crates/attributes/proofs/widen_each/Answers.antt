@@ -1,23 +1,18 @@
 -- `attributes::widen_each` meets its contract. Assumes nothing.
 use borrow.Author.Rules.{rules}
 use Rattle.attributes.specs.Attributes.{ProgramIs}
-use Rattle.machine.proofs.receivers.Walk.{Walking, step, none_left, class-below, walk-on, Going, going_start, going_more, going_stop, going_done}
+use Rattle.machine.proofs.receivers.Walk.{step, none_left, class-below, walk-on, going_start, going_more, going_stop, going_done}
 use Rattle.rules.specs.Machine.{set_ivar}
 use Rattle.program.specs.Rows.{name_in}
-use Rattle.attributes.proofs.widen_each.Reads as reads
-use Rattle.attributes.proofs.widen_each.Lts as lts
-use Rattle.attributes.proofs.widen_one.Reads as widen-one-reads
-use Rattle.ids.proofs.smallest.Reads as smallest-reads
 use Rattle.attributes.proofs.widen_each.Goals as goal
 
 pub loop-x-init : goal.loop-x-init
-loop-x-init c =
-    (
-      going_start c.args.sizes (ProgramIs c.args.script.now c.args.program.now c.args.counts)
-          (λ L p. set_ivar L p (name_in c.args.script.now c.args.n) c.args.k) c.args.set c.args.state.now
-          c.args.regs c.requires.state_ready,
-      record { fits = c.ranges.set.fits; below = c.requires.classes_below },
-    )
+loop-x-init c = (
+  going_start c.args.sizes (ProgramIs c.args.script.now c.args.program.now c.args.counts)
+      (λ L p. set_ivar L p (name_in c.args.script.now c.args.n) c.args.k) c.args.set c.args.state.now
+      c.args.regs c.requires.state_ready,
+  record { fits = c.ranges.set.fits; below = c.requires.classes_below },
+)
 
 pub widen_one-requires-clause-state_ready : goal.widen_one-requires-clause-state_ready
 widen_one-requires-clause-state_ready c = c.loop-x.invariant.0.after.ready
@@ -50,7 +45,7 @@ loop-x-preserved c = (
       c.smallest.ensures
       c.in-Member.is)
       (search rules) c.widen_one.ensures c.in-On.is,
-      walk-on (step c.loop-x.invariant.1 c.smallest.ensures c.in-Member.is) c.loop-x.invariant.1,
+  walk-on (step c.loop-x.invariant.1 c.smallest.ensures c.in-Member.is) c.loop-x.invariant.1,
 )
 
 pub returns-in-Refused : goal.returns-in-Refused

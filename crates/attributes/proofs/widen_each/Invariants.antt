@@ -1,13 +1,8 @@
 -- What the loop of `attributes::widen_each` keeps.
-use borrow.Author.Rules.{rules}
 use Rattle.attributes.specs.Attributes.{ProgramIs}
-use Rattle.machine.proofs.receivers.Walk.{Walking, step, none_left, class-below, walk-on, Going, going_start, going_more, going_stop, going_done}
+use Rattle.machine.proofs.receivers.Walk.{Walking, Going}
 use Rattle.rules.specs.Machine.{set_ivar}
 use Rattle.program.specs.Rows.{name_in}
-use Rattle.attributes.proofs.widen_each.Reads as reads
-use Rattle.attributes.proofs.widen_each.Lts as lts
-use Rattle.attributes.proofs.widen_one.Reads as widen-one-reads
-use Rattle.ids.proofs.smallest.Reads as smallest-reads
 use Rattle.attributes.proofs.widen_each.Given as goal
 
 abbrev pub invariant-loop-x : goal.invariant-loop-x

@@ -2,15 +2,6 @@
 use Rattle.attributes.proofs.Widened.{widen_none, widen_refused, widen_same, widen_new}
 use Rattle.attributes.proofs.Found.{at_low}
 use native.Mathlib.Omega.{arith}
-use borrow.Author.Rules.{rules}
-use Rattle.attributes.proofs.widen_one.Reads as reads
-use Rattle.attributes.proofs.widen_one.Lts as lts
-use Rattle.attributes.proofs.wake_reads.Reads as wake-reads-reads
-use Rattle.kinds.proofs.Kind.same.Reads as same_Reads
-use Rattle.kinds.proofs.union.Reads as union-reads
-use Rattle.lookups.proofs.ivar_named.Reads as ivar-named-reads
-use Rattle.state.proofs.ivar_at.Reads as ivar-at-reads
-use Rattle.state.proofs.set_ivar.Reads as set-ivar-reads
 use Rattle.attributes.proofs.widen_one.Goals as goal
 
 pub ivar_named-requires-clause-program_ready : goal.ivar_named-requires-clause-program_ready
@@ -24,10 +15,10 @@ ivar_at-old-requires-clause-state_held c = c.requires.state_ready.held
 
 pub ivar_at-old-requires-clause-c_lt_classes : goal.ivar_at-old-requires-clause-c_lt_classes
 ivar_at-old-requires-clause-c_lt_classes c = (
-        c.requires.x_lt_classes,
-        at_low c.args.script.now c.args.program.now c.args.counts c.args.x.0 c.args.n
-            c.ivar_named.ensures c.requires.state_matches c.requires.x_lt_classes c.in-At.is,
-      )
+  c.requires.x_lt_classes,
+  at_low c.args.script.now c.args.program.now c.args.counts c.args.x.0 c.args.n
+      c.ivar_named.ensures c.requires.state_matches c.requires.x_lt_classes c.in-At.is,
+)
 
 pub returns-then-same : goal.returns-then-same
 returns-then-same c =
@@ -40,10 +31,10 @@ set_ivar-requires-clause-state_held c = c.requires.state_ready.held
 
 pub set_ivar-requires-clause-c_lt_classes : goal.set_ivar-requires-clause-c_lt_classes
 set_ivar-requires-clause-c_lt_classes c = (
-        c.requires.x_lt_classes,
-        at_low c.args.script.now c.args.program.now c.args.counts c.args.x.0 c.args.n
-            c.ivar_named.ensures c.requires.state_matches c.requires.x_lt_classes c.in-At.is,
-      )
+  c.requires.x_lt_classes,
+  at_low c.args.script.now c.args.program.now c.args.counts c.args.x.0 c.args.n
+      c.ivar_named.ensures c.requires.state_matches c.requires.x_lt_classes c.in-At.is,
+)
 
 pub wake_reads-requires-clause-state_ready : goal.wake_reads-requires-clause-state_ready
 wake_reads-requires-clause-state_ready c = c.set_ivar.ensures.ok c.args.regs c.requires.state_ready

@@ -1,9 +1,5 @@
 use Rattle.constructors.proofs.Walking.{mark-good, mark-falls, mark-room, next-falls, next-room, last-room, walk_return, walk_open, walk_jump, walk_choice, jump_inside, then_inside, else_inside, visit-new, visit-old}
-use Rattle.constructors.specs.Walks.{unseen}
-use lib.ListN.{length-set}
 use mathlib.Core.List.{[]}
-use mathlib.Core.Path.{◌∙◌}
-use Prim.Native.Nat.{ℕ, ◌<◌, ◌+◌, ◌*◌}
 use native.Mathlib.Omega.{arith}
 use borrow.Author.Rules.{rules}
 use Rattle.constructors.proofs.+walk.Goals as goal
@@ -20,13 +16,13 @@ visit-bounds-scratch-at t c =
 pub visit-walk-requires : goal.visit-walk-requires
 visit-walk-requires t c = (
   omega arith,
-      (
-        c.requires.program_ready,
-        (
-          c.requires.index,
-          (c.requires.walk_inside, (c.requires.walk_good, (c.requires.b_lt_blocks, c.if-scratch-at-eq0.true))),
-        ),
-      ),
+  (
+    c.requires.program_ready,
+    (
+      c.requires.index,
+      (c.requires.walk_inside, (c.requires.walk_good, (c.requires.b_lt_blocks, c.if-scratch-at-eq0.true))),
+    ),
+  ),
 )
 
 pub visit-returns-then-scratch-at-eq0 : goal.visit-returns-then-scratch-at-eq0
@@ -42,15 +38,14 @@ walk-bounds-scratch-at t c =
     omega (arith, c.requires.walk_good.len, c.requires.walk_good.few, c.requires.b_lt_blocks)
 
 pub walk-push-requires : goal.walk-push-requires
-walk-push-requires t c =
-    (
-      (mark-good [] c.args.counts c.requires.walk_good c.requires.b_lt_blocks c.requires.b_value).len,
-      mark-room [] c.args.counts c.requires.walk_good c.requires.b_lt_blocks c.requires.b_value,
-    )
+walk-push-requires t c = (
+  (mark-good [] c.args.counts c.requires.walk_good c.requires.b_lt_blocks c.requires.b_value).len,
+  mark-room [] c.args.counts c.requires.walk_good c.requires.b_lt_blocks c.requires.b_value,
+)
 
 pub walk-visit-k-requires : goal.walk-visit-k-requires
 walk-visit-k-requires t c = (
-      mark-falls [] c.args.counts c.requires.walk_good c.requires.b_lt_blocks c.requires.b_value _
+  mark-falls [] c.args.counts c.requires.walk_good c.requires.b_lt_blocks c.requires.b_value _
       c.decreases,
   (
     c.requires.program_ready,
@@ -59,7 +54,7 @@ walk-visit-k-requires t c = (
       (
         c.requires.walk_inside,
         (
-              mark-good [] c.args.counts c.requires.walk_good c.requires.b_lt_blocks
+          mark-good [] c.args.counts c.requires.walk_good c.requires.b_lt_blocks
               c.requires.b_value,
           search jump_inside,
         ),
@@ -74,7 +69,7 @@ walk-push-requires-in-Jump t c =
 
 pub walk-visit-n1-requires : goal.walk-visit-n1-requires
 walk-visit-n1-requires t c = (
-      mark-falls [] c.args.counts c.requires.walk_good c.requires.b_lt_blocks c.requires.b_value _
+  mark-falls [] c.args.counts c.requires.walk_good c.requires.b_lt_blocks c.requires.b_value _
       c.decreases,
   (
     c.requires.program_ready,
@@ -83,7 +78,7 @@ walk-visit-n1-requires t c = (
       (
         c.requires.walk_inside,
         (
-              mark-good [] c.args.counts c.requires.walk_good c.requires.b_lt_blocks
+          mark-good [] c.args.counts c.requires.walk_good c.requires.b_lt_blocks
               c.requires.b_value,
           search then_inside,
         ),
@@ -94,14 +89,14 @@ walk-visit-n1-requires t c = (
 
 pub walk-visit-n2-requires : goal.walk-visit-n2-requires
 walk-visit-n2-requires t c = (
-      next-falls c.args.counts c.requires.walk_good c.requires.b_lt_blocks c.requires.b_value
+  next-falls c.args.counts c.requires.walk_good c.requires.b_lt_blocks c.requires.b_value
       c.visit-n1.ensures _ c.decreases,
   (
-        c.requires.program_ready,
+    c.requires.program_ready,
     (
-          c.requires.index,
+      c.requires.index,
       (
-            c.requires.walk_inside,
+        c.requires.walk_inside,
         (c.visit-n1.ensures.good, search else_inside),
       ),
     ),
@@ -109,19 +104,17 @@ walk-visit-n2-requires t c = (
 )
 
 pub walk-push-requires-in-IfTrue : goal.walk-push-requires-in-IfTrue
-walk-push-requires-in-IfTrue t c =
-    (
-      c.visit-n2.ensures.good.len,
-      last-room c.args.counts c.requires.walk_good c.requires.b_lt_blocks c.requires.b_value
-          c.visit-n1.ensures c.visit-n2.ensures,
-    )
+walk-push-requires-in-IfTrue t c = (
+  c.visit-n2.ensures.good.len,
+  last-room c.args.counts c.requires.walk_good c.requires.b_lt_blocks c.requires.b_value
+      c.visit-n1.ensures c.visit-n2.ensures,
+)
 
 pub walk-push-requires-in-Open : goal.walk-push-requires-in-Open
-walk-push-requires-in-Open t c =
-    (
-      (mark-good [] c.args.counts c.requires.walk_good c.requires.b_lt_blocks c.requires.b_value).len,
-      mark-room [] c.args.counts c.requires.walk_good c.requires.b_lt_blocks c.requires.b_value,
-    )
+walk-push-requires-in-Open t c = (
+  (mark-good [] c.args.counts c.requires.walk_good c.requires.b_lt_blocks c.requires.b_value).len,
+  mark-room [] c.args.counts c.requires.walk_good c.requires.b_lt_blocks c.requires.b_value,
+)
 
 -- CONV walk same-length
 -- let at_push = c.before.before in

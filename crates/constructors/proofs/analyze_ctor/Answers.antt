@@ -1,11 +1,5 @@
 -- `constructors::analyze_ctor` meets its contract. Assumes nothing.
-use native.Mathlib.Omega.{arith}
 use Rattle.constructors.proofs.Setting.{walked_placed, analyzed}
-use borrow.Author.Rules.{rules}
-use Rattle.constructors.proofs.analyze_ctor.Reads as reads
-use Rattle.constructors.proofs.analyze_ctor.Lts as lts
-use Rattle.constructors.proofs.surely.Reads as surely-reads
-use Rattle.constructors.proofs.walk_from.Reads as walk-from-reads
 use Rattle.constructors.proofs.analyze_ctor.Goals as goal
 
 pub surely-requires-clause-program_ready : goal.surely-requires-clause-program_ready

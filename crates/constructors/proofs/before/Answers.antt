@@ -1,12 +1,7 @@
 -- `constructors::before` meets its contract. Assumes nothing.
-use Rattle.constructors.proofs.Meeting.{Meeting, meet_start, meet_skip, meet_more, meet_none, meet_some}
-use Prim.Native.Nat.{◌-◌, ◌≤◌}
+use Rattle.constructors.proofs.Meeting.{meet_start, meet_skip, meet_more, meet_none, meet_some}
+use Prim.Native.Nat.{◌-◌}
 use native.Mathlib.Omega.{arith}
-use borrow.Author.Rules.{rules}
-use Rattle.constructors.proofs.before.Reads as reads
-use Rattle.constructors.proofs.before.Lts as lts
-use Rattle.constructors.proofs.end_of.Reads as end-of-reads
-use Rattle.constructors.proofs.leads.Reads as leads-reads
 use Rattle.constructors.proofs.before.Goals as goal
 
 pub loop-q-init : goal.loop-q-init
@@ -34,7 +29,7 @@ end_of-e-requires-clause-index c = c.requires.index
 
 pub end_of-e-requires-clause-b_lt_blocks : goal.end_of-e-requires-clause-b_lt_blocks
 end_of-e-requires-clause-b_lt_blocks c = c.requires.flow_placed.blocks (c.loop-q.q - 1)
-        (omega (arith, c.loop-q.invariant.0.high))
+    (omega (arith, c.loop-q.invariant.0.high))
 
 pub bounds-scratch-q-then-leads : goal.bounds-scratch-q-then-leads
 bounds-scratch-q-then-leads c =

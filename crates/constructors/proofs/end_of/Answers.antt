@@ -1,16 +1,6 @@
 -- `constructors::end_of` meets its contract. Assumes nothing.
-use Rattle.constructors.proofs.Endings.{code-word, code-next, Ending, ending_start, ending_more, ending_rises, ending_done, end-some, end_none}
-use mathlib.Core.Path.{◌≡◌}
-use Prim.Native.Nat.{ℕ, ◌-◌, ◌<◌}
+use Rattle.constructors.proofs.Endings.{code-word, code-next, ending_start, ending_more, ending_rises, ending_done, end-some, end_none}
 use native.Mathlib.Omega.{arith}
-use lib.ListN.{get_or}
-use borrow.Author.Rules.{rules}
-use Rattle.constructors.proofs.end_of.Reads as reads
-use Rattle.constructors.proofs.end_of.Lts as lts
-use Rattle.constructors.proofs.ends_from.Reads as ends-from-reads
-use Rattle.chains.proofs.first_insn.Reads as first-insn-reads
-use Rattle.chains.proofs.next_insn.Reads as next-insn-reads
-use Rattle.program.proofs.read_insn.Reads as read-insn-reads
 use Rattle.constructors.proofs.end_of.Goals as goal
 
 pub first_insn-h-requires-clause-chains_size_in_bounds : goal.first_insn-h-requires-clause-chains_size_in_bounds
@@ -25,13 +15,13 @@ loop-h-init c =
 
 pub next_insn-h-requires-clause-chains_size_in_bounds : goal.next_insn-h-requires-clause-chains_size_in_bounds
 next_insn-h-requires-clause-chains_size_in_bounds c = (
-    c.requires.index.len,
-    omega (arith, c.requires.program_ready.insns),
-  )
+  c.requires.index.len,
+  omega (arith, c.requires.program_ready.insns),
+)
 
 pub next_insn-h-requires-clause-fits_id : goal.next_insn-h-requires-clause-fits_id
 next_insn-h-requires-clause-fits_id c = code-next c.args.chains.now (c.loop-h.invariant _ c.requires.b_lt_blocks c.first_insn-h.ensures).rest
-      c.requires.program_ready (c.loop-h.invariant _ c.requires.b_lt_blocks c.first_insn-h.ensures).cells c.loop-h-test.true
+    c.requires.program_ready (c.loop-h.invariant _ c.requires.b_lt_blocks c.first_insn-h.ensures).cells c.loop-h-test.true
 
 pub loop-h-smaller : goal.loop-h-smaller
 loop-h-smaller c =

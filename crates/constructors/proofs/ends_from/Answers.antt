@@ -1,8 +1,5 @@
 -- `constructors::ends_from` meets its contract. Assumes nothing.
 use Rattle.constructors.proofs.Endings.{ends_jump, ends_if}
-use borrow.Author.Rules.{rules}
-use Rattle.constructors.proofs.ends_from.Reads as reads
-use Rattle.constructors.proofs.ends_from.Lts as lts
 use Rattle.constructors.proofs.ends_from.Goals as goal
 
 pub returns-in-Jump : goal.returns-in-Jump

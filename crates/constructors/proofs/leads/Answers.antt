@@ -1,8 +1,5 @@
 -- `constructors::leads` meets its contract. Assumes nothing.
 use Rattle.constructors.proofs.Meeting.{leads_jump, leads_if}
-use borrow.Author.Rules.{rules}
-use Rattle.constructors.proofs.leads.Reads as reads
-use Rattle.constructors.proofs.leads.Lts as lts
 use Rattle.constructors.proofs.leads.Goals as goal
 
 pub returns-in-Jump : goal.returns-in-Jump

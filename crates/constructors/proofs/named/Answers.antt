@@ -1,12 +1,7 @@
 -- `constructors::named` meets its contract. Assumes nothing.
-use Rattle.constructors.proofs.Naming.{Naming, name-start, name-skip, name-more, name_done, class-room, ivar_room}
+use Rattle.constructors.proofs.Naming.{name-start, name-skip, name-more, name_done, class-room, ivar_room}
 use Rattle.ids.proofs.Bits.{one_shl}
-use Prim.Native.Nat.{◌-◌}
 use native.Mathlib.Omega.{arith}
-use borrow.Author.Rules.{rules}
-use Rattle.constructors.proofs.named.Reads as reads
-use Rattle.constructors.proofs.named.Lts as lts
-use Rattle.lexer.proofs.same_name.Reads as same-name-reads
 use Rattle.constructors.proofs.named.Goals as goal
 
 pub bounds-program-class : goal.bounds-program-class

@@ -1,12 +1,6 @@
 -- What the loop of `constructors::named` keeps.
-use Rattle.constructors.proofs.Naming.{Naming, name-start, name-skip, name-more, name_done, class-room, ivar_room}
-use Rattle.ids.proofs.Bits.{one_shl}
+use Rattle.constructors.proofs.Naming.{Naming}
 use Prim.Native.Nat.{◌-◌}
-use native.Mathlib.Omega.{arith}
-use borrow.Author.Rules.{rules}
-use Rattle.constructors.proofs.named.Reads as reads
-use Rattle.constructors.proofs.named.Lts as lts
-use Rattle.lexer.proofs.same_name.Reads as same-name-reads
 use Rattle.constructors.proofs.named.Given as goal
 
 abbrev pub invariant-loop-a : goal.invariant-loop-a

@@ -1,25 +1,15 @@
 -- `constructors::sets_of` meets its contract. Assumes nothing.
 use Rattle.constructors.proofs.Endings.{code-word, code-next}
-use Rattle.constructors.proofs.Setting.{Setting, set-start, set-done, set-rises, set-skip, set_more, set_stop}
-use mathlib.Core.Path.{◌≡◌}
-use Prim.Native.Nat.{ℕ, ◌-◌, ◌<◌}
+use Rattle.constructors.proofs.Setting.{set-start, set-done, set-rises, set-skip, set_more, set_stop}
 use native.Mathlib.Omega.{arith}
-use lib.ListN.{get_or}
 use borrow.Author.Rules.{rules}
-use Rattle.constructors.proofs.sets_of.Reads as reads
-use Rattle.constructors.proofs.sets_of.Lts as lts
-use Rattle.constructors.proofs.named.Reads as named-reads
-use Rattle.constructors.proofs.set_name.Reads as set-name-reads
-use Rattle.chains.proofs.first_insn.Reads as first-insn-reads
-use Rattle.chains.proofs.next_insn.Reads as next-insn-reads
-use Rattle.program.proofs.read_insn.Reads as read-insn-reads
 use Rattle.constructors.proofs.sets_of.Goals as goal
 
 pub first_insn-h-requires-clause-chains_size_in_bounds : goal.first_insn-h-requires-clause-chains_size_in_bounds
 first_insn-h-requires-clause-chains_size_in_bounds c = (
-    c.requires.index.len,
-    omega (arith, c.requires.program_ready.blocks, c.requires.k_lt_classes.1),
-  )
+  c.requires.index.len,
+  omega (arith, c.requires.program_ready.blocks, c.requires.k_lt_classes.1),
+)
 
 pub first_insn-h-requires-clause-fits_id : goal.first_insn-h-requires-clause-fits_id
 first_insn-h-requires-clause-fits_id c = code-word c.requires.program_ready c.requires.index c.requires.k_lt_classes.1
@@ -36,13 +26,13 @@ read_insn-row-requires-clause-i_lt_insns c = omega arith
 
 pub next_insn-h-requires-clause-chains_size_in_bounds : goal.next_insn-h-requires-clause-chains_size_in_bounds
 next_insn-h-requires-clause-chains_size_in_bounds c = (
-    c.requires.index.len,
-    omega (arith, c.requires.program_ready.insns),
-  )
+  c.requires.index.len,
+  omega (arith, c.requires.program_ready.insns),
+)
 
 pub next_insn-h-requires-clause-fits_id : goal.next_insn-h-requires-clause-fits_id
 next_insn-h-requires-clause-fits_id c = code-next c.args.chains.now (c.loop-h.invariant _ c.requires.k_lt_classes.1 c.first_insn-h.ensures).rest
-      c.requires.program_ready (c.loop-h.invariant _ c.requires.k_lt_classes.1 c.first_insn-h.ensures).cells c.loop-h-test.true
+    c.requires.program_ready (c.loop-h.invariant _ c.requires.k_lt_classes.1 c.first_insn-h.ensures).cells c.loop-h-test.true
 
 pub named-p-requires-clause-program_ready : goal.named-p-requires-clause-program_ready
 named-p-requires-clause-program_ready c = c.requires.program_ready

@@ -1,14 +1,8 @@
 -- `constructors::surely` meets its contract. Assumes nothing.
-use Rattle.constructors.proofs.Setting.{Passing, pass-start, pass-done, pass-stop, pass_on, pass_back, placed_on}
+use Rattle.constructors.proofs.Setting.{pass-start, pass-done, pass-stop, pass_on, pass_back, placed_on}
 use Prim.Native.Nat.{◌-◌}
 use native.Mathlib.Omega.{arith}
 use borrow.Author.Rules.{rules}
-use Rattle.constructors.proofs.surely.Reads as reads
-use Rattle.constructors.proofs.surely.Lts as lts
-use Rattle.constructors.proofs.before.Reads as before-reads
-use Rattle.constructors.proofs.end_of.Reads as end-of-reads
-use Rattle.constructors.proofs.returns.Reads as returns-reads
-use Rattle.constructors.proofs.sets_of.Reads as sets-of-reads
 use Rattle.constructors.proofs.surely.Goals as goal
 
 pub loop-i-init : goal.loop-i-init
@@ -56,21 +50,21 @@ before-ins-requires-clause-flow_placed c = placed_on {w = c.loop-i.scratch} c.re
 
 pub before-ins-requires-clause-walk_size_in_bounds : goal.before-ins-requires-clause-walk_size_in_bounds
 before-ins-requires-clause-walk_size_in_bounds c = (
-        omega (
-          arith,
-          c.requires.flow_placed.few,
-          c.requires.walk_size_in_bounds.0,
-          c.loop-i.invariant.len_same,
-          c.loop-i.invariant.high,
-        ),
-        omega (
-          arith,
-          c.requires.flow_placed.few,
-          c.requires.walk_size_in_bounds.0,
-          c.loop-i.invariant.len_same,
-          c.loop-i.invariant.high,
-        ),
-      )
+  omega (
+    arith,
+    c.requires.flow_placed.few,
+    c.requires.walk_size_in_bounds.0,
+    c.loop-i.invariant.len_same,
+    c.loop-i.invariant.high,
+  ),
+  omega (
+    arith,
+    c.requires.flow_placed.few,
+    c.requires.walk_size_in_bounds.0,
+    c.loop-i.invariant.len_same,
+    c.loop-i.invariant.high,
+  ),
+)
 
 pub end_of-e-requires-clause-program_ready : goal.end_of-e-requires-clause-program_ready
 end_of-e-requires-clause-program_ready c = c.requires.program_ready
@@ -80,9 +74,9 @@ end_of-e-requires-clause-index c = c.requires.index
 
 pub end_of-e-requires-clause-b_lt_blocks : goal.end_of-e-requires-clause-b_lt_blocks
 end_of-e-requires-clause-b_lt_blocks c = (placed_on {w = c.loop-i.scratch}
-        c.requires.flow_placed
-        c.loop-i.invariant.order).blocks
-        (c.loop-i.i - 1) (omega (arith, c.loop-i.invariant.high))
+    c.requires.flow_placed
+    c.loop-i.invariant.order).blocks
+    (c.loop-i.i - 1) (omega (arith, c.loop-i.invariant.high))
 
 pub sets_of-t-requires-clause-program_ready : goal.sets_of-t-requires-clause-program_ready
 sets_of-t-requires-clause-program_ready c = c.requires.program_ready
@@ -92,13 +86,13 @@ sets_of-t-requires-clause-index c = c.requires.index
 
 pub sets_of-t-requires-clause-k_lt_classes : goal.sets_of-t-requires-clause-k_lt_classes
 sets_of-t-requires-clause-k_lt_classes c = (
-      c.requires.walk_size_in_bounds.1,
-      (placed_on {w = c.loop-i.scratch}
-          c.requires.flow_placed
-          c.loop-i.invariant.order).blocks
-          (c.loop-i.i - 1)
-          (omega (arith, c.loop-i.invariant.high)),
-    )
+  c.requires.walk_size_in_bounds.1,
+  (placed_on {w = c.loop-i.scratch}
+      c.requires.flow_placed
+      c.loop-i.invariant.order).blocks
+      (c.loop-i.i - 1)
+      (omega (arith, c.loop-i.invariant.high)),
+)
 
 pub returns-in-Undeclared : goal.returns-in-Undeclared
 returns-in-Undeclared c =

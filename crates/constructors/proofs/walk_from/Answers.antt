@@ -1,10 +1,5 @@
 -- `constructors::walk_from` meets its contract. Assumes nothing.
 use Rattle.constructors.proofs.Walking.{clear-word, clear-good, walk-done}
-use borrow.Author.Rules.{rules}
-use Rattle.constructors.proofs.walk_from.Reads as reads
-use Rattle.constructors.proofs.walk_from.Lts as lts
-use Rattle.constructors.proofs.walk.Reads as walk-reads
-use Rattle.chains.proofs.fill.Reads as fill-reads
 use Rattle.constructors.proofs.walk_from.Goals as goal
 
 pub walk-requires-clause-program_ready : goal.walk-requires-clause-program_ready
@@ -24,7 +19,7 @@ walk-requires-clause-b_lt_blocks c = c.requires.walk_size_in_bounds.1
 
 pub walk-requires-clause-b_value : goal.walk-requires-clause-b_value
 walk-requires-clause-b_value c = clear-word c.args.counts c.fill.ensures c.requires.walk_size_in_bounds.0 c.requires.program_ready.blocks _
-                  c.requires.walk_size_in_bounds.1
+    c.requires.walk_size_in_bounds.1
 
 pub returns : goal.returns
 returns c =

@@ -1,7 +1,5 @@
 -- `publish::write_callers` meets its contract. Assumes nothing.
-use Prim.Native.Nat.{◌-◌}
-use Rattle.publish.proofs.Tables.{Callers, callers-start, callers-more, callers-done}
-use borrow.Author.Rules.{rules}
+use Rattle.publish.proofs.Tables.{callers-start, callers-more, callers-done}
 use Rattle.publish.proofs.write_callers.Goals as goal
 
 pub loop-j-init : goal.loop-j-init

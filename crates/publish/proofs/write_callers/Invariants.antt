@@ -1,7 +1,6 @@
 -- What the loop of `publish::write_callers` keeps.
 use Prim.Native.Nat.{◌-◌}
-use Rattle.publish.proofs.Tables.{Callers, callers-start, callers-more, callers-done}
-use borrow.Author.Rules.{rules}
+use Rattle.publish.proofs.Tables.{Callers}
 use Rattle.publish.proofs.write_callers.Given as goal
 
 abbrev pub invariant-loop-j : goal.invariant-loop-j

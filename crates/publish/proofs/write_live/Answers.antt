@@ -1,7 +1,5 @@
 -- `publish::write_live` meets its contract. Assumes nothing.
-use Prim.Native.Nat.{◌-◌}
-use Rattle.publish.proofs.Tables.{Lives, live-start, live_more, live-done}
-use borrow.Author.Rules.{rules}
+use Rattle.publish.proofs.Tables.{live-start, live_more, live-done}
 use Rattle.publish.proofs.write_live.Goals as goal
 
 pub loop-b-init : goal.loop-b-init

@@ -1,7 +1,6 @@
 -- What the loop of `publish::write_live` keeps.
 use Prim.Native.Nat.{◌-◌}
-use Rattle.publish.proofs.Tables.{Lives, live-start, live_more, live-done}
-use borrow.Author.Rules.{rules}
+use Rattle.publish.proofs.Tables.{Lives}
 use Rattle.publish.proofs.write_live.Given as goal
 
 abbrev pub invariant-loop-b : goal.invariant-loop-b

@@ -1,7 +1,5 @@
 -- `publish::write_payloads` meets its contract. Assumes nothing.
-use Prim.Native.Nat.{◌-◌}
-use Rattle.publish.proofs.Tables.{Payloads, payloads_start, payloads_more, payloads_done}
-use borrow.Author.Rules.{rules}
+use Rattle.publish.proofs.Tables.{payloads_start, payloads_more, payloads_done}
 use Rattle.publish.proofs.write_payloads.Goals as goal
 
 pub loop-i-init : goal.loop-i-init

@@ -1,7 +1,6 @@
 -- What the loop of `publish::write_payloads` keeps.
 use Prim.Native.Nat.{◌-◌}
-use Rattle.publish.proofs.Tables.{Payloads, payloads_start, payloads_more, payloads_done}
-use borrow.Author.Rules.{rules}
+use Rattle.publish.proofs.Tables.{Payloads}
 use Rattle.publish.proofs.write_payloads.Given as goal
 
 abbrev pub invariant-loop-i : goal.invariant-loop-i

@@ -1,6 +1,5 @@
 -- `publish::write_state` meets its contract. Assumes nothing.
 use Rattle.publish.proofs.Tables.{state_written}
-use borrow.Author.Rules.{rules}
 use Rattle.publish.proofs.write_state.Goals as goal
 
 pub returns : goal.returns

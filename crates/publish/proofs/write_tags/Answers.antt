@@ -1,7 +1,5 @@
 -- `publish::write_tags` meets its contract. Assumes nothing.
-use Prim.Native.Nat.{◌-◌}
-use Rattle.publish.proofs.Tables.{Tags, tags_start, tags_more, tags_done}
-use borrow.Author.Rules.{rules}
+use Rattle.publish.proofs.Tables.{tags_start, tags_more, tags_done}
 use Rattle.publish.proofs.write_tags.Goals as goal
 
 pub loop-i-init : goal.loop-i-init

@@ -1,7 +1,6 @@
 -- What the loop of `publish::write_tags` keeps.
 use Prim.Native.Nat.{◌-◌}
-use Rattle.publish.proofs.Tables.{Tags, tags_start, tags_more, tags_done}
-use borrow.Author.Rules.{rules}
+use Rattle.publish.proofs.Tables.{Tags}
 use Rattle.publish.proofs.write_tags.Given as goal
 
 abbrev pub invariant-loop-i : goal.invariant-loop-i

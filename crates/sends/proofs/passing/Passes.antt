@@ -1,5 +1,5 @@
 -- One Param, the loop of pass_arguments, and that of count_params. Assumes nothing.
-use mathlib.Core.Bool.{Bool as 𝔹, true, false, not}
+use mathlib.Core.Bool.{Bool as 𝔹, true, false}
 use mathlib.Core.Path.{◌≡◌, refl, sym, ap, subst, ◌∙◌}
 use mathlib.Core.Option.{none, some}
 use mathlib.Core.List.{List}
@@ -256,12 +256,8 @@ module _ {m : List ℕ} {c : Counts} {z : Sizes} {x : List ℕ} {h : ℕ} {w : L
     blocks_below = λ k lt. absurd (omega arith);
   })
 
-  pub keeping_more : {b : 𝔹} {n : ℕ} → j < z.insns → (b ≡ true → Keeps m c z w i j) → not b ≡ false → n ≡ get_or x (param_links_at + j) 0 → Keeping m c z x h w i n
-  keeping_more {b} lt f t en q r = param_kept (g q r) lt (f (sure b t)) en refl refl
-    where
-      sure : (b : 𝔹) → not b ≡ false → b ≡ true
-      sure true e = refl
-      sure false e = sym e
+  pub keeping_more : {b : 𝔹} {n : ℕ} → j < z.insns → (b ≡ true → Keeps m c z w i j) → b ≡ true → n ≡ get_or x (param_links_at + j) 0 → Keeping m c z x h w i n
+  keeping_more {b} lt f t en q r = param_kept (g q r) lt (f t) en refl refl
 
   pub keeping_done : (e : ℕ) → h ≡ get_or x (params_at + e) 0 → z.insns ≤ j → (f : ℕ) → PassIdle z (PassIn m c z x i f e) (λ L p. pass_arguments L p i f) w
   keeping_done e eh le f = record { is = λ q r. params-done (g q r) e eh le f }

@@ -1,7 +1,6 @@
 -- `constructors::firsts::all_first_kinds` meets its contract. Assumes nothing.
-use Rattle.constructors.proofs.firsts.Classes.{Classes, classes-start, class-fits, class-more, class-stop, class-done}
+use Rattle.constructors.proofs.firsts.Classes.{classes-start, class-fits, class-more, class-stop, class-done}
 use native.Mathlib.Omega.{arith}
-use Prim.Native.Nat.{◌-◌}
 use borrow.Author.Rules.{rules}
 use Rattle.constructors.proofs.firsts.all_first_kinds.Goals as goal
 
@@ -27,23 +26,23 @@ first_kinds-e-requires-clause-entries c = c.requires.entries
 
 pub first_kinds-e-requires-clause-walk_size_in_bounds : goal.first_kinds-e-requires-clause-walk_size_in_bounds
 first_kinds-e-requires-clause-walk_size_in_bounds c = (
-            omega (
-              arith,
-              c.loop-k.invariant.kept,
-              c.requires.walk_size_in_bounds,
-            ),
-            c.loop-k-test.true,
-          )
+  omega (
+    arith,
+    c.loop-k.invariant.kept,
+    c.requires.walk_size_in_bounds,
+  ),
+  c.loop-k-test.true,
+)
 
 pub first_kinds-e-requires-clause-ivars_most_bound : goal.first_kinds-e-requires-clause-ivars_most_bound
 first_kinds-e-requires-clause-ivars_most_bound c = (
-            c.requires.ivars_most_bound.0,
-            omega (
-              arith,
-              c.loop-k.invariant.only.len_same,
-              c.requires.ivars_most_bound.1,
-            ),
-          )
+  c.requires.ivars_most_bound.0,
+  omega (
+    arith,
+    c.loop-k.invariant.only.len_same,
+    c.requires.ivars_most_bound.1,
+  ),
+)
 
 pub returns-then-e-ne0 : goal.returns-then-e-ne0
 returns-then-e-ne0 c =

@@ -1,8 +1,6 @@
 -- What the loop of `constructors::firsts::all_first_kinds` keeps.
-use Rattle.constructors.proofs.firsts.Classes.{Classes, classes-start, class-fits, class-more, class-stop, class-done}
-use native.Mathlib.Omega.{arith}
+use Rattle.constructors.proofs.firsts.Classes.{Classes}
 use Prim.Native.Nat.{◌-◌}
-use borrow.Author.Rules.{rules}
 use Rattle.constructors.proofs.firsts.all_first_kinds.Given as goal
 
 abbrev pub invariant-loop-k : goal.invariant-loop-k

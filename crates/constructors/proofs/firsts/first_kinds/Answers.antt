@@ -2,12 +2,6 @@
 use Rattle.constructors.proofs.firsts.Laws.{ctor_below, entry-below, first-none, first_refused, first_some}
 use native.Mathlib.Omega.{arith}
 use borrow.Author.Rules.{rules}
-use Rattle.constructors.proofs.firsts.first_kinds.Reads as reads
-use Rattle.constructors.proofs.firsts.first_kinds.Lts as lts
-use Rattle.constructors.proofs.analyze_ctor.Reads as analyze-ctor-reads
-use Rattle.constructors.proofs.firsts.put_kinds.Reads as put-kinds-reads
-use Rattle.lookups.proofs.constructor_of.Reads as constructor-of-reads
-use Rattle.program.proofs.read_fun.Reads as read-fun-reads
 use Rattle.constructors.proofs.firsts.first_kinds.Goals as goal
 
 pub put_kinds-requires-clause-n_le_ivars_most : goal.put_kinds-requires-clause-n_le_ivars_most
@@ -15,25 +9,25 @@ put_kinds-requires-clause-n_le_ivars_most c = c.requires.program_ready.ivars _ c
 
 pub put_kinds-requires-clause-n_bound : goal.put_kinds-requires-clause-n_bound
 put_kinds-requires-clause-n_bound c = (
-    omega (
-      arith,
-      c.requires.program_ready.ivars _
-          c.requires.walk_size_in_bounds.1,
-      c.requires.ivars_most_bound.0,
-      c.requires.ivars_most_bound.1,
-      c.requires.walk_size_in_bounds.1,
-      c.requires.program_ready.classes,
-    ),
-    omega (
-      arith,
-      c.requires.program_ready.ivars _
-          c.requires.walk_size_in_bounds.1,
-      c.requires.ivars_most_bound.0,
-      c.requires.ivars_most_bound.1,
-      c.requires.walk_size_in_bounds.1,
-      c.requires.program_ready.classes,
-    ),
-  )
+  omega (
+    arith,
+    c.requires.program_ready.ivars _
+        c.requires.walk_size_in_bounds.1,
+    c.requires.ivars_most_bound.0,
+    c.requires.ivars_most_bound.1,
+    c.requires.walk_size_in_bounds.1,
+    c.requires.program_ready.classes,
+  ),
+  omega (
+    arith,
+    c.requires.program_ready.ivars _
+        c.requires.walk_size_in_bounds.1,
+    c.requires.ivars_most_bound.0,
+    c.requires.ivars_most_bound.1,
+    c.requires.walk_size_in_bounds.1,
+    c.requires.program_ready.classes,
+  ),
+)
 
 pub read_fun-row-requires-clause-program_ready : goal.read_fun-row-requires-clause-program_ready
 read_fun-row-requires-clause-program_ready c = c.requires.program_ready
@@ -52,41 +46,41 @@ analyze_ctor-sure-requires-clause-walk_inside c = c.requires.walk_inside
 
 pub analyze_ctor-sure-requires-clause-walk_size_in_bounds : goal.analyze_ctor-sure-requires-clause-walk_size_in_bounds
 analyze_ctor-sure-requires-clause-walk_size_in_bounds c = (
-            c.requires.walk_size_in_bounds.0,
-            (
-              c.requires.walk_size_in_bounds.1,
-              entry-below c.requires.entries
-                  (ctor_below c.constructor_of-found.ensures c.in-At.is)
-                  c.read_fun-row.ensures.row,
-            ),
-          )
+  c.requires.walk_size_in_bounds.0,
+  (
+    c.requires.walk_size_in_bounds.1,
+    entry-below c.requires.entries
+        (ctor_below c.constructor_of-found.ensures c.in-At.is)
+        c.read_fun-row.ensures.row,
+  ),
+)
 
 pub put_kinds-requires-in-Set-clause-n_le_ivars_most : goal.put_kinds-requires-in-Set-clause-n_le_ivars_most
 put_kinds-requires-in-Set-clause-n_le_ivars_most c = c.requires.program_ready.ivars _ c.requires.walk_size_in_bounds.1
 
 pub put_kinds-requires-in-Set-clause-n_bound : goal.put_kinds-requires-in-Set-clause-n_bound
 put_kinds-requires-in-Set-clause-n_bound c = (
-    omega (
-      arith,
-      c.requires.program_ready.ivars
-          _
-          c.requires.walk_size_in_bounds.1,
-      c.requires.ivars_most_bound.0,
-      c.requires.ivars_most_bound.1,
-      c.requires.walk_size_in_bounds.1,
-      c.requires.program_ready.classes,
-    ),
-    omega (
-      arith,
-      c.requires.program_ready.ivars
-          _
-          c.requires.walk_size_in_bounds.1,
-      c.requires.ivars_most_bound.0,
-      c.requires.ivars_most_bound.1,
-      c.requires.walk_size_in_bounds.1,
-      c.requires.program_ready.classes,
-    ),
-  )
+  omega (
+    arith,
+    c.requires.program_ready.ivars
+        _
+        c.requires.walk_size_in_bounds.1,
+    c.requires.ivars_most_bound.0,
+    c.requires.ivars_most_bound.1,
+    c.requires.walk_size_in_bounds.1,
+    c.requires.program_ready.classes,
+  ),
+  omega (
+    arith,
+    c.requires.program_ready.ivars
+        _
+        c.requires.walk_size_in_bounds.1,
+    c.requires.ivars_most_bound.0,
+    c.requires.ivars_most_bound.1,
+    c.requires.walk_size_in_bounds.1,
+    c.requires.program_ready.classes,
+  ),
+)
 
 pub returns-in-Nothing : goal.returns-in-Nothing
 returns-in-Nothing c =

@@ -1,11 +1,7 @@
 -- `constructors::firsts::put_kinds` meets its contract. Assumes nothing.
-use Rattle.constructors.proofs.firsts.Laws.{Putting, put-start, put-more, put-done}
+use Rattle.constructors.proofs.firsts.Laws.{put-start, put-more, put-done}
 use lib.ListN.{length-set}
-use Prim.Native.Nat.{◌-◌}
 use native.Mathlib.Omega.{arith}
-use borrow.Author.Rules.{rules}
-use Rattle.constructors.proofs.firsts.put_kinds.Reads as reads
-use Rattle.constructors.proofs.firsts.put_kinds.Lts as lts
 use Rattle.constructors.proofs.firsts.put_kinds.Goals as goal
 
 pub loop-a-init : goal.loop-a-init

@@ -1,11 +1,6 @@
 -- What the loop of `constructors::firsts::put_kinds` keeps.
-use Rattle.constructors.proofs.firsts.Laws.{Putting, put-start, put-more, put-done}
-use lib.ListN.{length-set}
+use Rattle.constructors.proofs.firsts.Laws.{Putting}
 use Prim.Native.Nat.{◌-◌}
-use native.Mathlib.Omega.{arith}
-use borrow.Author.Rules.{rules}
-use Rattle.constructors.proofs.firsts.put_kinds.Reads as reads
-use Rattle.constructors.proofs.firsts.put_kinds.Lts as lts
 use Rattle.constructors.proofs.firsts.put_kinds.Given as goal
 
 abbrev pub invariant-loop-a : goal.invariant-loop-a
