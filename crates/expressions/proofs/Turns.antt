@@ -49,10 +49,6 @@ use Rattle.expressions.proofs.Loops.{Loops, loops_start, loops_on, loops_end, lo
 use Rattle.expressions.proofs.Stack.{height_free, waiting-same, stacks_args, stacks_at, stacks_more, stacks_state, stacks_in, stacks_step, step_height, step_from}
 use Rattle.expressions.proofs.Ways.{ident_went, match_went, match_not, match_gave, expect-went, expect_gave, suffix_low, operator-passed, call-passed, member_passed}
 
--- the arguments of a call, taken off the stack
-pub taken_here : {f : Reads (List P.Opnd)} {s m w m1 w1 : List ℕ} {c c1 : Cursor} {t : Args} {n : ℕ} → ArgsDid f s m w c m1 w1 t → t ≡ Args.Done c1 n → In s m1 w1 c1
-taken_here {w1 = w1} {c = c} d e = (got d.did (ap (args_of w1 c.args) e)).here
-
 module _ (L : P.Limits) (s : List ℕ) (E : ℕ → Reads P.Opnd) where
   -- ---- one argument
 
