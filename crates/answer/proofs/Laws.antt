@@ -10,9 +10,8 @@ use native.Mathlib.Numerals.{add-one}
 use native.Mathlib.Omega.{arith}
 use lib.Dec.{eqb}
 use lib.ListN.{length, get_or, set, take, drop, length-append, length-drop, take-append-drop, get_or-append}
-use lib.Seq.{sets-eq, take-nil, length-take-le, ext_get_or, get_or-append-add, get_or-take, get_or-drop}
-use Rattle.kinds.specs.declared.Kind.{Kind}
-use Rattle.kinds.specs.Kinds.{bit_of, kind_from}
+use lib.Seq.{sets-eq, take-nil, length-take-le, get_or-append-add, get_or-take, get_or-drop}
+use Rattle.kinds.specs.Kinds.{bit_of}
 use Rattle.rules.specs.Lists.{concat}
 use Rattle.memory.specs.Memory.{over}
 use Rattle.answer.specs.Layout.{answer_length}

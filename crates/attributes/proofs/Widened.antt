@@ -31,7 +31,7 @@ use Rattle.state.specs.declared.Acted.TheVariants.{On, Refused as No}
 use Rattle.state.specs.View.{Attrs, kinds_of, ivars_of, state_view, StateReady}
 use Rattle.state.specs.Changes.{StatePut, StateDid}
 use Rattle.machine.specs.opnds.Reads.{kind_in}
-use Rattle.machine.proofs.opnds.Given.{kind_of}
+use Rattle.machine.proofs.opnds.Given.{kind_of_lem}
 use Rattle.machine.specs.declared.receivers.ReceiverClasses.{ReceiverClasses}
 use Rattle.machine.specs.declared.receivers.ReceiverClasses.TheVariants as R
 use Rattle.machine.specs.receivers.Receivers.{StateMatches, Receives}
@@ -108,7 +108,7 @@ module _ (s pm : List ℕ) (pc : Counts) (m : List ℕ) (z : Sizes) (q : Regs) (
   set-met {k} {c} ek e g = did-met z m o d (ProgramIs s pm pc) widens e (record {
     is = λ L room p u h.
         g.is L room p u h
-        ∙ ap (λ (y : Kind). each (members_of c) (set_ivar L p (name_in s n) y) (state_view z u m q)) (ek ∙ sym (kind_of (state_view z u m q) (opnd_of v)));
+        ∙ ap (λ (y : Kind). each (members_of c) (set_ivar L p (name_in s n) y) (state_view z u m q)) (ek ∙ sym (kind_of_lem (state_view z u m q) (opnd_of v)));
     ok = g.ok;
   })
 

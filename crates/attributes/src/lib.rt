@@ -78,7 +78,7 @@ fn read_one(
     requires state_held { StateHeld sizes state.now }
     requires state_matches { StateMatches sizes program.now counts }
     requires x_lt_classes { x.0 < sizes.classes }
-    ensures { StateReads sizes (ProgramIs script.now program.entry.now counts)
+    ensures { StateReads sizes (ProgramIs script.now program.now counts)
         (λ L program. get_ivar L program (name_in script.now n) k x.0) state.now result }
 {
     match lookups::ivar_named(script, program, counts, x, n) {
@@ -103,7 +103,7 @@ fn read_each(
     requires state_held { StateHeld sizes state.now }
     requires state_matches { StateMatches sizes program.now counts }
     requires classes_below { ClassesBelow sizes.classes set }
-    ensures { StateReads sizes (ProgramIs script.now program.entry.now counts)
+    ensures { StateReads sizes (ProgramIs script.now program.now counts)
         (λ L program. fold (get_ivar L program (name_in script.now n)) Kind.Empty (members_of set)) state.now result }
 {
     let mut k = Kind::Empty;
@@ -142,7 +142,7 @@ pub fn read_ivar(
     requires state_matches { StateMatches sizes program.now counts }
     requires operand_inside { OperandInside sizes o }
     requires receiver_within { ReceiverWithin sizes state.now o }
-    ensures { StateReads sizes (ProgramIs script.now program.entry.now counts)
+    ensures { StateReads sizes (ProgramIs script.now program.now counts)
         (λ L program. read_ivars L program (name_in script.now n) (opnd_of o)) state.now result }
 {
     match machine::receivers::classes_of(state, sizes, o) {
@@ -209,7 +209,7 @@ fn wake_reads(
     requires state_ready { StateReady sizes state.old regs }
     requires state_matches { StateMatches sizes program.now counts }
     requires x_lt_classes { x.0 < sizes.classes }
-    ensures { StateDid sizes (ProgramIs script.now program.entry.now counts)
+    ensures { StateDid sizes (ProgramIs script.now program.now counts)
         (λ L program. wake_reads L program x.0 (name_in script.now n)) state.old regs state.new result }
 {
     let mut at = regs;
@@ -250,7 +250,7 @@ fn widen_one(
     requires state_ready { StateReady sizes state.old regs }
     requires state_matches { StateMatches sizes program.now counts }
     requires x_lt_classes { x.0 < sizes.classes }
-    ensures { StateDid sizes (ProgramIs script.now program.entry.now counts)
+    ensures { StateDid sizes (ProgramIs script.now program.now counts)
         (λ L program. set_ivar L program (name_in script.now n) k x.0) state.old regs state.new result }
 {
     match lookups::ivar_named(script, program, counts, x, n) {
@@ -285,7 +285,7 @@ fn widen_each(
     requires state_ready { StateReady sizes state.old regs }
     requires state_matches { StateMatches sizes program.now counts }
     requires classes_below { ClassesBelow sizes.classes set }
-    ensures { StateDid sizes (ProgramIs script.now program.entry.now counts)
+    ensures { StateDid sizes (ProgramIs script.now program.now counts)
         (λ L program. each (members_of set) (set_ivar L program (name_in script.now n) k)) state.old regs state.new result }
 {
     let mut at = regs;
@@ -326,7 +326,7 @@ pub fn set_ivar(
     requires state_matches { StateMatches sizes program.now counts }
     requires operand_inside { OperandInside sizes o × OperandInside sizes v }
     requires receiver_within { ReceiverWithin sizes state.old o }
-    ensures { StateDid sizes (ProgramIs script.now program.entry.now counts)
+    ensures { StateDid sizes (ProgramIs script.now program.now counts)
         (λ L program. set_ivars L program (name_in script.now n) (opnd_of o) (opnd_of v)) state.old regs state.new result }
 {
     let k = machine::opnds::kind_of(state, sizes, v);

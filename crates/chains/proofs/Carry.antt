@@ -1,7 +1,7 @@
 -- Words copied, and an index carried to another memory by copying what is in use of it. Assumes nothing.
 use mathlib.Core.Path.{◌≡◌, refl, sym, ap, ◌∙◌}
 use mathlib.Core.List.{List}
-use Prim.Native.Nat.{ℕ, ◌+◌, ◌-◌, ◌*◌, ◌≤◌, ◌<◌}
+use Prim.Native.Nat.{ℕ, ◌+◌, ◌*◌, ◌≤◌, ◌<◌}
 use native.Mathlib.Decide.{ℕ_discrete}
 use native.Mathlib.Omega.{arith}
 use lib.ListN.{length, get_or, set, drop, length-set, length-drop}
@@ -9,7 +9,7 @@ use lib.Seq.{get_or-set_same, get_or-set_other, get_or-drop}
 use Rattle.program.specs.declared.Counts.{Counts}
 use Rattle.memory.specs.Layout.{instructions_most, blocks_room}
 use Rattle.chains.specs.Layout.{sort_words, returns_at, chains_size}
-use Rattle.chains.specs.Chains.{at, self, ChainsOnly, Copied, ChainIs, Index, Carried}
+use Rattle.chains.specs.Chains.{at, self, ChainsOnly, Copied, ChainIs, Carried}
 use Rattle.chains.proofs.Lists.{chained_same}
 
 -- ---- words copied

@@ -1,16 +1,15 @@
 -- The three sorts together are the rules' lists. Assumes nothing.
 use mathlib.Core.Bool.{Bool as 𝔹, true, false, cond, ◌&&◌}
 use mathlib.Core.Path.{◌≡◌, refl, sym, ap, ap₂, ◌∙◌, subst}
-use mathlib.Core.List.{List, [], ◌∷◌, ◌++◌, map}
-use Prim.Native.Nat.{ℕ, zero, suc, ◌+◌, ◌-◌, ◌*◌, ◌%◌, ◌^◌, ◌≤◌, ◌<◌}
+use mathlib.Core.List.{List, map}
+use Prim.Native.Nat.{ℕ, ◌+◌, ◌*◌, ◌≤◌, ◌<◌}
 use native.Mathlib.Omega.{arith}
-use borrow.Author.Tests.{eq-eqb, ne_eqb}
+use borrow.Author.Tests.{ne_eqb}
 use lib.Dec.{eqb}
-use lib.ListN.{length, get_or, set, length-set}
-use Rattle.rules.specs.Lists.{cons_if, keep, has, places, to_list, concat}
+use lib.ListN.{length}
+use Rattle.rules.specs.Lists.{keep, has}
 use Rattle.rules.specs.Program as P
 use Rattle.rules.specs.Program.{code, parameters, returns, entry}
-use Rattle.program.specs.Tab.{tab}
 use Rattle.program.specs.Rows.{insn_at, block_at, instruction_at, op_in, opnd_of, opnds_in}
 use Rattle.program.specs.View.{program_view, ProgramReady, instructions_of, blocks_of}
 use Rattle.program.specs.declared.Counts.{Counts}
@@ -21,7 +20,7 @@ use Rattle.program.proofs.Reading.{instruction-is}
 use Rattle.memory.specs.Layout.{instructions_most, blocks_room}
 use Rattle.program.specs.Layout.{opnds_at}
 use Rattle.chains.specs.Layout.{sort_words, returns_at, chains_size}
-use Rattle.chains.specs.Chains.{is_param, is_return, key_of, pick, ChainsChained, at, self, ChainsOnly, All, Chains, returns_of, ChainIs, Index}
+use Rattle.chains.specs.Chains.{is_param, is_return, key_of, pick, at, self, ChainsOnly, All, Chains, returns_of, ChainIs, Index}
 use Rattle.chains.proofs.Lists.{pick_ext, keep-pick, places-tab, chained_same}
 
 param_is : (s : List ℕ) (o : Op) (l : List P.Opnd) → has (P.about (op_in s o l)).place ≡ is_param o

@@ -1,6 +1,6 @@
 -- Lists held as chains in a memory, and the chains of code, Params and Returns. Assumes nothing.
-use Rattle.std.specs.Prelude.{Bool as 𝔹, true, false, cond, ◌&&◌, ◌≡◌, List, [], ◌∷◌, map, ℕ, zero, suc, ◌+◌, ◌-◌, ◌*◌, ◌%◌, ◌^◌, ◌≤◌, ◌<◌, eqb, length, get_or, drop}
-use Rattle.rules.specs.Lists.{cons_if, places, to_list, concat, has}
+use Rattle.std.specs.Prelude.{Bool as 𝔹, true, false, cond, ◌&&◌, ◌≡◌, List, [], ◌∷◌, ℕ, zero, suc, ◌+◌, ◌-◌, ◌*◌, ◌≤◌, ◌<◌, eqb, length, get_or, drop}
+use Rattle.rules.specs.Lists.{cons_if, places, has}
 use Rattle.rules.specs.Program as P
 use Rattle.rules.specs.Program.{code, parameters, returns, entry}
 use Rattle.program.specs.Rows.{insn_at, block_at}

@@ -1,12 +1,11 @@
 -- A block's end is its last instruction's. Assumes nothing.
-use mathlib.Core.Bool.{Bool as 𝔹, true, false}
 use mathlib.Core.Option.{Option, none, some}
-use mathlib.Core.Path.{◌≡◌, refl, sym, ap, ap₂, ◌∙◌, subst}
+use mathlib.Core.Path.{◌≡◌, refl, sym, ap, ◌∙◌, subst}
 use mathlib.Core.List.{List, [], ◌∷◌}
-use Prim.Native.Nat.{ℕ, zero, suc, ◌+◌, ◌-◌, ◌*◌, ◌≤◌, ◌<◌}
+use Prim.Native.Nat.{ℕ, suc, ◌+◌, ◌*◌, ◌≤◌, ◌<◌}
 use native.Mathlib.Omega.{arith}
 use lib.Dec.{eqb}
-use lib.ListN.{length, get_or}
+use lib.ListN.{get_or}
 use Rattle.rules.specs.Lists.{final, has}
 use Rattle.rules.specs.Program as P
 use Rattle.rules.specs.Program.{code, about, op_of, successors, returned_by}
@@ -19,14 +18,14 @@ use Rattle.program.specs.declared.Op.{Op}
 use Rattle.program.specs.declared.Op.TheVariants as O
 use Rattle.ids.specs.declared.BlockId.{BlockId}
 use Rattle.program.proofs.Reading.{op-is}
-use Rattle.chains.specs.Chains.{pick, ChainsChained, at, self, ChainIs, Index, FitsId}
+use Rattle.chains.specs.Chains.{pick, ChainsChained, at, self, Index, FitsId}
 use Rattle.chains.proofs.Lists.{Starts, chained_below, chained_none, chained_some, chained_low, chained_high, chained_next}
 use Rattle.chains.proofs.Whole.{code_is}
 use Rattle.memory.specs.Layout.{blocks_room}
 use Rattle.chains.specs.Layout.{code_links_at}
 use Rattle.constructors.specs.Layout.{order_at, walk_size}
 use Rattle.constructors.specs.declared.Ends.{Ends}
-use Rattle.constructors.specs.declared.Ends.TheVariants.{Return, Jump, IfTrue, Open}
+use Rattle.constructors.specs.declared.Ends.TheVariants.{Jump, IfTrue, Open}
 use Rattle.constructors.specs.Walks.{ends_from, targets, returning, Ended}
 
 abbrev pub codes_of : List ℕ → ℕ → ℕ → List ℕ

@@ -2,15 +2,15 @@
 use mathlib.Core.Bool.{Bool as 𝔹, true, false, ◌&&◌, ◌||◌, or-false}
 use mathlib.Core.Option.{Option, none, some}
 use mathlib.Core.Path.{◌≡◌, refl, sym, ap, ap₂, ◌∙◌}
-use mathlib.Core.List.{List, [], ◌∷◌}
-use Prim.Native.Nat.{ℕ, zero, suc, ◌+◌, ◌-◌, ◌*◌, ◌/◌, ◌%◌, ◌^◌, ◌≤◌, ◌<◌, min, max}
+use mathlib.Core.List.{List, ◌∷◌}
+use Prim.Native.Nat.{ℕ, zero, suc, ◌+◌, ◌-◌, ◌/◌, ◌%◌, ◌^◌, ◌≤◌, ◌<◌, min, max}
 use native.Mathlib.Nat.{div_self, mod-eq_of_lt, zero-div}
 use native.Mathlib.Omega.{arith}
-use borrow.Author.Tests.{eq-eqb, ne_eqb}
+use borrow.Author.Tests.{eq-eqb}
 use lib.Bits.{bit_and, bit_or, and_shr, and_step, and_mask}
 use lib.Pow.{pow_pos, pow-lt}
 use lib.Dec.{eqb}
-use lib.ListN.{length, get_or}
+use lib.ListN.{get_or}
 use Rattle.rules.specs.Lists.{any}
 use Rattle.rules.specs.Program.{Program, successors}
 use Rattle.rules.specs.Constructors.{end_of, set_before}
@@ -20,7 +20,7 @@ use Rattle.ids.specs.declared.BlockId.{BlockId}
 use Rattle.memory.proofs.tables.Bit.{or_bit}
 use Rattle.constructors.specs.Layout.{order_at, outs_at}
 use Rattle.constructors.specs.declared.Ends.{Ends}
-use Rattle.constructors.specs.declared.Ends.TheVariants.{Return, Jump, IfTrue, Open}
+use Rattle.constructors.specs.declared.Ends.TheVariants.{Jump, IfTrue}
 use Rattle.constructors.specs.Walks.{targets, Ended}
 use Rattle.constructors.specs.Flows.{holds, done_from, or_false, Before}
 

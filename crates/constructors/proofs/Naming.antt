@@ -1,9 +1,8 @@
 -- The attribute places that bear a name. Assumes nothing.
-use mathlib.Core.Bool.{Bool as 𝔹, true, false, not, cond, ◌&&◌, ◌||◌, or-true, or-false}
-use mathlib.Core.Option.{Option, none, some}
+use mathlib.Core.Bool.{Bool as 𝔹, true, false, not, ◌&&◌, ◌||◌, or-true, or-false}
 use mathlib.Core.Path.{◌≡◌, refl, sym, ap, ap₂, ◌∙◌}
 use mathlib.Core.List.{List, [], ◌∷◌}
-use Prim.Native.Nat.{ℕ, zero, suc, ◌+◌, ◌-◌, ◌*◌, ◌/◌, ◌%◌, ◌^◌, ◌≤◌, ◌<◌}
+use Prim.Native.Nat.{ℕ, suc, ◌+◌, ◌-◌, ◌*◌, ◌/◌, ◌%◌, ◌^◌, ◌≤◌, ◌<◌}
 use native.Mathlib.Decide.{ℕ_discrete}
 use native.Mathlib.Nat.{div_self, div-eq_of_lt}
 use native.Mathlib.Omega.{arith}
@@ -11,21 +10,19 @@ use borrow.Author.Tests.{eq-eqb, ne_eqb, lt-ltb, le-ltb}
 use lib.Bits.{bit_or, shifted_even}
 use lib.Pow.{pow_pos, pow-lt, pow-add, shl-shr}
 use lib.Dec.{eqb, ltb}
-use lib.ListN.{length, get_or}
-use Rattle.ids.proofs.Bits.{one_shl}
+use lib.ListN.{length}
 use Rattle.lexer.specs.Names.{name}
 use Rattle.rules.specs.Lists.{any, same, has, first, places_from, places}
 use Rattle.rules.specs.Program as P
 use Rattle.rules.specs.Program.{ivar_named}
 use Rattle.program.specs.Tab.{tab}
-use Rattle.program.specs.Rows.{name_in, ivar_at, ivars_of, class_at}
+use Rattle.program.specs.Rows.{name_in, ivars_of, class_at}
 use Rattle.program.specs.View.{program_view, ProgramReady, classes_of}
 use Rattle.program.specs.declared.Counts.{Counts}
 use Rattle.program.specs.declared.Name.{Name}
 use Rattle.program.proofs.Tables.{tab-at, tab-more}
 use Rattle.program.proofs.Committing.{any_snoc}
 use Rattle.program.specs.Layout.{classes_at, ivars_at, class_words, ivar_row_words}
-use Rattle.constructors.specs.declared.Places.{Places}
 use Rattle.constructors.specs.Flows.{holds, ivar_in, NamedIs}
 use Rattle.constructors.proofs.Meeting.{holds_or, holds-none}
 

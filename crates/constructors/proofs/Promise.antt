@@ -1,9 +1,9 @@
 -- A finished reading gives what the walk asks: the blocks that terminators name are there. Assumes nothing.
 use mathlib.Core.Bool.{Bool as 𝔹, true, false, false≢true}
 use mathlib.Core.Option.{Option, none, some}
-use mathlib.Core.Path.{◌≡◌, refl, sym, ap, ap₂, ◌∙◌, subst}
+use mathlib.Core.Path.{◌≡◌, refl, sym, ap, ◌∙◌, subst}
 use mathlib.Core.List.{List, [], ◌∷◌}
-use Prim.Native.Nat.{ℕ, zero, suc, ◌+◌, ◌≤◌, ◌<◌}
+use Prim.Native.Nat.{ℕ, zero, suc, ◌+◌, ◌<◌}
 use native.Mathlib.Omega.{arith}
 use lib.Dec.{eqb}
 use Rattle.rules.specs.Lists.{any, cons_if, final}
@@ -12,7 +12,6 @@ use Rattle.rules.specs.Program.{about, op_of, successors}
 use Rattle.rules.specs.Constructors.{end_of}
 use Rattle.rules.specs.Finished.{Finished}
 use Rattle.rules.proofs.Paths.Jumps.{next_in_lem}
-use Rattle.program.specs.Tab.{tab}
 use Rattle.program.specs.Rows.{insn_at, block_at}
 use Rattle.program.specs.View.{program_view, blocks_of}
 use Rattle.program.specs.declared.Counts.{Counts}

@@ -4,11 +4,9 @@ use mathlib.Core.Option.{Option, none, some}
 use mathlib.Core.Path.{◌≡◌, refl, sym, ap, ap₂, ◌∙◌, subst}
 use mathlib.Core.List.{List, [], ◌∷◌, ◌++◌, map}
 use Prim.Native.Nat.{ℕ, zero, suc, ◌+◌, ◌-◌, ◌*◌, ◌≤◌, ◌<◌}
-use native.Mathlib.Decide.{ℕ_discrete}
 use native.Mathlib.Omega.{arith}
 use borrow.Author.Tests.{eq-eqb, ne_eqb, lt-ltb}
 use lib.Bits.{bit_and, bit_or}
-use lib.Dec.{eqb, ltb}
 use lib.ListN.{length, get_or, set, length-set}
 use lib.Seq.{get_or-set_same, get_or-set_other}
 use Rattle.rules.specs.Lists.{any, all, same, has, to_list, concat}
@@ -38,7 +36,7 @@ use Rattle.constructors.specs.declared.Sets.TheVariants as S
 use Rattle.constructors.specs.declared.Sure.{Sure}
 use Rattle.constructors.specs.declared.Sure.TheVariants as Q
 use Rattle.constructors.specs.Walks.{returning, Ended, out_of, Walked}
-use Rattle.constructors.specs.Flows.{holds, done_from, or_false, FlowPlaced, Before, ivar_in, NamedIs, set_name, FlowTold, sets_in, sure_in, all_declared, SetsIs, SureIs}
+use Rattle.constructors.specs.Flows.{holds, done_from, or_false, FlowPlaced, Before, ivar_in, NamedIs, set_name, sets_in, all_declared, SetsIs, SureIs}
 use Rattle.constructors.proofs.Endings.{codes_of, chain_of}
 use Rattle.constructors.proofs.Meeting.{holds-and, holds_or, holds-none, holds-full, full}
 

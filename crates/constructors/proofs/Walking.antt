@@ -1,6 +1,6 @@
 -- What each way through the walk shows, on plain values. Assumes nothing.
-use mathlib.Core.Bool.{Bool as 𝔹, true, false, not, cond, or-true}
-use mathlib.Core.Path.{◌≡◌, refl, sym, ap, ap₂, ◌∙◌, subst}
+use mathlib.Core.Bool.{Bool as 𝔹, true, false, cond, or-true}
+use mathlib.Core.Path.{◌≡◌, refl, sym, ap, ◌∙◌, subst}
 use mathlib.Core.List.{List, [], ◌∷◌}
 use Prim.Native.Nat.{ℕ, zero, suc, ◌+◌, ◌-◌, ◌*◌, ◌≤◌, ◌<◌}
 use native.Mathlib.Decide.{ℕ_discrete}
@@ -10,11 +10,9 @@ use borrow.Author.Tests.{eq-eqb, ne_eqb}
 use lib.Dec.{eqb}
 use lib.ListN.{length, get_or, set, length-set}
 use lib.Seq.{get_or-set_same, get_or-set_other}
-use Rattle.rules.specs.Actions.{choose}
 use Rattle.rules.specs.Lists.{any}
 use Rattle.rules.specs.Program.{Program, successors}
 use Rattle.rules.specs.Constructors.{Walk, end_of, walk_each, walk, reverse_post_order}
-use Rattle.program.specs.Tab.{tab}
 use Rattle.program.specs.View.{program_view, blocks_of}
 use Rattle.program.specs.Rows.{block_at}
 use Rattle.program.specs.declared.Counts.{Counts}
@@ -25,7 +23,7 @@ use Rattle.memory.specs.Layout.{blocks_room}
 use Rattle.constructors.specs.Layout.{order_at, walk_size}
 use Rattle.constructors.specs.declared.Ends.{Ends}
 use Rattle.constructors.specs.declared.Ends.TheVariants.{Return, Jump, IfTrue, Open}
-use Rattle.constructors.specs.Walks.{targets, Ended, WalkInside, marked, unseen, out_of, Marks, WalkGood, Same, walk_of, visit_of, WalkDid, Walked}
+use Rattle.constructors.specs.Walks.{targets, Ended, WalkInside, unseen, out_of, Marks, WalkGood, Same, walk_of, visit_of, WalkDid, Walked}
 
 -- ---- marks
 

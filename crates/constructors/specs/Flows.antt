@@ -1,5 +1,5 @@
 -- What is surely set, a bit for each attribute. Assumes nothing.
-use Rattle.std.specs.Prelude.{Bool as 𝔹, true, false, not, ◌&&◌, ◌≡◌, List, [], ◌∷◌, map, ℕ, zero, suc, ◌+◌, ◌-◌, ◌*◌, ◌/◌, ◌%◌, ◌^◌, ◌≤◌, ◌<◌, eqb, ltb, length, get_or}
+use Rattle.std.specs.Prelude.{Bool as 𝔹, false, not, ◌&&◌, ◌≡◌, List, [], ◌∷◌, ℕ, zero, suc, ◌+◌, ◌-◌, ◌/◌, ◌%◌, ◌^◌, ◌≤◌, ◌<◌, eqb, ltb, get_or}
 use Rattle.std.proofs.Math.Option.{Option, none, some}
 use Rattle.rules.specs.Constructors.{reverse_post_order, sets_of, set_before, initialized, declared}
 use Rattle.rules.specs.Lists.{same, any, all, has}

@@ -1,5 +1,5 @@
 -- The walk of a constructor's blocks, as the work memory holds it. Assumes nothing.
-use Rattle.std.specs.Prelude.{Bool as 𝔹, true, false, not, cond, ◌≡◌, List, [], ◌∷◌, ℕ, zero, suc, ◌+◌, ◌*◌, ◌≤◌, ◌<◌, eqb, length, get_or}
+use Rattle.std.specs.Prelude.{Bool as 𝔹, true, false, not, cond, ◌≡◌, List, [], ◌∷◌, ℕ, zero, suc, ◌+◌, ◌≤◌, ◌<◌, eqb, length, get_or}
 use Rattle.rules.specs.Actions.{choose}
 use Rattle.rules.specs.Lists.{any, has}
 use Rattle.rules.specs.Program.{successors, returned_by}

@@ -85,7 +85,7 @@ fn push(scratch: &mut [usize], n: usize, b: BlockId) -> usize
 }
 
 // Visits block b unless it was visited.
-#[cycle(visit_walk)]
+#[cycle(walk)]
 fn visit(
     program: &[usize],
     counts: Counts,
@@ -110,7 +110,7 @@ fn visit(
 }
 
 // Visits block b, which was not visited, and what it leads to; then leaves it behind.
-#[cycle(visit_walk)]
+#[cycle(walk)]
 fn walk(
     program: &[usize],
     counts: Counts,
@@ -206,7 +206,7 @@ fn before(
 {
     let mut q = n;
     let mut bits = FULL;
-    let mut met = 0;
+    let mut met = 0usize;
     while i < q {
         q -= 1;
         let d = scratch[ORDER + q];

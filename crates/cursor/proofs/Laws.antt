@@ -8,7 +8,7 @@ use Rattle.rules.specs.Actions.{answered, refused}
 use Rattle.rules.specs.Reading.{Reads, expect_ident}
 use Rattle.variables.proofs.Rooms.{room-on}
 use Rattle.program.specs.View as View
-use Rattle.cursor.specs.Cursor.{parser_of, move_cur, count_cur, CursorReady, In, CursorStep}
+use Rattle.cursor.specs.Cursor.{parser_of, move_cur, count_cur, In, CursorStep}
 use Rattle.cursor.specs.Promises.{Out, done, stop, CursorAfter, CursorDid, Onward, Moves, CursorGrown, CursorAdds, Idents}
 use Rattle.program.specs.declared.Counts.{Counts}
 use Rattle.program.specs.Rows.{name_in}

@@ -38,11 +38,8 @@ use Rattle.cursor.specs.Steps.{sets_ivar, gets_ivar, calls, reads_attr, weigh, s
 use Rattle.cursor.specs.Promises.{Out, done, stop, CursorAdds, called_of, parsed_of}
 use Rattle.cursor.specs.declared.Cursor.{Cursor}
 use Rattle.cursor.specs.declared.SelfAt.{SelfAt}
-use Rattle.cursor.specs.declared.SelfAt.TheVariants as SelfAt
 use Rattle.cursor.specs.declared.Parsed.{Parsed}
-use Rattle.cursor.specs.declared.Parsed.TheVariants as Parsed
 use Rattle.cursor.specs.declared.Called.{Called}
-use Rattle.cursor.specs.declared.Called.TheVariants as Called
 use Rattle.cursor.specs.declared.Suffix.{Suffix}
 use Rattle.cursor.specs.declared.Suffix.TheVariants.{Operator, Call, Member, Ends}
 

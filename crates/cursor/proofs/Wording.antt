@@ -16,19 +16,16 @@ use Rattle.lexer.specs.Lexed.{kind_of, text_of, word_in, LexerReads, Glances}
 use Rattle.lexer.specs.declared.Lexed.{Lexed}
 use Rattle.lexer.specs.declared.Lexed.TheVariants.{Found, Refused}
 use Rattle.lexer.specs.declared.Glimpse.{Glimpse}
-use Rattle.lexer.specs.declared.Glimpse.TheVariants as Glimpse
 use Rattle.lexer.specs.declared.Word.{Word}
 use Rattle.lexer.proofs.Names.{by_test}
 use Rattle.lexer.proofs.Lexes.{signed, unsigned, unseen}
 use Rattle.lexer.proofs.Texts.{ident_kind, literal_kind, fixed-kind}
 use Rattle.cursor.specs.Cursor.{parser_of, move_cur}
-use Rattle.cursor.specs.Promises.{outcome, matched_of, moved_of, Moves, Spelt, match_kind, expect_kind, Sees, Idents, Expects, CursorMatches}
+use Rattle.cursor.specs.Promises.{outcome, matched_of, Spelt, match_kind, expect_kind, Sees, Idents, Expects, CursorMatches}
 use Rattle.cursor.specs.declared.Cursor.{Cursor}
 use Rattle.cursor.specs.declared.Moved.TheVariants as Moved
 use Rattle.cursor.specs.declared.Ident.{Ident}
-use Rattle.cursor.specs.declared.Ident.TheVariants as Ident
 use Rattle.cursor.specs.declared.Matched.{Matched}
-use Rattle.cursor.specs.declared.Matched.TheVariants as Matched
 use Rattle.program.specs.declared.Name.{Name}
 
 -- ---- kinds

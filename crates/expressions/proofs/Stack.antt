@@ -4,7 +4,7 @@ use mathlib.Core.List.{List, [], ◌∷◌, ◌++◌, map}
 use Prim.Native.Nat.{ℕ, ◌+◌, ◌-◌, ◌*◌, ◌≤◌, ◌<◌}
 use native.Mathlib.Omega.{arith}
 use lib.ListN.{get_or}
-use Rattle.variables.specs.Memory.{entry, vars}
+use Rattle.variables.specs.Memory.{entry}
 use Rattle.variables.proofs.Entries.{made_move}
 use Rattle.program.specs.Rows.{opnds_in, opnd_of}
 use Rattle.program.specs.declared.Opnd.{Opnd}
@@ -71,7 +71,7 @@ module _ {v : Opnd} {c : Cursor} {w w' : List ℕ} {c' : Cursor} (p : Stacks v c
             script = h.ready.script;
             inside = h.ready.inside;
             tables = h.ready.tables;
-            scratch = omega (arith, h.ready.scratch, p.puts.only.len-same);
+            scratch = omega (arith, h.ready.scratch, p.puts.only.len_same);
             room = h.ready.room;
             args = room;
           };

@@ -19,7 +19,6 @@ use Rattle.lexer.specs.Lexed.{text_of, word_in, Glances}
 use Rattle.lexer.specs.declared.Lexed.{Lexed}
 use Rattle.lexer.specs.declared.Lexed.TheVariants as Seen
 use Rattle.lexer.specs.declared.Glimpse.{Glimpse}
-use Rattle.lexer.specs.declared.Glimpse.TheVariants as Glimpse
 use Rattle.lexer.specs.declared.Word.{Word}
 use Rattle.lexer.proofs.Lexes.{signed, unsigned, unseen}
 use Rattle.program.specs.Rows.{opnds_in, opnd_of, op_in, given, name_in}
@@ -35,24 +34,17 @@ use Rattle.cursor.specs.declared.Cursor.{Cursor}
 use Rattle.cursor.specs.declared.Parsed.{Parsed}
 use Rattle.cursor.specs.declared.Parsed.TheVariants.{Done, Refused}
 use Rattle.cursor.specs.declared.Moved.{Moved}
-use Rattle.cursor.specs.declared.Moved.TheVariants as Moved
 use Rattle.cursor.specs.declared.Ident.{Ident}
-use Rattle.cursor.specs.declared.Ident.TheVariants as Ident
 use Rattle.cursor.specs.declared.Matched.{Matched}
-use Rattle.cursor.specs.declared.Matched.TheVariants as Matched
 use Rattle.cursor.specs.declared.Suffix.{Suffix}
-use Rattle.cursor.specs.declared.Suffix.TheVariants as Suffix
 use Rattle.cursor.proofs.Laws.{step-none, step_less, step_trans, Acted, got, gave, refuses, arrives, ends_as, added_did}
 use Rattle.cursor.proofs.Wording.{is-yes, is_no, spelt_open, spelt_close, spelt_comma, spelt_plus, spelt_minus, spelt_times, spelt_less, spelt_dot, word_read, peek-found, peek-none, glanced}
 use Rattle.memory.specs.Layout.{operands_most}
 use Rattle.cursor.specs.Layout.{scratch_size}
 use Rattle.expressions.specs.Readers.{again_of, Agains, taken_of, ArgDid, args_of, ArgsDid, suffixed_of, SuffixDid}
 use Rattle.expressions.specs.declared.ArgTurn.{ArgTurn}
-use Rattle.expressions.specs.declared.ArgTurn.TheVariants as ArgTurn
 use Rattle.expressions.specs.declared.Args.{Args}
-use Rattle.expressions.specs.declared.Args.TheVariants as Args
 use Rattle.expressions.specs.declared.Suffixed.{Suffixed}
-use Rattle.expressions.specs.declared.Suffixed.TheVariants as Suffixed
 use Rattle.expressions.proofs.Loops.{Loops, loops_start, loops_on, loops_end, loops_stop}
 use Rattle.expressions.proofs.Stack.{height_free, waiting-same, stacks_args, stacks_at, stacks_more, stacks_state, stacks_in, stacks_step, step_height, step_from}
 use Rattle.expressions.proofs.Ways.{ident_went, match_went, match_not, match_gave, expect-went, expect_gave, suffix_low, operator-passed, call-passed, member_passed}
@@ -239,8 +231,8 @@ module _ (L : P.Limits) (s : List ℕ) (E : ℕ → Reads P.Opnd) where
           at-close : Acted (expect s ")") 1 s m1 w1 c1 m1 w1 tt c2
           at-close = expect-went args-here ")" y spelt_close f
 
-          pub args-high : c₀.args ≤ c2.args
-          args-high = omega (arith, at-close.step.args, ended.ok.more, i.more)
+          pub args_high : c₀.args ≤ c2.args
+          args_high = omega (arith, at-close.step.args, ended.ok.more, i.more)
 
           lower : In s m1 w1 (stack_cur c₀.args c2)
           lower =
@@ -252,7 +244,7 @@ module _ (L : P.Limits) (s : List ℕ) (E : ℕ → Reads P.Opnd) where
                   tables = h.ready.tables;
                   scratch = h.ready.scratch;
                   room = h.ready.room;
-                  args = omega (arith, h.ready.args, args-high);
+                  args = omega (arith, h.ready.args, args_high);
                 };
                 block = h.block;
               }
@@ -263,9 +255,9 @@ module _ (L : P.Limits) (s : List ℕ) (E : ℕ → Reads P.Opnd) where
               (step_trans (step_trans i.step (step_from c₀.args i.more ended.ok.step))
               (step_from c₀.args (omega (arith, ended.ok.more, i.more)) at-close.step))
 
-          pub args-done : {t : Args} → t ≡ taken_of c₀.args c2 → ArgsDid (parse_args L s E) s m₀ w₀ c₀ m1 w1 t
+          pub args_done : {t : Args} → t ≡ taken_of c₀.args c2 → ArgsDid (parse_args L s E) s m₀ w₀ c₀ m1 w1 t
           unfolding parse_args
-          args-done g =
+          args_done g =
               let a = at-close.step.args in
               rw g
               (record {
@@ -277,7 +269,7 @@ module _ (L : P.Limits) (s : List ℕ) (E : ℕ → Reads P.Opnd) where
                     let z : n ≡ c2.args - c₀.args = cc in
                     let y : c' ≡ stack_cur c₀.args c2 = cc in
                     let u : c'.args ≡ c₀.args = ap (λ (d : Cursor). d.args) y in
-                    omega (arith, args-high, at-close.here.ready.args, at-close.here.ready.inside, at-close.here.ready.script);
+                    omega (arith, args_high, at-close.here.ready.args, at-close.here.ready.inside, at-close.here.ready.script);
               })
 
   -- ---- calls

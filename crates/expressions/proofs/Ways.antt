@@ -12,14 +12,13 @@ use Rattle.kinds.specs.declared.Arith.{Arith}
 use Rattle.kinds.specs.declared.Kind.TheVariants.{Num}
 use Rattle.rules.specs.Actions.{answered, refused, loop}
 use Rattle.rules.specs.Program as P
-use Rattle.rules.specs.Words.{is, decimal}
-use Rattle.rules.specs.Reading.{Reads, pass, expect, expect_ident, match_token, turns, get_self, Operator, parse_group, parse_ivar, parse_name, parse_primary, parse_member, parse_suffix, parse_expr}
+use Rattle.rules.specs.Words.{decimal}
+use Rattle.rules.specs.Reading.{Reads, pass, expect, expect_ident, match_token, turns, get_self, parse_group, parse_ivar, parse_name, parse_primary, parse_member, parse_suffix, parse_expr}
 use Rattle.lexer.specs.Lexed.{value_of, text_of, Glances}
 use Rattle.lexer.specs.Lexed as Lexed
 use Rattle.lexer.specs.declared.Lexed.{Lexed}
 use Rattle.lexer.specs.declared.Lexed.TheVariants as Seen
 use Rattle.lexer.specs.declared.Glimpse.{Glimpse}
-use Rattle.lexer.specs.declared.Glimpse.TheVariants as Glimpse
 use Rattle.lexer.specs.declared.Word.{Word}
 use Rattle.lexer.proofs.Lexes.{signed}
 use Rattle.program.specs.Rows.{opnd_of, name_in}
@@ -32,13 +31,9 @@ use Rattle.cursor.specs.declared.Cursor.{Cursor}
 use Rattle.cursor.specs.declared.Parsed.{Parsed}
 use Rattle.cursor.specs.declared.Parsed.TheVariants.{Done, Refused}
 use Rattle.cursor.specs.declared.Moved.{Moved}
-use Rattle.cursor.specs.declared.Moved.TheVariants as Moved
 use Rattle.cursor.specs.declared.Ident.{Ident}
-use Rattle.cursor.specs.declared.Ident.TheVariants as Ident
 use Rattle.cursor.specs.declared.Matched.{Matched}
-use Rattle.cursor.specs.declared.Matched.TheVariants as Matched
 use Rattle.cursor.specs.declared.Suffix.{Suffix}
-use Rattle.cursor.specs.declared.Suffix.TheVariants as Suffix
 use Rattle.cursor.proofs.Laws.{step-none, step_trans, Acted, got, gave, refuses, arrives, ends_as, in_moved, step-moved, moved-did, added_did}
 use Rattle.cursor.proofs.Wording.{is-yes, is_no, literal_yes, literal_no, spelt_open, spelt_close, spelt_equals, spelt_at, word_read, peek-found, peek-none, pass-found, glanced}
 use Rattle.memory.specs.Layout.{script_most}
@@ -247,15 +242,15 @@ module _ (L : P.Limits) (s : List ℕ) (E : ℕ → Reads P.Opnd) where
               name_no3 = refuses (rw (← at_name.is, ← at_equals.is, ← gave d (ap parsed_of g)))
 
             module _ {c3 : Cursor} {v : Opnd} (g : p ≡ Done c3 v) where
-              pub right-here : In s m1 w1 c3
-              right-here = (got d (ap parsed_of g)).here
+              pub right_here : In s m1 w1 c3
+              right_here = (got d (ap parsed_of g)).here
 
               to_right : CursorStep 3 c w c3 w1
               to_right = step_trans (step_trans at_name.step at_equals.step) (got d (ap parsed_of g)).step
 
               pub ivar_set : {m2 : List ℕ} {o : Out P.Opnd} → ((z u : List ℕ) → CursorAdds z u (sets_ivar L (name_in z n) (opnd_of v)) m1 c3 m2 o) → CursorDid (parse_ivar L s E) 1 s m w c m2 w1 o
               unfolding parse_ivar sets_ivar get_self
-              ivar_set a = ends_as to_right (omega arith) (added_did (a s w1) right-here) (rw (← at_name.is, ← at_equals.is, ← (got d (ap parsed_of g)).is))
+              ivar_set a = ends_as to_right (omega arith) (added_did (a s w1) right_here) (rw (← at_name.is, ← at_equals.is, ← (got d (ap parsed_of g)).is))
 
               -- the two bytes of a name and its `=` pay for the binding
               pub pays : 2 * (c3.vars + 1) + c.at ≤ 2 * c.vars + c3.at
@@ -263,8 +258,8 @@ module _ (L : P.Limits) (s : List ℕ) (E : ℕ → Reads P.Opnd) where
 
               pub assign_room : (scratch_size ≤ length w1) × (c3.vars < bindings_most)
               assign_room = (
-                right-here.ready.scratch,
-                omega (arith, pays, h.ready.room.law, h.ready.room.aside, right-here.ready.inside, right-here.ready.script),
+                right_here.ready.scratch,
+                omega (arith, pays, h.ready.room.law, h.ready.room.aside, right_here.ready.inside, right_here.ready.script),
               )
 
               pub assign_name : n.start + n.len ≤ script_most
@@ -275,18 +270,18 @@ module _ (L : P.Limits) (s : List ℕ) (E : ℕ → Reads P.Opnd) where
                 rw b.cur
                     (record {
                       ready = record {
-                        script = right-here.ready.script;
-                        inside = right-here.ready.inside;
-                        tables = right-here.ready.tables;
-                        scratch = omega (arith, right-here.ready.scratch, b.long);
+                        script = right_here.ready.script;
+                        inside = right_here.ready.inside;
+                        tables = right_here.ready.tables;
+                        scratch = omega (arith, right_here.ready.scratch, b.long);
                         room = record {
-                          script = right-here.ready.room.script;
-                          aside = right-here.ready.room.aside;
+                          script = right_here.ready.room.script;
+                          aside = right_here.ready.room.aside;
                           law = omega (arith, pays, h.ready.room.law, to_right.aside);
                         };
-                        args = right-here.ready.args;
+                        args = right_here.ready.args;
                       };
-                      block = right-here.block;
+                      block = right_here.block;
                     }),
                 rw b.cur
                     (record {

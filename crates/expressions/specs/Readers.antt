@@ -9,14 +9,10 @@ use Rattle.cursor.specs.Cursor.{parser_of, waiting, stack_cur, In, CursorStep}
 use Rattle.cursor.specs.Promises.{Out, done, stop, outcome, CursorDid}
 use Rattle.cursor.specs.declared.Cursor.{Cursor}
 use Rattle.cursor.specs.declared.Parsed.{Parsed}
-use Rattle.cursor.specs.declared.Parsed.TheVariants as Parsed
 use Rattle.memory.specs.Layout.{operands_most}
 use Rattle.expressions.specs.declared.ArgTurn.{ArgTurn}
-use Rattle.expressions.specs.declared.ArgTurn.TheVariants as ArgTurn
 use Rattle.expressions.specs.declared.Args.{Args}
-use Rattle.expressions.specs.declared.Args.TheVariants as Args
 use Rattle.expressions.specs.declared.Suffixed.{Suffixed}
-use Rattle.expressions.specs.declared.Suffixed.TheVariants as Suffixed
 
 abbrev pub again_of : Parsed → Suffixed
 again_of (Parsed.Done c v) = Suffixed.Again c v

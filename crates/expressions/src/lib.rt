@@ -60,7 +60,7 @@ fn taken(cursor: Cursor, base: usize) -> Args
 
 // ---- the readers
 
-#[cycle(parse_arg_parse_args_parse_call_parse_expr_parse_from_parse_group_parse_ivar_parse_member_parse_name_parse_primary_parse_right_parse_suffix_parse_suffixes)]
+#[cycle(expression)]
 fn parse_group(
     script: &[u8],
     program: &mut [usize],
@@ -83,7 +83,7 @@ fn parse_group(
     }
 }
 
-#[cycle(parse_arg_parse_args_parse_call_parse_expr_parse_from_parse_group_parse_ivar_parse_member_parse_name_parse_primary_parse_right_parse_suffix_parse_suffixes)]
+#[cycle(expression)]
 fn parse_ivar(
     script: &[u8],
     program: &mut [usize],
@@ -111,7 +111,7 @@ fn parse_ivar(
 }
 
 // From the word x on, which is the next.
-#[cycle(parse_arg_parse_args_parse_call_parse_expr_parse_from_parse_group_parse_ivar_parse_member_parse_name_parse_primary_parse_right_parse_suffix_parse_suffixes)]
+#[cycle(expression)]
 fn parse_name(
     script: &[u8],
     program: &mut [usize],
@@ -141,7 +141,7 @@ fn parse_name(
 }
 
 // From the word x on, which is the next.
-#[cycle(parse_arg_parse_args_parse_call_parse_expr_parse_from_parse_group_parse_ivar_parse_member_parse_name_parse_primary_parse_right_parse_suffix_parse_suffixes)]
+#[cycle(expression)]
 fn parse_primary(
     script: &[u8],
     program: &mut [usize],
@@ -184,7 +184,7 @@ fn parse_primary(
 }
 
 // One argument; a comma may stand behind the last.
-#[cycle(parse_arg_parse_args_parse_call_parse_expr_parse_from_parse_group_parse_ivar_parse_member_parse_name_parse_primary_parse_right_parse_suffix_parse_suffixes)]
+#[cycle(expression)]
 fn parse_arg(
     script: &[u8],
     program: &mut [usize],
@@ -220,7 +220,7 @@ fn parse_arg(
     }
 }
 
-#[cycle(parse_arg_parse_args_parse_call_parse_expr_parse_from_parse_group_parse_ivar_parse_member_parse_name_parse_primary_parse_right_parse_suffix_parse_suffixes)]
+#[cycle(expression)]
 fn parse_args(
     script: &[u8],
     program: &mut [usize],
@@ -255,7 +255,7 @@ fn parse_args(
     }
 }
 
-#[cycle(parse_arg_parse_args_parse_call_parse_expr_parse_from_parse_group_parse_ivar_parse_member_parse_name_parse_primary_parse_right_parse_suffix_parse_suffixes)]
+#[cycle(expression)]
 fn parse_call(
     script: &[u8],
     program: &mut [usize],
@@ -278,7 +278,7 @@ fn parse_call(
     }
 }
 
-#[cycle(parse_arg_parse_args_parse_call_parse_expr_parse_from_parse_group_parse_ivar_parse_member_parse_name_parse_primary_parse_right_parse_suffix_parse_suffixes)]
+#[cycle(expression)]
 fn parse_member(
     script: &[u8],
     program: &mut [usize],
@@ -309,7 +309,7 @@ fn parse_member(
     }
 }
 
-#[cycle(parse_arg_parse_args_parse_call_parse_expr_parse_from_parse_group_parse_ivar_parse_member_parse_name_parse_primary_parse_right_parse_suffix_parse_suffixes)]
+#[cycle(expression)]
 fn parse_right(
     script: &[u8],
     program: &mut [usize],
@@ -335,7 +335,7 @@ fn parse_right(
 }
 
 // One thing behind the operand v: it begins with a sign.
-#[cycle(parse_arg_parse_args_parse_call_parse_expr_parse_from_parse_group_parse_ivar_parse_member_parse_name_parse_primary_parse_right_parse_suffix_parse_suffixes)]
+#[cycle(expression)]
 fn parse_suffix(
     script: &[u8],
     program: &mut [usize],
@@ -390,7 +390,7 @@ fn parse_suffix(
     }
 }
 
-#[cycle(parse_arg_parse_args_parse_call_parse_expr_parse_from_parse_group_parse_ivar_parse_member_parse_name_parse_primary_parse_right_parse_suffix_parse_suffixes)]
+#[cycle(expression)]
 fn parse_suffixes(
     script: &[u8],
     program: &mut [usize],
@@ -428,7 +428,7 @@ fn parse_suffixes(
 }
 
 // From the word x on, which is the next.
-#[cycle(parse_arg_parse_args_parse_call_parse_expr_parse_from_parse_group_parse_ivar_parse_member_parse_name_parse_primary_parse_right_parse_suffix_parse_suffixes)]
+#[cycle(expression)]
 pub fn parse_from(
     script: &[u8],
     program: &mut [usize],
@@ -457,7 +457,7 @@ pub fn parse_from(
 }
 
 // The reference's `parse_`: it counts towards the depth as it is entered, before a word is looked at.
-#[cycle(parse_arg_parse_args_parse_call_parse_expr_parse_from_parse_group_parse_ivar_parse_member_parse_name_parse_primary_parse_right_parse_suffix_parse_suffixes)]
+#[cycle(expression)]
 pub fn parse_expr(
     script: &[u8],
     program: &mut [usize],

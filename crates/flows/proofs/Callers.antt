@@ -16,7 +16,7 @@ use lib.Seq.{drop-cons, get_or-drop}
 use Rattle.ids.specs.declared.InsnId.{InsnId}
 use Rattle.ids.proofs.Bits.{Either, yes, no, either}
 use Rattle.kinds.specs.declared.Kind.{Kind}
-use Rattle.kinds.specs.declared.Kind.TheVariants.{Empty, Any, Nil, Objects}
+use Rattle.kinds.specs.declared.Kind.TheVariants.{Empty, Nil, Objects}
 use Rattle.kinds.specs.declared.Joined.{Joined}
 use Rattle.kinds.specs.declared.Joined.TheVariants.{Of}
 use Rattle.kinds.specs.Kinds.{is_set}
@@ -44,7 +44,7 @@ use Rattle.state.specs.View.{kinds_of, called_of, StateHeld}
 use Rattle.state.specs.View.{state_view}
 use Rattle.state.specs.Changes.{marks_from, Following}
 use Rattle.machine.specs.opnds.Reads.{OperandInside, kind_in, StateReads}
-use Rattle.machine.proofs.opnds.Given.{kind_of}
+use Rattle.machine.proofs.opnds.Given.{kind_of_lem}
 use Rattle.program.specs.Layout.{insns_at, opnds_at, insn_words}
 use Rattle.flows.specs.declared.Pass.{Pass}
 use Rattle.flows.specs.declared.Tally.TheVariants.{Nothing as None}
@@ -157,7 +157,7 @@ module _ (m : List ℕ) (c : Counts) (i n : ℕ) (r : ProgramReady m c) (below :
           ∙ at-any given (skip + n) (P.Const Nil) (P.Const Empty) (let k = given-length m (opnds_at + 2 * first) count in omega arith)
           ∙ sym (argument_is L s h);
     };
-    inside = let a = row-range m c i r below in let b = r.len-mem in omega arith;
+    inside = let a = row-range m c i r below in let b = r.len_mem in omega arith;
   }
 
   pub argument-none : count ≤ skip + n → ArguesAt m c i n 0
@@ -167,7 +167,7 @@ module _ (m : List ℕ) (c : Counts) (i n : ℕ) (r : ProgramReady m c) (below :
           ap opnd_of (stands_none m refl)
           ∙ sym (argument_is L s h ∙ get_or-eq_default given (P.Const Empty) (let k = given-length m (opnds_at + 2 * first) count in omega arith));
     };
-    inside = let b = r.len-mem in omega arith;
+    inside = let b = r.len_mem in omega arith;
   }
 
 pub fits-inside : (z : Sizes) (r : Opnd) → FitsAt z.insns (opnd_of r) → OperandInside z r
@@ -269,7 +269,7 @@ param_is L p i n s e =
 
 pub kinds_of_lem : (s : State) (l : List P.Opnd) → map (kind_in s.kinds) l ≡ map (kind_of s) l
 kinds_of_lem s [] = refl
-kinds_of_lem s (o ∷ l) = rw (kind_of s o, kinds_of_lem s l)
+kinds_of_lem s (o ∷ l) = rw (kind_of_lem s o, kinds_of_lem s l)
 
 finish-same : (ks : List Kind) (n a : ℕ) (t : Rattle.flows.specs.Tally.Tally) → finish [] n a t ≡ finish ks n a t
 finish-same ks n a Nothing = refl

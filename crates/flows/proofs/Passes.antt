@@ -2,20 +2,19 @@
 use mathlib.Core.Bool.{Bool as 𝔹, true, false, not, cond, ◌&&◌, ◌||◌}
 use mathlib.Core.Path.{◌≡◌, refl, sym, ap, ◌∙◌}
 use mathlib.Core.List.{List, [], ◌∷◌}
-use Prim.Native.Nat.{ℕ, ◌<◌, ◌≤◌, min}
+use Prim.Native.Nat.{ℕ, min}
 use native.Mathlib.Omega.{arith}
 use borrow.Author.Tests.{ltb-true, ltb-false}
-use lib.Dec.{eqb, ltb}
+use lib.Dec.{ltb}
 use lib.Bits.{bit_or}
 use Rattle.ids.proofs.Bits.{Either, yes, no, either}
 use Rattle.kinds.specs.declared.Kind.{Kind}
-use Rattle.kinds.specs.declared.Kind.TheVariants.{Empty, Any}
 use Rattle.kinds.specs.declared.Joined.{Joined}
 use Rattle.kinds.specs.declared.Joined.TheVariants.{Of, Refused}
 use Rattle.kinds.specs.Kinds.{same_kind, is_empty, is_any, is_name, is_number, is_truth}
-use Rattle.kinds.specs.Union.{set_of, wide, is_alone, mix_of, lub, clash, union_of, join_of}
+use Rattle.kinds.specs.Union.{set_of, wide, is_alone, mix_of, lub, union_of, join_of}
 use Rattle.kinds.proofs.Lub.{lub_comm, lub_assoc, lub_idem, lub_mix, lub-full}
-use Rattle.kinds.proofs.Laws.{union-yes, union_no, union_comm, union-plain, lub-plain}
+use Rattle.kinds.proofs.Laws.{union_no, union_comm, union-plain, lub-plain}
 use Rattle.rules.specs.Program.{Opnd, Const, Insn, same_opnd, opnd_before}
 use Rattle.rules.specs.Machine.{insert_opnd, opnd_set}
 use Rattle.machine.specs.opnds.Reads.{kind_in}

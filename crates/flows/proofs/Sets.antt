@@ -2,10 +2,9 @@
 use mathlib.Core.Bool.{Bool as 𝔹, true, false, cond, ◌||◌, or_self as or-self𝔹, or-false}
 use mathlib.Core.Path.{◌≡◌, refl, sym, ap, ◌∙◌}
 use mathlib.Core.List.{List, [], ◌∷◌, map}
-use Prim.Native.Nat.{ℕ, ◌<◌, ◌≤◌}
+use Prim.Native.Nat.{ℕ, ◌<◌}
 use native.Mathlib.Omega.{arith}
 use borrow.Author.Tests.{lt-ltb, le-ltb}
-use lib.Dec.{ltb}
 use lib.Bits.{bit_or, or_zero_l, or_zero_r, or_comm, or_self}
 use Rattle.ids.proofs.Bits.{or_assoc, Either, yes, no, either}
 use Rattle.kinds.specs.declared.Kind.{Kind}
@@ -19,11 +18,11 @@ use Rattle.kinds.proofs.Laws.{union-plain, union-sets, lub-plain}
 use Rattle.kinds.proofs.Steps.{empty_is}
 use Rattle.rules.specs.Program.{Opnd, Const, Insn, same_opnd}
 use Rattle.rules.specs.Machine.{opnd_set}
-use Rattle.rules.proofs.Wellformed.Tests.{or-false as or_parts}
+use Rattle.rules.proofs.Wellformed.Tests.{or_false_lem as or_parts}
 use Rattle.machine.specs.opnds.Reads.{kind_in}
 use Rattle.flows.specs.declared.AsSet.{AsSet}
 use Rattle.flows.specs.declared.AsSet.TheVariants.{Set, Other}
-use Rattle.flows.specs.Tally.{Tally, Nothing, One, Many, lower, least, before, add, take, taken_all, close, finish, union_over, FitsAt, TallyFits}
+use Rattle.flows.specs.Tally.{Tally, Nothing, One, Many, lower, least, before, add, take, taken_all, close, union_over, FitsAt, TallyFits}
 use Rattle.flows.specs.Flows.{as_set, join_sets}
 use Rattle.flows.proofs.Order.{same-is}
 use Rattle.flows.proofs.Whole.{union-over, take_empty}

@@ -1,11 +1,11 @@
 -- What pass_callers relies on follows from a finished program whose callers are calls. Assumes nothing.
 use mathlib.Core.Bool.{Bool as 𝔹, true, false, ◌&&◌}
 use mathlib.Core.Path.{◌≡◌, refl, sym, subst}
-use mathlib.Core.List.{List, [], ◌∷◌, ◌++◌}
+use mathlib.Core.List.{List, [], ◌∷◌}
 use Prim.Native.Nat.{ℕ, zero, suc, ◌≤◌, ◌<◌}
 use native.Mathlib.Omega.{arith}
 use borrow.Author.Tests.{ltb-true, ltb-false, leb-true, ne_eqb}
-use lib.Dec.{eqb, ltb, leb}
+use lib.Dec.{ltb, leb}
 use lib.ListN.{length, get_or, get_or-eq_default}
 use Rattle.ids.proofs.Bits.{Either, yes, no, either}
 use Rattle.kinds.specs.declared.Kind.{Kind}
@@ -13,7 +13,7 @@ use Rattle.kinds.specs.declared.Kind.TheVariants.{Empty}
 use Rattle.kinds.specs.Kinds.{tag_of, fits_of, is_any}
 use Rattle.rules.specs.Lists.{has, all, to_list}
 use Rattle.rules.specs.Values.{function_in, class_in}
-use Rattle.rules.specs.Program.{Limits, Opnd, Const, Insn, Callee, Static, Dynamic, Terminator, Op, Ends, Send, Compute, Phi, Param, SelfParam, New, GetIvar, SetIvar, Program, Instruction, about}
+use Rattle.rules.specs.Program.{Limits, Opnd, Const, Insn, Static, Dynamic, Op, Ends, Send, Compute, Phi, Param, SelfParam, New, GetIvar, SetIvar, Program, Instruction, about}
 use Rattle.rules.specs.Program.{op_of, block_of, function_of}
 use Rattle.rules.specs.Machine.{marked}
 use Rattle.rules.specs.Finished.{Finished, is_function, is_class, good_constant, good_opnd, good_op, good_instruction}

@@ -1,5 +1,5 @@
 -- The steps of a pass, over the code's tallies. Assumes nothing.
-use mathlib.Core.Bool.{Bool as 𝔹, true, false, not, cond, ◌&&◌}
+use mathlib.Core.Bool.{Bool as 𝔹, true, false, cond, ◌&&◌}
 use mathlib.Core.Path.{◌≡◌, refl, sym, ap, ◌∙◌}
 use mathlib.Core.List.{List, [], ◌∷◌, ◌++◌}
 use Prim.Native.Nat.{ℕ, ◌≤◌, ◌<◌}
@@ -16,13 +16,13 @@ use Rattle.kinds.specs.Union.{union_of, join_of}
 use Rattle.rules.specs.Program as P
 use Rattle.rules.specs.Program.{same_opnd}
 use Rattle.program.specs.declared.Opnd.{Opnd}
-use Rattle.program.specs.declared.Opnd.TheVariants.{Const, Insn}
+use Rattle.program.specs.declared.Opnd.TheVariants.{Insn}
 use Rattle.program.specs.Rows.{opnd_of}
 use Rattle.machine.specs.opnds.Reads.{kind_in}
 use Rattle.flows.specs.declared.Tally.{Tally as Told}
 use Rattle.flows.specs.declared.Tally.TheVariants.{Nothing as None, One as Single, Many as Several}
 use Rattle.flows.specs.declared.Pass.{Pass}
-use Rattle.flows.specs.Tally.{Tally, Nothing, One, Many, lower, least, before, solid, add, take, taken_all, close, finish}
+use Rattle.flows.specs.Tally.{Tally, One, Many, lower, least, before, solid, add, take, taken_all, close, finish}
 use Rattle.flows.specs.Flows.{tally_of, TallyAdds, Passed}
 
 pub before_insn : (a : ℕ) {o : Opnd} (i : InsnId) → o ≡ Insn i → ltb i.0 a ≡ before [] a (opnd_of o)

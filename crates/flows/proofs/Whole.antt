@@ -1,10 +1,10 @@
 -- The two passes come to the union of the set of the operands in the reference's order. Assumes nothing.
-use mathlib.Core.Bool.{Bool as 𝔹, true, false, not, cond, ◌&&◌}
+use mathlib.Core.Bool.{Bool as 𝔹, true, false, cond, ◌&&◌}
 use mathlib.Core.Path.{◌≡◌, refl, sym, ap, ◌∙◌}
 use mathlib.Core.List.{List, [], ◌∷◌, map}
-use Prim.Native.Nat.{ℕ, ◌<◌, ◌≤◌}
+use Prim.Native.Nat.{ℕ, ◌<◌}
 use native.Mathlib.Omega.{arith}
-use borrow.Author.Tests.{lt-ltb, le-ltb, ltb-true, ltb-false}
+use borrow.Author.Tests.{lt-ltb, le-ltb, ltb-true}
 use lib.Dec.{ltb}
 use Rattle.ids.proofs.Bits.{Either, yes, no, either}
 use Rattle.kinds.specs.declared.Kind.{Kind}
@@ -12,7 +12,7 @@ use Rattle.kinds.specs.declared.Kind.TheVariants.{Empty, Any}
 use Rattle.kinds.specs.declared.Joined.{Joined}
 use Rattle.kinds.specs.declared.Joined.TheVariants.{Of, Refused}
 use Rattle.kinds.specs.Kinds.{is_empty, is_any}
-use Rattle.kinds.specs.Union.{union_of, and_then, join_of, union_all}
+use Rattle.kinds.specs.Union.{and_then, join_of, union_all}
 use Rattle.kinds.proofs.Laws.{union-any_r, union_empty_l, union_empty_r, all_cons, all_any}
 use Rattle.kinds.proofs.Steps.{any-is, empty_is}
 use Rattle.rules.specs.Program.{Opnd, Const, Insn, same_opnd, opnd_before}
@@ -145,7 +145,9 @@ module _ (ks : List Kind) where
 
     both-more : (t : Tally) (o : Opnd) (l : List Opnd) (s : Tally) → lower ks n o ≡ n → take ks (least ks n l) t o ≡ s → both t (o ∷ l) ≡ both s l
     unfolding least taken_all
-    both-more t o l s e h = rw e (ap (λ (x : Tally). finish ks n (least ks n l) (taken_all ks (least ks n l) x l)) h)
+    both-more t o l s e h =
+        ap (λ (a : ℕ). finish ks n (least ks a l) (taken_all ks (least ks a l) (take ks (least ks a l) t o) l)) e
+        ∙ ap (λ (x : Tally). finish ks n (least ks n l) (taken_all ks (least ks n l) x l)) h
 
     lower-none : (o : Opnd) → is_any (kind o) ≡ false → lower ks n o ≡ n
     lower-none (Const k) h = refl
@@ -160,7 +162,11 @@ module _ (ks : List Kind) where
     both-any t (Const k) l f g h = let z = f.0 in cc
     both-any t (Insn i) l f g h =
         let e : lower ks n (Insn i) ≡ i = rw (h, lt-ltb i n f.0) in
-        rw (e, least-same i l g, take_past i t (Insn i) (le-ltb i i (omega arith)), take_all-past i t l g, lt-ltb i n f.0)
+        ap (λ (a : ℕ). finish ks n (least ks a l) (taken_all ks (least ks a l) (take ks (least ks a l) t (Insn i)) l)) e
+        ∙ ap (λ (a : ℕ). finish ks n a (taken_all ks a (take ks a t (Insn i)) l)) (least-same i l g)
+        ∙ ap (λ (x : Tally). finish ks n i (taken_all ks i x l)) (take_past i t (Insn i) (le-ltb i i (omega arith)))
+        ∙ ap (λ (x : Tally). finish ks n i x) (take_all-past i t l g)
+        ∙ rw (lt-ltb i n f.0)
 
     both_is : (l : List Opnd) (t : Tally) → Rises l → TallyFits n l → Past t l → both t l ≡ rest t l
     unfolding least taken_all union_all

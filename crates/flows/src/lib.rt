@@ -357,7 +357,7 @@ fn param_by_passes(
     requires state_held { StateHeld sizes state.now }
     requires flows_known { FlowsKnown program.now counts sizes (called_of sizes state.now) }
     requires f_lt_functions { f.0 < sizes.functions }
-    ensures { (i : ℕ) → StateReads sizes (ParamIs program.entry.now counts sizes (called_of sizes state.now) i f.0 n)
+    ensures { (i : ℕ) → StateReads sizes (ParamIs program.now counts sizes (called_of sizes state.now) i f.0 n)
         (λ L program. rule L program i (Param n)) state.now result }
 {
     let first = pass_callers(
@@ -407,7 +407,7 @@ pub fn param(
     requires state_held { StateHeld sizes state.now }
     requires flows_known { FlowsKnown program.now counts sizes (called_of sizes state.now) }
     requires f_lt_functions { f.0 < sizes.functions }
-    ensures { (i : ℕ) → StateReads sizes (ParamIs program.entry.now counts sizes (called_of sizes state.now) i f.0 n)
+    ensures { (i : ℕ) → StateReads sizes (ParamIs program.now counts sizes (called_of sizes state.now) i f.0 n)
         (λ L program. rule L program i (Param n)) state.now result }
 {
     match join_sets(program, counts, state, sizes, f, n) {

@@ -219,7 +219,7 @@ fn kind_by_passes(
     requires state_held { StateHeld sizes state.now }
     requires backs { Backs program.now counts sizes chains.now }
     requires i_lt_insns { (i.0 < sizes.insns) × (first.0 + n ≤ sizes.functions) }
-    ensures { StateReads sizes (BackIn program.entry.now counts sizes (called_of sizes state.now) i.0 first.0 n)
+    ensures { StateReads sizes (BackIn program.now counts sizes (called_of sizes state.now) i.0 first.0 n)
         (λ L program. call_kind L program i.0) state.now result }
 {
     let once = pass_called(
@@ -275,7 +275,7 @@ pub fn call_kind(
     requires state_held { StateHeld sizes state.now }
     requires backs { Backs program.now counts sizes chains.now }
     requires i_lt_insns { (i.0 < sizes.insns) × (first.0 + n ≤ sizes.functions) }
-    ensures { StateReads sizes (BackIn program.entry.now counts sizes (called_of sizes state.now) i.0 first.0 n)
+    ensures { StateReads sizes (BackIn program.now counts sizes (called_of sizes state.now) i.0 first.0 n)
         (λ L program. call_kind L program i.0) state.now result }
 {
     let s = join_called(program, counts, chains, state, sizes, i, first, n);

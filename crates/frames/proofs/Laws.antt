@@ -9,7 +9,7 @@ use lib.ListN.{length, get_or, set, take, drop, length-set, length-append, take-
 use lib.Seq.{take_all, take_at, drop_at, drop-cons, drop-drop, set_at, set_split, take-set-le, length-take-le}
 use borrow.Author.Tests.{lt-ltb, le-ltb}
 use Rattle.rules.specs.Lists.{concat}
-use Rattle.rules.specs.Frames.{digit_of, digits, field, line}
+use Rattle.rules.specs.Frames.{digit_of, digits, field}
 use Rattle.memory.specs.Memory.{over}
 use Rattle.frames.specs.Text.{fields_of, line_of, room_for, Wrote}
 
@@ -49,11 +49,11 @@ over_last at t d x h =
 -- at its loop's head: what is written now, with the digits that are left, is what is to be written
 pub record Putting (n k at : ℕ) (d out : List ℕ) (rest left : ℕ) : Type 0 where
   pub room : at + left ≤ length d
-  pub len-same : length out ≡ length d
+  pub len_same : length out ≡ length d
   pub is : over at (digits left rest []) out ≡ over at (digits k n []) d
 
 pub putting_start : (n k at : ℕ) (d : List ℕ) → at + k ≤ length d → Putting n k at d d n k
-putting_start n k at d h = record { room = h; len-same = refl; is = refl }
+putting_start n k at d h = record { room = h; len_same = refl; is = refl }
 
 module _ {n k at : ℕ} {d out : List ℕ} {rest left : ℕ} (g : Putting n k at d out rest left) where
   pub putting_more : {x : ℕ} → x ≡ digit_of (rest % 16) → 0 < left → Putting n k at d (set out (at + (left - 1)) x) (rest / 16) (left - 1)
@@ -66,8 +66,8 @@ module _ {n k at : ℕ} {d out : List ℕ} {rest left : ℕ} (g : Putting n k at
       ap (λ (z : ℕ). digits z rest []) s ∙ rw e (digits-front m (rest / 16) (digit_of (rest % 16) ∷ [])) in
       record {
         room = omega (arith, g.room);
-        len-same = length-set out (at + m) x ∙ g.len-same;
-        is = rw l at (over_last at t out x (rw l (omega (arith, g.room, g.len-same)))) ∙ rw (← f) g.is;
+        len_same = length-set out (at + m) x ∙ g.len_same;
+        is = rw l at (over_last at t out x (rw l (omega (arith, g.room, g.len_same)))) ∙ rw (← f) g.is;
       }
 
   pub putting_done : left ≤ 0 → out ≡ over at (digits k n []) d
@@ -102,13 +102,13 @@ pub record Writing (ws ns d out : List ℕ) (i at : ℕ) : Type 0 where
   pub same : length ws ≡ length ns
   pub in_range : i ≤ length ws
   pub room : at + room_for (drop i ws) ≤ length d
-  pub before-end : at < length d
-  pub len-same : length out ≡ length d
+  pub before_end : at < length d
+  pub len_same : length out ≡ length d
   pub text : length (concat (fields_of (take i ws) (take i ns))) ≡ at
   pub is : out ≡ concat (fields_of (take i ws) (take i ns)) ++ drop at d
 
 pub writing_start : (ws ns d : List ℕ) → length ws ≡ length ns → room_for ws ≤ length d → Writing ws ns d d 0 0
-writing_start ws ns d e h = record { same = e; in_range = omega arith; room = omega arith; before-end = omega (arith, room-pos ws); len-same = refl; text = refl; is = refl }
+writing_start ws ns d e h = record { same = e; in_range = omega arith; room = omega arith; before_end = omega (arith, room-pos ws); len_same = refl; text = refl; is = refl }
 
 module _ {ws ns d out : List ℕ} {i at : ℕ} (g : Writing ws ns d out i at) where
   -- the room that the number i takes
@@ -116,7 +116,7 @@ module _ {ws ns d out : List ℕ} {i at : ℕ} (g : Writing ws ns d out i at) wh
   writing_room lt = rw (add-one) (rw (drop-cons ws i 0 lt) at g.room)
 
   pub writing_fits : i < length ws → at + 2 * get_or ws i 0 ≤ length out
-  writing_fits lt = omega (arith, writing_room lt, g.len-same)
+  writing_fits lt = omega (arith, writing_room lt, g.len_same)
 
   pub writing_more : {out' : List ℕ} → out' ≡ over at (digits (2 * get_or ws i 0) (get_or ns i 0) []) out → length out' ≡ length out → i < length ws
       → Writing ws ns d out' (i + 1) (at + 2 * get_or ws i 0)
@@ -133,8 +133,8 @@ module _ {ws ns d out : List ℕ} {i at : ℕ} (g : Writing ws ns d out i at) wh
         same = g.same;
         in_range = omega arith;
         room = omega (arith, writing_room lt);
-        before-end = omega (arith, writing_room lt, room-pos (drop (i + 1) ws));
-        len-same = l ∙ g.len-same;
+        before_end = omega (arith, writing_room lt, room-pos (drop (i + 1) ws));
+        len_same = l ∙ g.len_same;
         text = rw (f, length-append, k, g.text);
         is = rw f o;
       }
@@ -148,9 +148,9 @@ module _ {ws ns d out : List ℕ} {i at : ℕ} (g : Writing ws ns d out i at) wh
       let l : length t ≡ at = rw (x, y) at g.text in
       let o : out ≡ t ++ drop at d = rw (x, y) at g.is in
       let s : length (t ++ 10 ∷ []) ≡ at + 1 = rw length-append (omega arith) in
-      let h : at + 1 ≤ length (set out at 10) = rw length-set (omega (arith, g.len-same, g.before-end)) in
+      let h : at + 1 ≤ length (set out at 10) = rw length-set (omega (arith, g.len_same, g.before_end)) in
       record {
-        is = rw (s, o, add-one, drop-cons d at 0 g.before-end, append_assoc t (10 ∷ []) (drop (suc at) d))
+        is = rw (s, o, add-one, drop-cons d at 0 g.before_end, append_assoc t (10 ∷ []) (drop (suc at) d))
             (set_at t (get_or d at 0) (drop (suc at) d) 10 at l);
         len = sym s;
         fits = h;

@@ -247,7 +247,7 @@ put_tail at d u =
 -- at the loop's head: what stands, with what is left, is the whole
 pub record Filling (a : List ℕ) (from : NextFrame) (d out : List ℕ) (c : NextFrame) (at : ℕ) : Type 0 where
   pub wide : line_most ≤ length d
-  pub len-same : length out ≡ length d
+  pub len_same : length out ≡ length d
   pub room : at ≤ length d
   pub text : rest_of a from ≡ take at out ++ rest_of a c
   pub kept : drop at out ≡ drop at d
@@ -255,7 +255,7 @@ pub record Filling (a : List ℕ) (from : NextFrame) (d out : List ℕ) (c : Nex
   pub first : left_of c ≡ left_of from → at ≡ 0
 
 pub filling_start : (a d : List ℕ) (from : NextFrame) → line_most ≤ length d → Filling a from d d from 0
-filling_start a d from h = record { wide = h; len-same = refl; room = omega arith; text = refl; kept = refl; falls = omega arith; first = λ e. refl }
+filling_start a d from h = record { wide = h; len_same = refl; room = omega arith; text = refl; kept = refl; falls = omega arith; first = λ e. refl }
 
 module _ {a : List ℕ} {from : NextFrame} {d out : List ℕ} {c : NextFrame} {at : ℕ} (g : Filling a from d out c at) where
   pub filling_less : {b : 𝔹} {u u' : List ℕ} {c' : NextFrame} {n : ℕ} → b ≡ more_of c → b ≡ true → Piece a c u c' n u' → left_of c' < left_of c
@@ -265,7 +265,7 @@ module _ {a : List ℕ} {from : NextFrame} {d out : List ℕ} {c : NextFrame} {a
       → length u ≡ length (mid_of at (length out - at) out) → Filling a from d (put_mid at (length out - at) out u) c' (at + n)
   filling_more {b} {u} {c'} {n} e t p l =
       let less : left_of c' < left_of c = filling_less e t p in
-      let le : at ≤ length out = omega (arith, g.room, g.len-same) in
+      let le : at ≤ length out = omega (arith, g.room, g.len_same) in
       let k : length (take at out) ≡ at = length-take-le at out le in
       let m : length u ≡ length out - at = l ∙ rw (tail_is at out) (length-drop at out) in
       let x : take (at + n) (take at out ++ u) ≡ take at out ++ take n u =
@@ -276,8 +276,8 @@ module _ {a : List ℕ} {from : NextFrame} {d out : List ℕ} {c : NextFrame} {a
       rw (put_tail at out u)
       (record {
         wide = g.wide;
-        len-same = rw (length-append, k, m) (omega (arith, g.len-same));
-        room = omega (arith, p.fits, g.len-same);
+        len_same = rw (length-append, k, m) (omega (arith, g.len_same));
+        room = omega (arith, p.fits, g.len_same);
         text = g.text ∙ rw (p.text, x, append_assoc);
         kept = y ∙ z;
         falls = omega (arith, g.falls);
@@ -286,13 +286,13 @@ module _ {a : List ℕ} {from : NextFrame} {d out : List ℕ} {c : NextFrame} {a
 
   filled : (more_of from ≡ true → left_of c < left_of from) → Piece a from d c at out
   filled on =
-      let h : at ≤ length out = omega (arith, g.room, g.len-same) in
+      let h : at ≤ length out = omega (arith, g.room, g.len_same) in
       record { text = g.text; kept = g.kept; fits = h; count = sym (length-take-le at out h); onward = on }
 
   pub filling_full : length out - at < line_most → Piece a from d c at out
   filling_full full =
       filled (λ _. elim (ℕ_discrete (left_of c) (left_of from)) [
-        | yes e ↦ absurd (omega (arith, g.first e, g.wide, g.len-same))
+        | yes e ↦ absurd (omega (arith, g.first e, g.wide, g.len_same))
         | no e ↦ omega (arith, g.falls, e)
       ])
 

@@ -2,19 +2,17 @@
 use mathlib.Core.Bool.{false}
 use mathlib.Core.Path.{◌≡◌, refl, sym, ap, ◌∙◌}
 use mathlib.Core.List.{List, []}
-use mathlib.Core.Option.{none}
-use Prim.Native.Nat.{ℕ, ◌+◌, ◌*◌, ◌≤◌, ◌<◌}
+use Prim.Native.Nat.{ℕ, ◌+◌, ◌≤◌, ◌<◌}
 use native.Mathlib.Omega.{arith}
-use lib.ListN.{length, get_or}
+use lib.ListN.{length}
 use Rattle.ids.specs.declared.BlockId.{BlockId}
 use Rattle.ids.specs.declared.FunId.{FunId}
-use Rattle.rules.specs.Actions.{Answer, answered, refused, if_answered, loop}
+use Rattle.rules.specs.Actions.{answered, loop}
 use Rattle.rules.specs.Program as P
 use Rattle.rules.specs.Reading as R
 use Rattle.rules.specs.Reading.{Parser, push_params, parse_param, turns, parse_statements, parse_statement, end_block, new_fun, parse_fun}
 use Rattle.variables.specs.Scopes.{over}
-use Rattle.variables.specs.Memory.{made, vars}
-use Rattle.variables.specs.Rooms.{VariablesRoom}
+use Rattle.variables.specs.Memory.{made}
 use Rattle.program.specs.Rows.{opnd_of, name_in}
 use Rattle.program.specs.View as View
 use Rattle.program.specs.declared.Given.TheVariants.{One}
@@ -22,25 +20,22 @@ use Rattle.program.specs.declared.Limits.{Limits}
 use Rattle.program.specs.declared.Name.{Name}
 use Rattle.program.specs.declared.Op.TheVariants.{Return}
 use Rattle.program.specs.declared.Opnd.{Opnd}
-use Rattle.cursor.specs.Cursor.{parser_of, move_cur, stack_cur, CursorReady, In, CursorStep}
-use Rattle.cursor.specs.Promises.{Out, done, stop, outcome, CursorDid, Idents, Expects, ident_of, parsed_of, moved_of}
+use Rattle.cursor.specs.Cursor.{parser_of, move_cur, stack_cur, CursorReady, In}
+use Rattle.cursor.specs.Promises.{outcome, CursorDid, Idents, Expects, parsed_of, moved_of}
 use Rattle.cursor.specs.declared.Cursor.{Cursor}
 use Rattle.cursor.specs.declared.Ident.{Ident}
-use Rattle.cursor.specs.declared.Ident.TheVariants as Ident
 use Rattle.cursor.specs.declared.Moved.{Moved}
 use Rattle.cursor.specs.declared.Moved.TheVariants.{On, Refused}
 use Rattle.cursor.specs.declared.Parsed.{Parsed}
-use Rattle.cursor.specs.declared.Parsed.TheVariants as Parsed
 use Rattle.cursor.specs.declared.SelfAt.TheVariants.{Nobody}
-use Rattle.cursor.proofs.Laws.{Acted, got, gave, moved-did, added_did, step_trans, step_less, ident_on, ident_is}
+use Rattle.cursor.proofs.Laws.{Acted, got, gave, moved-did, added_did, step_trans, ident_on, ident_is}
 use Rattle.cursor.proofs.Wording.{spelt_end, spelt_open, spelt_close}
 use Rattle.functions.specs.declared.params.OpenedFun.{OpenedFun}
-use Rattle.functions.specs.declared.params.OpenedFun.TheVariants as OpenedFun
-use Rattle.functions.specs.params.Names.{names_in, Lie}
-use Rattle.functions.specs.params.Promises.{receive_cur, ParamsFilled, Bound, PushesParams, PushesSelf, Received, Head, Params, Named, Funs, Entered, funned_of}
+use Rattle.functions.specs.params.Names.{names_in}
+use Rattle.functions.specs.params.Promises.{receive_cur, ParamsFilled, PushesParams, PushesSelf, Received, Head, Params, Named, Funs, Entered, funned_of}
 use Rattle.statements.specs.Acts.{stops_at}
 use Rattle.statements.specs.Shape.{EndsBlock}
-use Rattle.functions.specs.Bodies.{clear_cur, head_of, body_of, fun_of, Headed, Heads, Rests, Onto, RestsIf, Takes, BodyBegun}
+use Rattle.functions.specs.Bodies.{clear_cur, head_of, body_of, fun_of, Headed, Heads, Rests, Takes, BodyBegun}
 use Rattle.functions.proofs.Funs.{fun_is}
 
 -- ---- open_body
@@ -176,9 +171,9 @@ module _ {s m w : List ℕ} {c : Cursor} (g : BodyBegun s m w c) where
               unfolding body_of
               body_no4 k = record { is = let h = rw o at (a.is s) in rw (← h, ← stated.is, ← shut.is, ← gave expected (ap moved_of k)); ok = tt }
 
-              pub body-yes : {c4 c5 : Cursor} → t ≡ On c4 → c5 ≡ receive_cur Nobody c4 → Takes (body_of (View.limits_of l) s (names_in s w c.args)) 1 s m w c m3 w2 (moved_of (On c5))
+              pub body_yes : {c4 c5 : Cursor} → t ≡ On c4 → c5 ≡ receive_cur Nobody c4 → Takes (body_of (View.limits_of l) s (names_in s w c.args)) 1 s m w c m3 w2 (moved_of (On c5))
               unfolding body_of parser_of
-              body-yes {c4} {c5} k r =
+              body_yes {c4} {c5} k r =
                   let e = got expected (ap moved_of k) in
                   let st = step_trans (step_trans stated.step shut.step) e.step in
                   let q = e.here.ready in

@@ -1,5 +1,5 @@
 -- Functions: what their readers rely on and promise. Assumes nothing.
-use Rattle.std.specs.Prelude.{false, ◌≡◌, List, [], ℕ, ◌+◌, ◌*◌, ◌≤◌, ◌<◌, length}
+use Rattle.std.specs.Prelude.{false, ◌≡◌, List, [], ℕ, ◌+◌, ◌≤◌, ◌<◌, length}
 use Rattle.std.proofs.Math.Option.{none}
 use Rattle.rules.specs.Actions.{◌>>=◌, ◌>>◌, give, change, loop}
 use Rattle.rules.specs.Program as P
@@ -13,7 +13,6 @@ use Rattle.cursor.specs.declared.Moved.{Moved}
 use Rattle.cursor.specs.declared.Moved.TheVariants.{On, Refused}
 use Rattle.variables.specs.Layout.{bindings_most}
 use Rattle.functions.specs.declared.params.OpenedFun.{OpenedFun}
-use Rattle.functions.specs.declared.params.OpenedFun.TheVariants as OpenedFun
 use Rattle.functions.specs.params.Names.{names_in, Lie}
 use Rattle.functions.specs.params.Promises.{funned_of}
 use Rattle.statements.specs.Acts.{stops_at}

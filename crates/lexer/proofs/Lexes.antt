@@ -17,7 +17,6 @@ use Rattle.lexer.specs.declared.Word.{Word}
 use Rattle.lexer.specs.declared.Lexed.{Lexed}
 use Rattle.lexer.specs.declared.Lexed.TheVariants.{Found, Refused}
 use Rattle.lexer.specs.declared.Glimpse.{Glimpse}
-use Rattle.lexer.specs.declared.Glimpse.TheVariants as Glimpse
 use Rattle.lexer.specs.declared.Number.{Number}
 use Rattle.lexer.specs.declared.Number.TheVariants.{Of, Over}
 use Rattle.lexer.proofs.Names.{by_test, name-none}

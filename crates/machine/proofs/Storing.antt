@@ -1,6 +1,6 @@
 -- A kind stored: the users' blocks are read from the program's rows, the users from the answer's memory. Assumes nothing.
 use mathlib.Core.Bool.{Bool as 𝔹, true, false}
-use mathlib.Core.Path.{◌≡◌, refl, sym, ap, ◌∙◌, subst}
+use mathlib.Core.Path.{◌≡◌, sym, ap, ◌∙◌, subst}
 use mathlib.Core.List.{List, [], ◌∷◌}
 use Prim.Native.Nat.{ℕ, zero, suc, ◌+◌, ◌-◌, ◌≤◌, ◌<◌}
 use native.Mathlib.Omega.{arith}
@@ -16,7 +16,6 @@ use Rattle.rules.specs.Lists.{cons_if, places_from}
 use Rattle.rules.specs.Program.{Program, Instruction}
 use Rattle.rules.specs.Uses.{uses}
 use Rattle.rules.specs.Machine.{set_kind, store}
-use Rattle.program.specs.Tab.{tab}
 use Rattle.program.specs.Rows.{insn_at, instruction_at}
 use Rattle.program.specs.View.{program_view, instructions_of, ProgramReady, ReadsInsn}
 use Rattle.program.specs.declared.Counts.{Counts}

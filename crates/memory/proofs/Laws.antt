@@ -5,7 +5,7 @@ use mathlib.Core.List.{List, [], ◌∷◌, ◌++◌, append_assoc, append-nil}
 use native.Mathlib.Decide.{ℕ_discrete, dec_lt}
 use native.Mathlib.Omega.{arith}
 use lib.ListN.{length, get_or, set, take, drop, length-set, length-replicate, length-append, length-take, length-drop, replicate-append-replicate, take-append-drop, get_or-append}
-use lib.Seq.{get_or-set_same, get_or-set_other, take_all, take_at, drop_at, drop-drop, drop-length, get_or-drop, get_or-take, get_or-append-add, length-take-le, ext_get_or}
+use lib.Seq.{get_or-set_same, get_or-set_other, take_all, take_at, drop_at, drop-length, get_or-drop, get_or-take, get_or-append-add, length-take-le, ext_get_or}
 use borrow.Author.Fill.{fill_none, fill_more}
 use Rattle.memory.specs.Memory.{zeros, Blank, over, filled}
 

@@ -31,7 +31,6 @@ use Rattle.cursor.specs.declared.Moved.TheVariants.{On, Refused}
 use Rattle.cursor.proofs.Wording.{is-yes, is_no, word_read, next-none}
 use Rattle.functions.specs.params.Promises.{funned_of}
 use Rattle.functions.specs.declared.params.OpenedFun.{OpenedFun}
-use Rattle.functions.specs.declared.params.OpenedFun.TheVariants as OpenedFun
 use Rattle.functions.specs.Bodies.{Rests, Takes, Taken}
 use Rattle.memory.specs.Layout.{script_most}
 use Rattle.cursor.specs.Layout.{scratch_size}

@@ -92,7 +92,7 @@ store_insn {i = i} e f = record { is = rw (mod-eq_of_lt f.fits, e); small = omeg
 -- ---- variables
 
 pub sets : {n a k : ℕ} {o : Opnd} {r : Stored} {m m' : List ℕ} → IsStored o r → VariableBinds n a k r.tag r.bits m m' → PhisSets n a k o m m'
-sets i b = record { len-same = b.len-same; is = λ s. b.is s ∙ rw i.is; old = b.old; aside = b.aside }
+sets i b = record { len_same = b.len_same; is = λ s. b.is s ∙ rw i.is; old = b.old; aside = b.aside }
 
 module _ {s m : List ℕ} {n : ℕ} {k : Name} {r : FoundVar} (g : E.VariableFinds s m n k r) where
   pub get_at : {o : Stored} {v : Opnd} → r ≡ F.At o → opnd_of v ≡ E.opnd_of o → PhisFinds s m n k (At v)
@@ -150,7 +150,7 @@ module _ (l : Limits) (q : Blocks) (n : ℕ) (x : Joint) (m p : List ℕ) (c : C
   one_bound {o} {d} {r} {m'} e i b =
       let ok = rw e at g.ready in
       record {
-        len-same = b.len-same;
+        len_same = b.len_same;
         is = λ s z h. rw (b.is s, i.is, ← ev, ← ew, ← g.is s (with_env (vars s m n) z) h, e);
         old = b.old;
         aside = b.aside;
@@ -160,7 +160,7 @@ module _ (l : Limits) (q : Blocks) (n : ℕ) (x : Joint) (m p : List ℕ) (c : C
   pub one_refused : {k : ℕ} → y ≡ NewPhi.TheVariants.Refused k → One l q n x m p c m p' (JoinedVars.TheVariants.Refused k)
   unfolding join_one
   one_refused e = record {
-    len-same = refl;
+    len_same = refl;
     is = λ s z h. rw (← ev, ← ew, ← g.is s (with_env (vars s m n) z) h, e);
     old = kept-all 0 n m;
     aside = kept-all bindings_most entries_most m;
@@ -171,7 +171,7 @@ module _ (l : Limits) (q : Blocks) (n : ℕ) (x : Joint) (m p : List ℕ) (c : C
 
 pub record Joining (s : List ℕ) (l : Limits) (q : Blocks) (base : ℕ) (x : Sides) (m₀ p₀ t : List ℕ) (c : Counts) (m p : List ℕ) (n : ℕ) (d : Counts) (lo ln hi rn : ℕ) : Type 0 where
   pub big : variables_size ≤ length m
-  pub len-same : length m ≡ length m₀
+  pub len_same : length m ≡ length m₀
   pub len_prog : length p ≡ length p₀
   pub low : Kept 0 base m₀ m
   pub aside : Kept bindings_most entries_most m₀ m
@@ -180,9 +180,9 @@ pub record Joining (s : List ℕ) (l : Limits) (q : Blocks) (base : ℕ) (x : Si
   pub old : base ≤ n
   pub room : n + (ln + rn) ≤ base + (x.ln + x.rn)
   pub most : base + (x.ln + x.rn) ≤ bindings_most
-  pub left-low : bindings_most ≤ lo
+  pub left_low : bindings_most ≤ lo
   pub left : lo + ln ≤ entries_most
-  pub right-low : bindings_most ≤ hi
+  pub right_low : bindings_most ≤ hi
   pub right : hi + rn ≤ entries_most
   pub sorted_left : Sorted (row s m₀ lo ln)
   pub sorted_right : Sorted (row s m₀ hi rn)
@@ -196,7 +196,7 @@ pub join-start : (s : List ℕ) (l : Limits) (q : Blocks) (base : ℕ) (x : Side
     → Joining s l q base x m p t c m p base c x.lo x.ln x.hi x.rn
 join-start s l q base x m p t c h ok f o k = record {
   big = h;
-  len-same = refl;
+  len_same = refl;
   len_prog = refl;
   low = kept-all 0 base m;
   aside = kept-all bindings_most entries_most m;
@@ -205,9 +205,9 @@ join-start s l q base x m p t c h ok f o k = record {
   old = omega arith;
   room = omega arith;
   most = f.room;
-  left-low = f.left-low;
+  left_low = f.left_low;
   left = f.left;
-  right-low = f.right-low;
+  right_low = f.right_low;
   right = f.right;
   sorted_left = o.0;
   sorted_right = o.1;
@@ -224,20 +224,20 @@ module _ {s : List ℕ} {l : Limits} {q : Blocks} {base : ℕ} {x : Sides} {m₀
   same_row a k f h = row_kept s m₀ m a k bindings_most entries_most g.aside f h
 
   pub join_sorted : Sorted (row s m lo ln) × Sorted (row s m hi rn)
-  join_sorted = (rw (same_row lo ln g.left-low g.left) g.sorted_left, rw (same_row hi rn g.right-low g.right) g.sorted_right)
+  join_sorted = (rw (same_row lo ln g.left_low g.left) g.sorted_left, rw (same_row hi rn g.right_low g.right) g.sorted_right)
 
   pub join-noted : NotesBoth s m base lo ln hi rn t
   join-noted = record {
-    left = noted-kept m g.low g.aside g.left-low g.left g.noted.left;
-    right = noted-kept m g.low g.aside g.right-low g.right g.noted.right;
+    left = noted-kept m g.low g.aside g.left_low g.left g.noted.left;
+    right = noted-kept m g.low g.aside g.right_low g.right g.noted.right;
   }
 
   pub join-done : {y : NextJoin} → Nexts s m base lo ln hi rn y → y ≡ NextJoin.TheVariants.Done → Rows s l q base x m₀ p₀ c m p (JoinedVars.TheVariants.On n d)
   join-done {y} a e = record {
-    len-same = g.len-same;
+    len_same = g.len_same;
     is = λ r h.
         sym (a.done e (limits_of l) q.left.0 q.right.0 (state s m n p d r))
-        ∙ rw (same_base, same_row lo ln g.left-low g.left, same_row hi rn g.right-low g.right) (g.same r h);
+        ∙ rw (same_base, same_row lo ln g.left_low g.left, same_row hi rn g.right_low g.right) (g.same r h);
     old = g.low;
     aside = g.aside;
     ready = (g.ready, (g.grown, (g.old, omega (arith, g.room))));
@@ -255,16 +255,16 @@ module _ {s : List ℕ} {l : Limits} {q : Blocks} {base : ℕ} {x : Sides} {m₀
         rw (o.is s r h)
         (sym (rw (
           same_base,
-          same_row lo ln g.left-low g.left,
-          same_row hi rn g.right-low g.right,
-          same_row (lo + z.lefts) (ln - z.lefts) (omega (arith, g.left-low)) (omega (arith, g.left, turn.lefts)),
-          same_row (hi + z.rights) (rn - z.rights) (omega (arith, g.right-low)) (omega (arith, g.right, turn.rights)),
+          same_row lo ln g.left_low g.left,
+          same_row hi rn g.right_low g.right,
+          same_row (lo + z.lefts) (ln - z.lefts) (omega (arith, g.left_low)) (omega (arith, g.left, turn.lefts)),
+          same_row (hi + z.rights) (rn - z.rights) (omega (arith, g.right_low)) (omega (arith, g.right, turn.rights)),
         )
         at (turn.is (limits_of l) q.left.0 q.right.0 (state s m n p d r))) ∙ g.same r h)
 
     pub join-stop : {k : ℕ} → j ≡ JoinedVars.TheVariants.Refused k → Rows s l q base x m₀ p₀ c m' p' (JoinedVars.TheVariants.Refused k)
     join-stop {k} i = record {
-      len-same = o.len-same ∙ g.len-same;
+      len_same = o.len_same ∙ g.len_same;
       is = λ r h. rw i at (rest r h);
       old = kept_trans g.low (kept-part 0 n 0 base m m' (omega arith) g.old o.old);
       aside = kept_trans g.aside o.aside;
@@ -276,8 +276,8 @@ module _ {s : List ℕ} {l : Limits} {q : Blocks} {base : ℕ} {x : Sides} {m₀
     join_more {n'} {d'} i len =
         let ok = rw i at o.ready in
         record {
-          big = omega (arith, g.big, o.len-same);
-          len-same = o.len-same ∙ g.len-same;
+          big = omega (arith, g.big, o.len_same);
+          len_same = o.len_same ∙ g.len_same;
           len_prog = len ∙ g.len_prog;
           low = kept_trans g.low (kept-part 0 n 0 base m m' (omega arith) g.old o.old);
           aside = kept_trans g.aside o.aside;
@@ -286,9 +286,9 @@ module _ {s : List ℕ} {l : Limits} {q : Blocks} {base : ℕ} {x : Sides} {m₀
           old = omega (arith, g.old, ok.1.1.0);
           room = omega (arith, g.room, ok.1.1.1, turn.lefts, turn.rights, turn.some);
           most = g.most;
-          left-low = omega (arith, g.left-low);
+          left_low = omega (arith, g.left_low);
           left = omega (arith, g.left, turn.lefts);
-          right-low = omega (arith, g.right-low);
+          right_low = omega (arith, g.right_low);
           right = omega (arith, g.right, turn.rights);
           sorted_left = sorted_rest (row s m₀ lo z.lefts) _ (rw (cut s m₀ lo ln z.lefts turn.lefts) at g.sorted_left);
           sorted_right = sorted_rest (row s m₀ hi z.rights) _ (rw (cut s m₀ hi rn z.rights turn.rights) at g.sorted_right);
@@ -306,9 +306,9 @@ module _ {mark n top ln : ℕ} (f : Arms mark n top ln) where
   module _ {s m m1 : List ℕ} {rn : ℕ} (v : Leaves s mark (n - mark) (top + ln) m m1 rn) where
     pub arms-fit : Fit mark (record { lo = top; ln = ln; hi = top + ln; rn = rn })
     arms-fit = record {
-      left-low = f.low;
+      left_low = f.low;
       left = omega (arith, f.room);
-      right-low = omega (arith, f.low);
+      right_low = omega (arith, f.low);
       right = omega (arith, f.old, f.room, v.less);
       room = omega (arith, f.old, f.low, f.room, v.less);
     }
@@ -330,7 +330,7 @@ module _ {mark n top ln : ℕ} (f : Arms mark n top ln) where
     arms-done {l} {q} {p} {c} {m'} {p'} {j} g =
         let base : vars s m1 mark ≡ vars s m mark = vars-kept s m m1 mark 0 (top + ln) v.low (omega arith) (omega (arith, f.old, f.low, f.room)) in
         record {
-          len-same = g.len-same ∙ v.len-same;
+          len_same = g.len_same ∙ v.len_same;
           is = λ left e r h.
               let all : join_vars (limits_of l) q.left.0 (over left (vars s m mark)) q.right.0 (over (made s m mark (n - mark)) (vars s m mark))
               (all_keys (over left (vars s m mark)) (over (made s m mark (n - mark)) (vars s m mark))) (state s m mark p c r)

@@ -33,7 +33,7 @@ pub record IsStored (o : Opnd) (r : Stored) : Type 0 where
 
 -- the rules' bind, for any script
 pub record PhisSets (n a k : ℕ) (o : Opnd) (m m' : List ℕ) : Type 0 where
-  pub len-same : length m' ≡ length m
+  pub len_same : length m' ≡ length m
   pub is : (s : List ℕ) → vars s m' (n + 1) ≡ bind (name s a k) (opnd_of o) (vars s m n)
   pub old : Kept 0 n m m'
   pub aside : Kept bindings_most entries_most m m'
@@ -81,7 +81,7 @@ JoinReady p c lo hi (JoinedVars.TheVariants.Refused e) = Unit {0}
 
 -- one name
 pub record One (l : Limits) (q : Blocks) (n : ℕ) (x : Joint) (m p : List ℕ) (c : Counts) (m' p' : List ℕ) (j : JoinedVars) : Type 0 where
-  pub len-same : length m' ≡ length m
+  pub len_same : length m' ≡ length m
   pub is : (s : List ℕ) (r : Parser) → r.block ≡ q.at.0
       → joined s m' p' j r ≡ join_one (limits_of l) q.left.0 q.right.0 (name_in s x.word) (E.opnd_of x.left) (E.opnd_of x.right) (state s m n p c r)
   pub old : Kept 0 n m m'
@@ -90,15 +90,15 @@ pub record One (l : Limits) (q : Blocks) (n : ℕ) (x : Joint) (m p : List ℕ) 
 
 -- the rows lie aside, and there is room for what they join to
 pub record Fit (base : ℕ) (x : Sides) : Type 0 where
-  pub left-low : bindings_most ≤ x.lo
+  pub left_low : bindings_most ≤ x.lo
   pub left : x.lo + x.ln ≤ entries_most
-  pub right-low : bindings_most ≤ x.hi
+  pub right_low : bindings_most ≤ x.hi
   pub right : x.hi + x.rn ≤ entries_most
   pub room : base + (x.ln + x.rn) ≤ bindings_most
 
 -- two rows
 pub record Rows (s : List ℕ) (l : Limits) (q : Blocks) (base : ℕ) (x : Sides) (m p : List ℕ) (c : Counts) (m' p' : List ℕ) (j : JoinedVars) : Type 0 where
-  pub len-same : length m' ≡ length m
+  pub len_same : length m' ≡ length m
   pub is : (r : Parser) → r.block ≡ q.at.0
       → joined s m' p' j r ≡ join_rows (limits_of l) q.left.0 q.right.0 (vars s m base) (row s m x.lo x.ln) (row s m x.hi x.rn) (state s m base p c r)
   pub old : Kept 0 base m m'
@@ -113,7 +113,7 @@ pub record Arms (mark n top ln : ℕ) : Type 0 where
 
 -- the rules' join of all names that are bound in either arm, whatever bindings the left arm's row is made of
 pub record IfEnd (s : List ℕ) (l : Limits) (q : Blocks) (mark n top ln : ℕ) (m p : List ℕ) (c : Counts) (m' p' : List ℕ) (j : JoinedVars) : Type 0 where
-  pub len-same : length m' ≡ length m
+  pub len_same : length m' ≡ length m
   pub is : (left : Bindings) → row s m top ln ≡ env_of left → (r : Parser) → r.block ≡ q.at.0
       → joined s m' p' j r
       ≡ join_vars (limits_of l) q.left.0 (over left (vars s m mark)) q.right.0 (vars s m n) (all_keys (over left (vars s m mark)) (vars s m n)) (state s m mark p c r)

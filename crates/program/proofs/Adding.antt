@@ -14,7 +14,7 @@ use Rattle.rules.specs.Actions.{answered}
 use Rattle.rules.specs.Lists.{any}
 use Rattle.rules.specs.Program as P
 use Rattle.rules.specs.Program.{is_terminator, terminated, listed_count}
-use Rattle.rules.specs.Reading.{with_program, with_block, with_class, new_block_of, new_fun, new_class}
+use Rattle.rules.specs.Reading.{with_program, with_class, new_block_of, new_fun, new_class}
 use Rattle.lexer.specs.Names.{name}
 use Rattle.memory.specs.Layout.{functions_most, ivars_most}
 use Rattle.program.specs.Layout.{classes_at, program_size, class_words}

@@ -2,7 +2,7 @@
 use mathlib.Core.Bool.{Bool as 𝔹, true, false}
 use mathlib.Core.Path.{◌≡◌, refl, sym, ap, ◌∙◌}
 use mathlib.Core.List.{List, [], ◌∷◌, map}
-use Prim.Native.Nat.{ℕ, zero, suc, ◌+◌, ◌*◌, ◌/◌, ◌%◌, ◌^◌, ◌≤◌, ◌<◌}
+use Prim.Native.Nat.{ℕ, zero, suc, ◌+◌, ◌*◌, ◌/◌, ◌%◌, ◌≤◌, ◌<◌}
 use native.Mathlib.Omega.{arith}
 use native.Mathlib.Nat.{not-suc-le-zero, le_of_suc-le-suc}
 use lib.ListN.{length, get_or, set, take, drop, length-map, get_or-map}
@@ -12,11 +12,10 @@ use Rattle.kinds.specs.declared.Kind.{Kind}
 use Rattle.kinds.specs.declared.Kind.TheVariants.{Empty}
 use Rattle.kinds.specs.Kinds.{bit_of, tag_of, payload_of, fits_of}
 use Rattle.kinds.proofs.Same.{bit_of_lem}
-use Rattle.rules.specs.Lists.{concat}
 use Rattle.memory.specs.Memory.{over}
 use Rattle.memory.proofs.Laws.{Writing, writing_start, writing_more, writing_done}
 use Rattle.memory.specs.tables.Tables.{rows}
-use Rattle.memory.specs.tables.Bits.{bit_at, RowWord}
+use Rattle.memory.specs.tables.Bits.{RowWord}
 use Rattle.memory.proofs.tables.Listed.{listed-length}
 use Rattle.state.specs.declared.Sizes.{Sizes}
 use Rattle.state.specs.View.{kinds_of, live_of, called_of, StateHeld}

@@ -6,7 +6,7 @@ use native.Mathlib.Omega.{arith}
 use native.Mathlib.Decide.{dec_lt}
 use native.Mathlib.Nat.{not-suc-le-zero}
 use native.Mathlib.Numerals.{add-one}
-use lib.ListN.{length, get_or, take, length-append, get_or-append}
+use lib.ListN.{length, get_or, take, get_or-append}
 use lib.Seq.{get_or-append-add, take_all}
 use Rattle.rules.specs.Lists.{concat}
 use Rattle.rules.specs.Program.{Program}

@@ -1,23 +1,20 @@
 -- An answer memory with the uses and the final state in it is the image of the analysis's record. Assumes nothing.
-use mathlib.Core.Path.{◌≡◌, refl, sym, ap, ap₂, ◌∙◌}
-use mathlib.Core.List.{List, [], ◌∷◌, map}
-use Prim.Native.Nat.{ℕ, ◌≤◌}
+use mathlib.Core.Path.{◌≡◌, sym, ap, ◌∙◌}
+use mathlib.Core.List.{List}
+use Prim.Native.Nat.{ℕ}
 use lib.ListN.{length, get_or}
-use Rattle.kinds.specs.Kinds.{bit_of, tag_of, payload_of}
 use Rattle.rules.specs.Lists.{concat}
-use Rattle.rules.specs.Program.{Program}
-use Rattle.rules.specs.Machine.{State}
 use Rattle.memory.specs.Memory.{Blank, over}
 use Rattle.program.specs.View.{program_view, ProgramReady}
 use Rattle.program.specs.declared.Counts.{Counts}
 use Rattle.machine.specs.Analysed.{Users}
 use Rattle.state.specs.declared.Sizes.{Sizes}
 use Rattle.state.specs.declared.Regs.{Regs}
-use Rattle.state.specs.View.{Attrs, kinds_of, live_of, called_of, state_view}
+use Rattle.state.specs.View.{Attrs, kinds_of, state_view}
 use Rattle.state.proofs.Tables.{called-length}
-use Rattle.answer.specs.Layout.{answer_length, live_at, tags_at, payloads_at, starts_at, users_at, callers_at}
+use Rattle.answer.specs.Layout.{answer_length, starts_at, users_at}
 use Rattle.answer.specs.Record.{Legal, users_from, answer_record}
-use Rattle.answer.specs.Image.{starts_from, words_of, image_of}
+use Rattle.answer.specs.Image.{starts_from, image_of}
 use Rattle.answer.proofs.Publish.{published}
 use Rattle.publish.specs.Final.{caller_words, with_state}
 use Rattle.publish.proofs.Tables.{live-length, kinds-length}

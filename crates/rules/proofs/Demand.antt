@@ -1,5 +1,5 @@
 -- Demand 3 for every script: an answer is exact and within the bound, and there is an answer unless a question refuses. Assumes nothing.
-use Prim.Native.Nat.{ℕ, ◌≤◌, ◌^◌}
+use Prim.Native.Nat.{ℕ, ◌≤◌}
 use native.Mathlib.Omega.{arith}
 use native.Mathlib.Nat.{le_trans}
 use mathlib.Core.Bool.{Bool as 𝔹, true, false}
@@ -9,8 +9,6 @@ use lib.Dec.{lit≤, leb}
 use lib.ListN.{length}
 use Rattle.rules.specs.Actions.{Answer, answered, refused}
 use Rattle.rules.specs.Program.{Limits, limits, Program}
-use Rattle.rules.specs.Reading.{parse_program}
-use Rattle.rules.specs.Machine.{start, run}
 use Rattle.rules.specs.Bound.{bound}
 use Rattle.rules.specs.Finished.{Usable}
 use Rattle.rules.specs.Frames.{Analysis, analyze}

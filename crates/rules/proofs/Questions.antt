@@ -1,14 +1,13 @@
 -- Which numbers the analysis refuses with: those of its own questions, 12 to 20. Assumes nothing.
-use Prim.Native.Nat.{ℕ, zero, suc, ◌≤◌, ◌<◌}
+use Prim.Native.Nat.{ℕ, zero, suc, ◌≤◌}
 use native.Mathlib.Omega.{arith}
-use mathlib.Core.Path.{◌≡◌, refl, sym, subst}
+use mathlib.Core.Path.{◌≡◌, refl}
 use mathlib.Core.Logic.{◌⊎◌, inl, inr}
 use mathlib.Core.Bool.{Bool as 𝔹, true, false, not, cond}
 use mathlib.Core.Option.{Option, none, some}
-use mathlib.Core.List.{List, [], ◌∷◌, ◌++◌, map}
+use mathlib.Core.List.{List, [], ◌∷◌, map}
 use lib.Dec.{eqb, ltb, leb}
 use lib.ListN.{length, get_or}
-use Rattle.ids.specs.Sets.{members_of}
 use Rattle.kinds.specs.declared.Kind.{Kind}
 use Rattle.kinds.specs.declared.Kind.TheVariants.{Empty}
 use Rattle.kinds.specs.declared.Joined.{Joined}
@@ -18,13 +17,13 @@ use Rattle.kinds.specs.Union.{union_of, union_all}
 use Rattle.kinds.specs.Rules.{arith_of, admits}
 use Rattle.kinds.proofs.Laws.{union-refused, all-refused}
 use Rattle.kinds.proofs.Growth.{arith-refused}
-use Rattle.rules.specs.Actions.{Answer, answered, refused, if_answered, lift, needed, each, fold}
+use Rattle.rules.specs.Actions.{Answer, answered, refused, lift, needed, each, fold}
 use Rattle.rules.specs.Lists.{has, keep, places, is_just_name}
 use Rattle.rules.specs.Uses.{uses}
 use Rattle.rules.specs.Values.{to_answer, classes_in}
 use Rattle.rules.specs.Program.{Limits, Name, Opnd, Terminator, Jump, IfTrue, Return, Static, Dynamic, Op, Ends, Send, Compute, Phi, Param, SelfParam, New, GetIvar, SetIvar, Program, about, function, op_of, block_of, function_of, code, method_named, ivar_named, parameters, class, constructor_of, entry}
 use Rattle.rules.specs.Constructors.{first_kinds, declared, reverse_post_order}
-use Rattle.rules.specs.Machine.{State, Acts, set_kind, set_live, set_ivar_kind, callers_of, marked, kind_of, join_all, classes_of, push_insn, push_block, wake_if_wider, store, add_call, pass_arguments, leave, get_ivar, set_ivar, rule, visit, go_live, state_of, take_block, take_insn, drain_block, step, run, start, at_rest, first_kinds_from, blank}
+use Rattle.rules.specs.Machine.{State, Acts, set_kind, set_live, set_ivar_kind, callers_of, marked, kind_of, join_all, classes_of, push_insn, push_block, wake_if_wider, store, add_call, pass_arguments, leave, get_ivar, set_ivar, rule, visit, go_live, state_of, take_block, take_insn, drain_block, step, run, start, at_rest, first_kinds_from}
 use Rattle.rules.proofs.Wellformed.Laws.{Comes, done, refusing, and_then, asks, asked, chosen}
 
 abbrev pub Asked : ℕ → Type 0

@@ -1,5 +1,5 @@
 -- The bound on the count (01, "The analysis", last paragraph). Assumes nothing.
-use Rattle.std.specs.Prelude.{Bool as 𝔹, true, [], ◌∷◌, ℕ, ◌+◌, ◌*◌, length}
+use Rattle.std.specs.Prelude.{Bool as 𝔹, true, ℕ, ◌+◌, ◌*◌, length}
 use Rattle.rules.specs.Lists.{sum, places, has}
 use Rattle.rules.specs.Program.{Op, Instruction, Class, Program, about, returned}
 use Rattle.rules.specs.Uses.{uses}

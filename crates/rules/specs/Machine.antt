@@ -1,6 +1,6 @@
 -- The analysis as a machine that takes one entry off a worklist at each step (01, "The analysis"; questions 12 to 20). Assumes nothing.
 use Rattle.std.specs.Prelude.{Bool as 𝔹, true, false, not, cond, List, [], ◌∷◌, ◌++◌, map, ℕ, zero, suc, ◌+◌, eqb, ltb, leb, length, get_or, set, replicate}
-use Rattle.std.proofs.Math.Option.{Option, none, some}
+use Rattle.std.proofs.Math.Option.{none, some}
 use Rattle.ids.specs.Sets.{members_of}
 use Rattle.kinds.specs.declared.Kind.{Kind}
 use Rattle.kinds.specs.declared.Kind.TheVariants.{Empty}

@@ -36,7 +36,7 @@ fn enter_call(
     requires state_ready { StateReady sizes state.old regs }
     requires calling { Calling sizes program.now counts chains.now i.0 }
     requires f_lt_functions { f.0 < counts.functions }
-    ensures { (s : List ℕ) → StateDid sizes (CallsIn s program.entry.now counts i.0 args)
+    ensures { (s : List ℕ) → StateDid sizes (CallsIn s program.now counts i.0 args)
         (λ L program. add_call L program i.0 f.0) state.old regs state.new result }
 {
     if state::has_called(state, sizes, f, i) {
@@ -62,7 +62,7 @@ fn pass(
     requires state_ready { StateReady sizes state.old regs }
     requires calling { Calling sizes program.now counts chains.now i.0 }
     requires f_lt_functions { f.0 < counts.functions }
-    ensures { (s : List ℕ) (k : ℕ) → StateDid sizes (CallsIn s program.entry.now counts i.0 k)
+    ensures { (s : List ℕ) (k : ℕ) → StateDid sizes (CallsIn s program.now counts i.0 k)
         (λ L program. pass_arguments L program i.0 f.0) state.old regs state.new result }
 {
     let row = program::read_fun(program, counts, f);
@@ -84,7 +84,7 @@ fn call_to(
     requires state_ready { StateReady sizes state.old regs }
     requires calling { Calling sizes program.now counts chains.now i.0 }
     requires f_lt_functions { f.0 < counts.functions }
-    ensures { (s : List ℕ) → StateDid sizes (CallsIn s program.entry.now counts i.0 args)
+    ensures { (s : List ℕ) → StateDid sizes (CallsIn s program.now counts i.0 args)
         (λ L program. call_to L program i.0 f.0) state.old regs state.new result }
 {
     match enter_call(program, counts, chains, state, sizes, regs, i, args, f) {
@@ -108,7 +108,7 @@ pub fn send_static(
     requires state_ready { StateReady sizes state.old regs }
     requires calling { Calling sizes program.now counts chains.now i.0 }
     requires f_lt_functions { f.0 < counts.functions }
-    ensures { (s : List ℕ) → StateDid sizes (CallsIn s program.entry.now counts i.0 args)
+    ensures { (s : List ℕ) → StateDid sizes (CallsIn s program.now counts i.0 args)
         (λ L program. call_static L program i.0 f.0) state.old regs state.new result }
 {
     let row = program::read_fun(program, counts, f);
@@ -135,7 +135,7 @@ fn settled(
     requires state_held { StateHeld sizes state.now }
     requires calling { Calling sizes program.now counts chains.now i.0 }
     requires f_lt_functions { f.0 < counts.functions }
-    ensures { result ≡ true → (s : List ℕ) (k : ℕ) → PassIdle sizes (CallsIn s program.entry.now counts i.0 k) (λ L program. call_to L program i.0 f.0) state.now }
+    ensures { result ≡ true → (s : List ℕ) (k : ℕ) → PassIdle sizes (CallsIn s program.now counts i.0 k) (λ L program. call_to L program i.0 f.0) state.now }
 {
     if state::has_called(state, sizes, f, i) {
         let row = program::read_fun(program, counts, f);
@@ -161,7 +161,7 @@ fn send_each(
 ) -> Acted
     requires state_ready { StateReady sizes state.old regs }
     requires calling { Calling sizes program.now counts chains.now i.0 }
-    ensures { StateDid sizes (CallsIn script.now program.entry.now counts i.0 args)
+    ensures { StateDid sizes (CallsIn script.now program.now counts i.0 args)
         (λ L program. each (members_of set) (send_to L program i.0 (name_in script.now n))) state.old regs
         state.new result }
 {
@@ -213,7 +213,7 @@ pub fn send_dynamic(
     requires state_ready { StateReady sizes state.old regs }
     requires calling { Calling sizes program.now counts chains.now i.0 }
     requires operand_inside { OperandInside sizes o }
-    ensures { StateDid sizes (CallsIn script.now program.entry.now counts i.0 args)
+    ensures { StateDid sizes (CallsIn script.now program.now counts i.0 args)
         (λ L program. send_all L program i.0 (name_in script.now n) (opnd_of o)) state.old regs state.new result }
 {
     match machine::receivers::classes_of(state, sizes, o) {

@@ -137,7 +137,7 @@ pub fn pass_arguments(
     requires state_ready { StateReady sizes state.old regs }
     requires caller { Caller program.now counts sizes i.0 }
     requires has_params { HasParams sizes.insns chains.now entry.0 }
-    ensures { (f : ℕ) → StateDid sizes (PassIn program.entry.now counts sizes chains.now i.0 f entry.0)
+    ensures { (f : ℕ) → StateDid sizes (PassIn program.now counts sizes chains.now i.0 f entry.0)
         (λ L program. pass_arguments L program i.0 f) state.old regs state.new result }
 {
     let n = sizes.insns;
@@ -187,7 +187,7 @@ pub fn surely_keeps_all(
     requires state_held { StateHeld sizes state.now }
     requires caller { Caller program.now counts sizes i.0 }
     requires has_params { HasParams sizes.insns chains.now entry.0 }
-    ensures { result ≡ true → (f : ℕ) → PassIdle sizes (PassIn program.entry.now counts sizes chains.now i.0 f entry.0)
+    ensures { result ≡ true → (f : ℕ) → PassIdle sizes (PassIn program.now counts sizes chains.now i.0 f entry.0)
         (λ L program. pass_arguments L program i.0 f) state.now }
 {
     let n = sizes.insns;

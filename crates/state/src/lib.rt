@@ -341,7 +341,7 @@ pub fn take_block(state: &[usize], sizes: Sizes, regs: Regs) -> TakenBlock
 }
 
 // Nothing waits.
-pub fn at_rest_lem(regs: Regs) -> bool
+pub fn at_rest(regs: Regs) -> bool
     requires { (regs.insns.len ≤ worklist_most) × (regs.blocks.len ≤ worklist_most) }
     ensures { (z : Sizes) (v : Attrs) (m : List ℕ) → result ≡ at_rest (state_view z v m regs) }
 {

@@ -1,8 +1,8 @@
 -- The ways through the readers that call each other. Assumes nothing.
-use mathlib.Core.Bool.{Bool as 𝔹, true, false}
+use mathlib.Core.Bool.{Bool as 𝔹, true}
 use mathlib.Core.Path.{◌≡◌, refl, sym, ap, ◌∙◌}
 use mathlib.Core.List.{List}
-use Prim.Native.Nat.{ℕ, zero, suc, ◌+◌, ◌-◌, ◌*◌, ◌≤◌, ◌<◌}
+use Prim.Native.Nat.{ℕ, zero, suc, ◌+◌, ◌-◌, ◌≤◌, ◌<◌}
 use native.Mathlib.Omega.{arith}
 use lib.ListN.{length}
 use Rattle.ids.specs.declared.BlockId.{BlockId}
@@ -27,7 +27,7 @@ use Rattle.lexer.specs.declared.Lexed.TheVariants as W
 use Rattle.lexer.specs.declared.Word.{Word}
 use Rattle.lexer.proofs.Texts.{fixed-kind}
 use Rattle.cursor.specs.Cursor.{parser_of, move_cur, In, CursorStep}
-use Rattle.cursor.specs.Promises.{Out, done, stop, outcome, CursorDid, Sees, Spelt, CursorMatches, parsed_of, moved_of, matched_of}
+use Rattle.cursor.specs.Promises.{Out, CursorDid, Sees, Spelt, CursorMatches, parsed_of, moved_of, matched_of}
 use Rattle.cursor.specs.declared.Cursor.{Cursor}
 use Rattle.cursor.specs.declared.Matched.{Matched}
 use Rattle.cursor.specs.declared.Matched.TheVariants as M
@@ -42,25 +42,10 @@ use Rattle.statements.specs.declared.Opened.{Opened}
 use Rattle.statements.specs.declared.Opened.TheVariants as O
 use Rattle.statements.specs.declared.Stops.{Stops}
 use Rattle.statements.specs.declared.Stops.TheVariants as H
-use Rattle.statements.specs.Acts.{stops_at, parse_arm, open_else, finish_if, finish_else, parse_else, if_of}
-use Rattle.statements.specs.Shape.{block_cur, opened_of, stops_of, halts, Halts, Opens, EndsBlock, StatementInside, DidFrom, StatementAside, OpensElse, FinishesElse, Arm}
+use Rattle.statements.specs.Acts.{stops_at, parse_arm, finish_if, parse_else, if_of}
+use Rattle.statements.specs.Shape.{block_cur, opened_of, halts, Halts, Opens, EndsBlock, StatementInside, DidFrom, StatementAside, OpensElse, FinishesElse, Arm}
 use Rattle.statements.proofs.Ifs.{if_is}
-use Rattle.statements.proofs.Steps.{
-  block_of_lem,
-  block_to,
-  Keeps,
-  keeps_step,
-  keeps_low,
-  keeps_then,
-  keeps_later,
-  keeps_vars,
-  after-over,
-  inside-step,
-  inside_then,
-  few-vars,
-  arm_then,
-  opened-there,
-}
+use Rattle.statements.proofs.Steps.{Keeps, keeps_step, keeps_low, keeps_then, keeps_later, keeps_vars, after-over, inside-step, inside_then, few-vars, arm_then, opened-there}
 use Rattle.statements.proofs.Steps.{opens_did, in_block, step_block}
 use Rattle.statements.proofs.Paths.{expr_in}
 

@@ -1,6 +1,6 @@
 -- The rules' `if`, part by part. Assumes nothing.
 use mathlib.Core.Bool.{Bool as 𝔹, true, false}
-use mathlib.Core.Path.{◌≡◌, refl, sym, ap, ◌∙◌}
+use mathlib.Core.Path.{◌≡◌, refl, ◌∙◌}
 use mathlib.Core.List.{List}
 use Prim.Native.Nat.{ℕ}
 use Rattle.rules.specs.Actions.{Answer, answered, refused, if_answered, choose}

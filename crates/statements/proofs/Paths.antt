@@ -1,26 +1,24 @@
 -- The ways through each reader: what the calls on the way gave, and what the rules then say. Assumes nothing.
-use mathlib.Core.Bool.{Bool as 𝔹, true, false, not, true≢false}
+use mathlib.Core.Bool.{Bool as 𝔹, true, false}
 use mathlib.Core.Path.{◌≡◌, refl, sym, ap, ◌∙◌}
-use mathlib.Core.List.{List, [], map}
-use Prim.Native.Nat.{ℕ, zero, suc, ◌+◌, ◌-◌, ◌*◌, ◌≤◌, ◌<◌}
+use mathlib.Core.List.{List, []}
+use Prim.Native.Nat.{ℕ, ◌+◌, ◌-◌, ◌≤◌, ◌<◌}
 use native.Mathlib.Omega.{arith}
-use lib.Dec.{ltb, leb}
-use lib.ListN.{length, get_or}
+use lib.ListN.{length}
 use Rattle.ids.specs.declared.BlockId.{BlockId}
 use Rattle.ids.specs.declared.InsnId.{InsnId}
 use Rattle.kinds.specs.declared.Kind.TheVariants.{Nil}
-use Rattle.rules.specs.Actions.{Answer, answered, refused, if_answered, loop}
+use Rattle.rules.specs.Actions.{Answer, answered, refused, if_answered}
 use Rattle.rules.specs.Program as P
 use Rattle.rules.specs.Program.{terminated, listed_count, about}
 use Rattle.rules.specs.Reading as R
 use Rattle.rules.specs.Reading.{Parser, Reads, push_insn, push, new_block, new_block_of, end_block, parse_expr, parse_next, parse_statements, parse_return, parse_if, statement_by, parse_statement}
-use Rattle.variables.specs.Scopes.{Bindings, over, env_of, Sorted}
+use Rattle.variables.specs.Scopes.{over, env_of, Sorted}
 use Rattle.variables.proofs.scopes.Made.{env_sorted}
-use Rattle.variables.specs.Memory.{made, vars, row, Kept}
+use Rattle.variables.specs.Memory.{made, vars, row}
 use Rattle.variables.specs.Promises.{Leaves}
-use Rattle.variables.proofs.Entries.{row_move, vars_split, vars-kept}
 use Rattle.lookups.specs.Look.{LookTells}
-use Rattle.program.specs.Rows.{opnd_of, given, op_in}
+use Rattle.program.specs.Rows.{opnd_of, given}
 use Rattle.program.specs.View as View
 use Rattle.program.specs.declared.Counts.{Counts}
 use Rattle.program.specs.declared.Given.{Given}
@@ -31,7 +29,7 @@ use Rattle.program.specs.declared.NewBlock.TheVariants as B
 use Rattle.program.specs.declared.NewInsn.{NewInsn}
 use Rattle.program.specs.declared.NewInsn.TheVariants as I
 use Rattle.program.specs.declared.Op.{Op}
-use Rattle.program.specs.declared.Op.TheVariants.{Jump, IfTrue, Return}
+use Rattle.program.specs.declared.Op.TheVariants.{IfTrue, Return}
 use Rattle.program.specs.declared.Opnd.{Opnd}
 use Rattle.program.specs.declared.Opnd.TheVariants.{Const}
 use Rattle.phis.specs.Joining.{Phis, Arms, IfEnd}
@@ -40,49 +38,28 @@ use Rattle.phis.specs.declared.JoinedVars.{JoinedVars}
 use Rattle.phis.specs.declared.JoinedVars.TheVariants as J
 use Rattle.phis.specs.declared.NewPhi.{NewPhi}
 use Rattle.phis.specs.declared.NewPhi.TheVariants as F
-use Rattle.lexer.specs.Lexed.{word_in}
 use Rattle.lexer.specs.declared.Lexed.{Lexed}
 use Rattle.lexer.specs.declared.Lexed.TheVariants as W
 use Rattle.lexer.specs.declared.Word.{Word}
-use Rattle.lexer.proofs.Texts.{fixed-kind}
-use Rattle.cursor.specs.Cursor.{parser_of, move_cur, count_cur, In, CursorStep}
-use Rattle.cursor.specs.Promises.{Out, done, stop, outcome, CursorAfter, CursorDid, Longer, CursorAdds, Sees, Spelt, Expects, CursorMatches, parsed_of, moved_of, matched_of}
+use Rattle.cursor.specs.Cursor.{parser_of, count_cur, In, CursorStep}
+use Rattle.cursor.specs.Promises.{Out, outcome, CursorDid, Sees, Expects, parsed_of, moved_of}
 use Rattle.cursor.specs.declared.Cursor.{Cursor}
-use Rattle.cursor.specs.declared.Matched.{Matched}
-use Rattle.cursor.specs.declared.Matched.TheVariants as M
 use Rattle.cursor.specs.declared.Moved.{Moved}
 use Rattle.cursor.specs.declared.Moved.TheVariants as On
 use Rattle.cursor.specs.declared.Parsed.{Parsed}
 use Rattle.cursor.specs.declared.Parsed.TheVariants.{Done, Refused}
-use Rattle.cursor.proofs.Laws.{after-step, in_counted, Acted, got, gave, refuses, arrives, ends_as, moved-did, added_did, in_moved, step-moved, step_less, step_trans, step-none}
-use Rattle.cursor.proofs.Wording.{spelt_end, spelt_else, is-yes, is_no, word_read, peek-found, peek-none, pass-found}
+use Rattle.cursor.proofs.Laws.{after-step, in_counted, Acted, got, gave, refuses, arrives, moved-did, added_did, step_less, step_trans}
+use Rattle.cursor.proofs.Wording.{spelt_end, spelt_else, is-yes, is_no, word_read, peek-found, peek-none}
 use Rattle.variables.specs.Layout.{entries_most, variables_size}
 use Rattle.statements.specs.declared.Branch.{Branch}
 use Rattle.statements.specs.declared.Opened.{Opened}
 use Rattle.statements.specs.declared.Opened.TheVariants as O
-use Rattle.statements.specs.declared.Stops.{Stops}
 use Rattle.statements.specs.declared.Stops.TheVariants as H
-use Rattle.statements.specs.Acts.{add_end, stops_at, parse_arm, open_else, join_arms, join_value, finish_if, finish_else, parse_else, if_of}
-use Rattle.statements.specs.Shape.{block_cur, vars_cur, opened_of, stops_of, halts, Halts, Wider, Widened, Opens, AddsEnd, EndsBlock, StatementInside, DidFrom, StatementAside, AsideIf, OpensElse}
+use Rattle.statements.specs.Acts.{add_end, open_else, join_arms, join_value, finish_if, finish_else}
+use Rattle.statements.specs.Shape.{block_cur, vars_cur, opened_of, halts, Halts, Opens, AddsEnd, EndsBlock, StatementInside, DidFrom, OpensElse}
 use Rattle.statements.specs.Shape.{JoinsArms, FinishesElse, Arm}
-use Rattle.statements.proofs.Ifs.{if_is}
-use Rattle.statements.proofs.Steps.{
-  block_of_lem,
-  block_to,
-  Keeps,
-  keeps_step,
-  keeps_low,
-  keeps_then,
-  keeps_later,
-  keeps_vars,
-  after-over,
-  inside-step,
-  inside_then,
-  few-vars,
-  arm_then,
-  opened-there,
-}
-use Rattle.statements.proofs.Steps.{opens_did, in_block, step_block}
+use Rattle.statements.proofs.Steps.{keeps_low, keeps_vars, inside_then, few-vars, opened-there}
+use Rattle.statements.proofs.Steps.{opens_did}
 
 -- ---- a cursor with several parts changed
 
@@ -273,7 +250,7 @@ module _ {s m w : List ℕ} {c₀ c : Cursor} (h : In s m w c) (i : StatementIns
                 script = h.ready.script;
                 inside = h.ready.inside;
                 tables = ok.0;
-                scratch = omega (arith, h.ready.scratch, g.len-same);
+                scratch = omega (arith, h.ready.scratch, g.len_same);
                 room = record { script = h.ready.room.script; aside = i.low; law = omega (arith, h.ready.room.law, i.above, most) };
                 args = h.ready.args;
               };
@@ -400,7 +377,7 @@ module _ (l : Limits) {s m w : List ℕ} {c₀ c : Cursor} (q : Branch) (h : In 
                     script = k.script;
                     inside = k.inside;
                     tables = k.tables;
-                    scratch = omega (arith, k.scratch, v.len-same);
+                    scratch = omega (arith, k.scratch, v.len_same);
                     room = record { script = k.room.script; aside = omega (arith, a.inside.low); law = omega (arith, k.room.law, v.less) };
                     args = k.args;
                   };

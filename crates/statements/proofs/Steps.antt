@@ -1,32 +1,26 @@
 -- Steps inside an `if`. Assumes nothing.
-use mathlib.Core.Path.{◌≡◌, refl, sym, ap, ◌∙◌}
+use mathlib.Core.Path.{◌≡◌, refl, ap, ◌∙◌}
 use mathlib.Core.List.{List}
-use Prim.Native.Nat.{ℕ, ◌+◌, ◌-◌, ◌*◌, ◌≤◌, ◌<◌}
+use Prim.Native.Nat.{ℕ, ◌+◌, ◌*◌, ◌≤◌, ◌<◌}
 use native.Mathlib.Omega.{arith}
-use lib.ListN.{length, get_or}
+use lib.ListN.{get_or}
 use Rattle.ids.specs.declared.BlockId.{BlockId}
-use Rattle.rules.specs.Actions.{answered, refused}
-use Rattle.rules.specs.Reading.{Reads, with_block, new_block}
+use Rattle.rules.specs.Reading.{with_block, new_block}
 use Rattle.variables.specs.Scopes.{env_of}
-use Rattle.variables.specs.Memory.{entry, made, vars, row, Kept}
-use Rattle.variables.specs.Rooms.{VariablesRoom}
-use Rattle.variables.proofs.Entries.{made_move, row_move}
+use Rattle.variables.specs.Memory.{entry, vars, Kept}
+use Rattle.variables.proofs.Entries.{made_move}
 use Rattle.program.specs.View as View
-use Rattle.program.specs.declared.Counts.{Counts}
 use Rattle.program.specs.declared.Limits.{Limits}
-use Rattle.cursor.specs.Cursor.{parser_of, count_cur, CursorReady, In, CursorStep}
-use Rattle.cursor.specs.Promises.{Out, done, stop, outcome, CursorAfter, CursorDid, Moves, CursorMatches, matched_of}
+use Rattle.cursor.specs.Cursor.{parser_of, In, CursorStep}
+use Rattle.cursor.specs.Promises.{Out, done, stop, CursorAfter, CursorDid}
 use Rattle.cursor.specs.declared.Cursor.{Cursor}
-use Rattle.cursor.specs.declared.Matched.{Matched}
-use Rattle.cursor.specs.declared.Matched.TheVariants as Matched
-use Rattle.cursor.proofs.Laws.{in_counted, Acted, got, moved-did, step_less, step_trans, step-none}
-use Rattle.cursor.proofs.Wording.{spelt_else}
+use Rattle.cursor.proofs.Laws.{in_counted}
 use Rattle.variables.specs.Layout.{bindings_most}
 use Rattle.cursor.specs.Layout.{stack_at}
 use Rattle.statements.specs.declared.Branch.{Branch}
 use Rattle.statements.specs.declared.Opened.{Opened}
 use Rattle.statements.specs.declared.Opened.TheVariants as O
-use Rattle.statements.specs.Shape.{block_cur, vars_cur, opened_of, Wider, Widened, Opens, StatementInside, Arm, StatementAside}
+use Rattle.statements.specs.Shape.{block_cur, opened_of, Widened, Opens, StatementInside, Arm}
 
 -- ---- the parser's state
 

@@ -1,6 +1,6 @@
 -- The parts of the rules' `if` that the readers here do one by one. Assumes nothing.
 use Rattle.std.specs.Prelude.{Bool as 𝔹, true, false, ◌||◌, List, ℕ}
-use Rattle.rules.specs.Actions.{if◌then◌else◌, ◌>>=◌, ◌>>◌, give, skip, change, the}
+use Rattle.rules.specs.Actions.{if◌then◌else◌, ◌>>=◌, ◌>>◌, give, skip, change}
 use Rattle.rules.specs.Words.{Word, is}
 use Rattle.rules.specs.Program.{Limits, Opnd, Op, Ends, Jump, IfTrue}
 use Rattle.rules.specs.Reading.{Env, Reads, with_env, with_block, the_block, the_env, nil, all_keys, push_insn, new_block, phi, join_vars, expect, match_token, parse_statements, end_block}

@@ -1,7 +1,7 @@
 -- Cursors inside an `if`, and what its readers promise. Assumes nothing.
 use Rattle.std.specs.Prelude.{Bool as 𝔹, true, false, ◌≡◌, List, map, ℕ, ◌+◌, ◌-◌, ◌*◌, ◌≤◌, ◌<◌}
 use Rattle.ids.specs.declared.BlockId.{BlockId}
-use Rattle.rules.specs.Actions.{Answer, answered, refused, ◌>>=◌, give}
+use Rattle.rules.specs.Actions.{◌>>=◌, give}
 use Rattle.rules.specs.Program as P
 use Rattle.rules.specs.Reading.{Reads, new_block, end_block}
 use Rattle.rules.specs.Reading as R
@@ -9,7 +9,6 @@ use Rattle.variables.specs.Scopes.{Bindings, over, env_of}
 use Rattle.variables.specs.Memory.{made, vars, row, Kept}
 use Rattle.program.specs.Rows.{opnd_of, given, op_in}
 use Rattle.program.specs.View as View
-use Rattle.program.specs.declared.Counts.{Counts}
 use Rattle.program.specs.declared.Given.{Given}
 use Rattle.program.specs.declared.Limits.{Limits}
 use Rattle.program.specs.declared.Op.{Op}
@@ -17,7 +16,7 @@ use Rattle.program.specs.declared.Opnd.{Opnd}
 use Rattle.lexer.specs.declared.Lexed.TheVariants.{Found}
 use Rattle.lexer.specs.declared.Word.{Word}
 use Rattle.phis.specs.declared.Blocks.{Blocks}
-use Rattle.cursor.specs.Cursor.{parser_of, count_cur, In, CursorStep}
+use Rattle.cursor.specs.Cursor.{parser_of, count_cur, In}
 use Rattle.cursor.specs.Promises.{Out, done, stop, outcome, CursorAfter, CursorAdds, Sees, moved_of, parsed_of}
 use Rattle.cursor.specs.declared.Cursor.{Cursor}
 use Rattle.cursor.specs.declared.Moved.{Moved}

@@ -409,7 +409,7 @@ fn at_end(script: &[u8], cursor: Cursor, arm: bool) -> Stops
 }
 
 // The value is that of the last statement, nil if there is none.
-#[cycle(parse_block_parse_else_parse_if_parse_statement_parse_statements)]
+#[cycle(statement)]
 pub fn parse_statements(
     script: &[u8],
     program: &mut [usize],
@@ -451,7 +451,7 @@ pub fn parse_statements(
 }
 
 // An arm, whose first block takes instructions; its last jumps to the join, unless it has a terminator.
-#[cycle(parse_block_parse_else_parse_if_parse_statement_parse_statements)]
+#[cycle(statement)]
 fn parse_block(
     script: &[u8],
     program: &mut [usize],
@@ -477,7 +477,7 @@ fn parse_block(
 }
 
 // Behind the then arm.
-#[cycle(parse_block_parse_else_parse_if_parse_statement_parse_statements)]
+#[cycle(statement)]
 fn parse_else(
     script: &[u8],
     program: &mut [usize],
@@ -516,7 +516,7 @@ fn parse_else(
 }
 
 // Behind `if`. The blocks are numbered then, join, else.
-#[cycle(parse_block_parse_else_parse_if_parse_statement_parse_statements)]
+#[cycle(statement)]
 fn parse_if(
     script: &[u8],
     program: &mut [usize],
@@ -575,7 +575,7 @@ fn parse_if(
 }
 
 // From the word x on, which is the next.
-#[cycle(parse_block_parse_else_parse_if_parse_statement_parse_statements)]
+#[cycle(statement)]
 fn parse_statement(
     script: &[u8],
     program: &mut [usize],

@@ -30,7 +30,7 @@ use Rattle.state.specs.View.{Attrs, kinds_of, blocks_of, state_view, StateHeld, 
 use Rattle.state.specs.Changes.{went}
 use Rattle.state.proofs.Pushes.{insns-length}
 use Rattle.machine.specs.opnds.Reads.{kind_in}
-use Rattle.machine.proofs.opnds.Given.{kind_of}
+use Rattle.machine.proofs.opnds.Given.{kind_of_lem}
 use Rattle.machine.specs.blocks.Blocks.{blocks_in, ReadyNext, BlockStepped}
 use Rattle.flows.specs.declared.Words.{Words}
 use Rattle.flows.specs.Flows.{words_of}
@@ -129,7 +129,7 @@ module _ {s p : List ℕ} {c : Counts} {x u : List ℕ} {z : Sizes} {m : List �
           let o = nth (operands_of p (row_of (record_at p i))) 1 in
           let own = other-kind limits P i j (before v) (state_view z v w r) G apart in
           set-covered limits P (name_in s a) j b i _ _ o (before v) (state_view z v w r) (set-op (record_at p i) (row_read F.analysed F.front.inside) f t) G apart
-          (subst (Covered (get_or (kinds_of z m) j Empty)) (e ∙ sym (kind_of (before v) o)) (subst (λ (y : Kind). Covered y k) own h)) (S.is P v f);
+          (subst (Covered (get_or (kinds_of z m) j Empty)) (e ∙ sym (kind_of_lem (before v) o)) (subst (λ (y : Kind). Covered y k) own h)) (S.is P v f);
     }
 
   -- a visit that put no instruction in

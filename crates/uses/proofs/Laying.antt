@@ -1,9 +1,8 @@
 -- The chains laid out one after the other. Assumes nothing.
-use mathlib.Core.Bool.{Bool as 𝔹, true, false}
 use mathlib.Core.Path.{◌≡◌, refl, sym, ap, ap₂, ◌∙◌}
 use mathlib.Core.Logic.{◌⊎◌}
 use mathlib.Core.List.{List, [], ◌∷◌, ◌++◌, append-nil, append_assoc}
-use Prim.Native.Nat.{ℕ, zero, suc, ◌+◌, ◌-◌, ◌*◌, ◌≤◌, ◌<◌}
+use Prim.Native.Nat.{ℕ, suc, ◌+◌, ◌-◌, ◌≤◌, ◌<◌}
 use native.Mathlib.Decide.{ℕ_discrete}
 use native.Mathlib.Omega.{arith}
 use lib.ListN.{length, get_or, set, length-set, length-append}
@@ -12,11 +11,11 @@ use Rattle.program.specs.Tab.{tab}
 use Rattle.program.specs.View.{ProgramReady}
 use Rattle.program.specs.declared.Counts.{Counts}
 use Rattle.program.proofs.Tables.{tab_ext, tab-more}
-use Rattle.chains.specs.Chains.{pick, ChainsChained, at}
+use Rattle.chains.specs.Chains.{at}
 use Rattle.chains.proofs.Lists.{Starts, chained_below, chained_none, chained_some, chained_low}
 use Rattle.memory.specs.Layout.{instructions_most, uses_most}
 use Rattle.uses.specs.Layout.{items_at, links_at}
-use Rattle.uses.specs.Users.{sum_to, uses_at, users_of, users_to, Cells, Linked, words, Uses}
+use Rattle.uses.specs.Users.{sum_to, users_of, users_to, Cells, Linked, words, Uses}
 use Rattle.uses.proofs.Totals.{uses-is, users-room, sum_more, sum_mono}
 
 -- the users of the instructions before j stand in their place

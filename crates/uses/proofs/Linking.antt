@@ -1,13 +1,12 @@
 -- What each way through the linking shows, on plain values. Assumes nothing.
-use mathlib.Core.Bool.{Bool as 𝔹, true, false, cond, ◌||◌, or-true, or-false}
-use mathlib.Core.Path.{◌≡◌, refl, sym, ap, ap₂, ◌∙◌, subst}
+use mathlib.Core.Bool.{Bool as 𝔹, true, false, ◌||◌, or-true, or-false}
+use mathlib.Core.Path.{◌≡◌, refl, sym, ap, ◌∙◌, subst}
 use mathlib.Core.List.{List, [], ◌∷◌}
 use Prim.Native.Nat.{ℕ, zero, suc, ◌+◌, ◌-◌, ◌*◌, ◌≤◌, ◌<◌, min}
 use native.Mathlib.Decide.{ℕ_discrete}
 use native.Mathlib.Numerals.{add-one}
 use native.Mathlib.Omega.{arith}
 use borrow.Author.Tests.{eq-eqb, ne_eqb, lt-ltb, le-ltb}
-use lib.Dec.{eqb, ltb}
 use lib.ListN.{length, get_or, set, length-set}
 use lib.Seq.{get_or-set_same, get_or-set_other}
 use Rattle.rules.specs.Lists.{any, cons_if}
@@ -27,7 +26,7 @@ use Rattle.chains.proofs.Lists.{pick-suc, pick_end, chained_below, chained_end, 
 use Rattle.memory.specs.Layout.{instructions_most, uses_most}
 use Rattle.program.specs.Layout.{opnds_at}
 use Rattle.uses.specs.Layout.{items_at, links_at, uses_size}
-use Rattle.uses.specs.Users.{most_of, used_at, sum_to, used_to, names, names_to, uses_at, first_of, Cells, front, UsersPut, Linked}
+use Rattle.uses.specs.Users.{most_of, used_at, used_to, names, names_to, uses_at, first_of, Cells, front, UsersPut, Linked}
 use Rattle.uses.proofs.Totals.{used_room, sum_more}
 
 -- ---- a cell

@@ -3,13 +3,13 @@ use mathlib.Core.Bool.{Bool as 𝔹, true, false, cond, ◌||◌}
 use mathlib.Core.Path.{◌≡◌, refl, sym, ap, ap₂, ◌∙◌}
 use mathlib.Core.List.{List, [], ◌∷◌, map}
 use mathlib.Core.Logic.{◌⊎◌, inl, inr}
-use Prim.Native.Nat.{ℕ, zero, suc, ◌+◌, ◌-◌, ◌*◌, ◌≤◌, ◌<◌, min}
+use Prim.Native.Nat.{ℕ, zero, suc, ◌+◌, ◌*◌, ◌≤◌, ◌<◌, min}
 use native.Mathlib.Decide.{ℕ_discrete}
 use native.Mathlib.Numerals.{add-one}
 use native.Mathlib.Omega.{arith}
 use borrow.Author.Tests.{eq-eqb, ne_eqb}
 use lib.Dec.{eqb}
-use lib.ListN.{length, get_or, take, drop, length-append, length-drop, length-map}
+use lib.ListN.{length, get_or, take, drop, length-drop, length-map}
 use lib.Seq.{take_all}
 use Rattle.kinds.specs.declared.Kind.TheVariants.{Nil}
 use Rattle.rules.specs.Lists.{any, cons_if, sum}
@@ -25,7 +25,7 @@ use Rattle.program.specs.declared.Op.{Op}
 use Rattle.program.specs.declared.Op.TheVariants.{Jump, IfTrue, Return, SendStatic, SendDynamic, Compute, Phi, Param, SelfParam, New, GetIvar, SetIvar}
 use Rattle.program.specs.declared.Opnd.{Opnd}
 use Rattle.program.specs.declared.Opnd.TheVariants.{Const, Insn}
-use Rattle.program.proofs.Tables.{tab-length, tab-more, tab-take}
+use Rattle.program.proofs.Tables.{tab-length, tab-take}
 use Rattle.program.proofs.Areas.{opnds-length}
 use Rattle.chains.specs.Chains.{pick}
 use Rattle.chains.proofs.Lists.{pick_ext, places-tab}

@@ -1,5 +1,5 @@
 -- The users of each instruction's result: chains in the work memory, then one after the other. Assumes nothing.
-use Rattle.std.specs.Prelude.{Bool as 𝔹, true, false, cond, ◌≡◌, List, [], ◌∷◌, ℕ, zero, suc, ◌+◌, ◌-◌, ◌*◌, ◌≤◌, ◌<◌, min, eqb, ltb, length, get_or}
+use Rattle.std.specs.Prelude.{Bool as 𝔹, false, cond, ◌≡◌, List, [], ◌∷◌, ℕ, zero, suc, ◌+◌, ◌-◌, ◌*◌, ◌≤◌, ◌<◌, min, eqb, ltb, length, get_or}
 use Rattle.rules.specs.Lists.{any}
 use Rattle.rules.specs.Uses.{uses}
 use Rattle.program.specs.Tab.{tab}

@@ -3,7 +3,6 @@ use Prim.Native.Nat.{ℕ, zero, suc, ◌+◌, ◌-◌, ◌*◌, ◌/◌, ◌≤�
 use mathlib.Core.Path.{◌≡◌, refl, sym, ap, subst, ◌∙◌}
 use mathlib.Core.Bool.{Bool, true, false, cond}
 use mathlib.Core.List.{List, [], ◌∷◌, ◌++◌}
-use mathlib.Core.Option.{some}
 use native.Mathlib.Decide.{ℕ_discrete, dec_lt}
 use native.Mathlib.Numerals.{add-one}
 use native.Mathlib.Omega.{arith}
@@ -82,7 +81,7 @@ module _ (m : List ℕ) (n w x : ℕ) (h : (variables_size ≤ length m) × (n <
 pub binds : (m : List ℕ) (n a k t x : ℕ) {m' : List ℕ} {w : ℕ} → (variables_size ≤ length m) × (n < bindings_most) → Packed a k t w → m' ≡ put m n w x → VariableBinds n a k t x m m'
 unfolding name_in
 binds m n a k t x {m'} {w} h p e = rw e (record {
-  len-same = put-length m n w x;
+  len_same = put-length m n w x;
   is = λ s. rw (p.start, p.length, p.tag) at (put-vars m n w x h s);
   old = put-old m n w x h;
   aside = put-aside m n w x h;
@@ -93,7 +92,7 @@ pub binds_again : (m : List ℕ) (n w t x : ℕ) {m' : List ℕ} {v : ℕ} → (
 binds_again m n w t x {m'} {v} h p e =
     let room : (variables_size ≤ length m) × (n < bindings_most) = (h.0, h.1.0) in
     rw e (record {
-      len-same = put-length m n v x;
+      len_same = put-length m n v x;
       is = λ s. rw (p.name s, p.tag) at (put-vars m n v x room s);
       old = put-old m n v x room;
       aside = put-aside m n v x room;
@@ -244,18 +243,18 @@ module _ {s m : List ℕ} {lo n w a b : ℕ} (g : Seeking s m lo n w a b) where
 
 pub record Lifting (at k : ℕ) (m₀ m : List ℕ) (i : ℕ) : Type 0 where
   pub high : i ≤ k
-  pub len-same : length m ≡ length m₀
+  pub len_same : length m ≡ length m₀
   pub moved : (j : ℕ) → i ≤ j → j < k → entry m (at + 1 + j) ≡ entry m₀ (at + j)
   pub low : Kept 0 (at + i + 1) m₀ m
   pub far : Kept (at + k + 1) entries_most m₀ m
 
 pub lift-start : (at k : ℕ) (m : List ℕ) → Lifting at k m m k
-lift-start at k m = record { high = omega arith; len-same = refl; moved = λ j a b. absurd (omega arith); low = kept-all 0 (at + k + 1) m; far = kept-all (at + k + 1) entries_most m }
+lift-start at k m = record { high = omega arith; len_same = refl; moved = λ j a b. absurd (omega arith); low = kept-all 0 (at + k + 1) m; far = kept-all (at + k + 1) entries_most m }
 
 module _ {at k : ℕ} {m₀ m : List ℕ} {i : ℕ} (g : Lifting at k m₀ m i) where
   pub lift-done : i ≤ 0 → Lifted at k m₀ m
   lift-done h = record {
-    len-same = g.len-same;
+    len_same = g.len_same;
     moved = λ j l. g.moved j (omega arith) l;
     low = kept-part 0 (at + i + 1) 0 at m₀ m (omega arith) (omega arith) g.low;
     high = g.far;
@@ -269,12 +268,12 @@ module _ {at k : ℕ} {m₀ m : List ℕ} {i : ℕ} (g : Lifting at k m₀ m i) 
       let room : p + 1 < entries_most = omega (arith, g.high) in
       rw e (record {
         high = omega (arith, g.high);
-        len-same = put-length m (p + 1) (get_or m p 0) (get_or m (entries_most + p) 0) ∙ g.len-same;
+        len_same = put-length m (p + 1) (get_or m p 0) (get_or m (entries_most + p) 0) ∙ g.len_same;
         moved = λ j a b. elim (ℕ_discrete j (i - 1)) [
           | yes q ↦
               (let n : at + 1 + j ≡ p + 1 = omega arith in
               let n' : at + j ≡ p = omega arith in
-              rw (n, n') (put_this m (p + 1) (get_or m p 0) (get_or m (entries_most + p) 0) (omega (arith, g.len-same)) room ∙ g.low.same p (omega arith) (omega arith)))
+              rw (n, n') (put_this m (p + 1) (get_or m p 0) (get_or m (entries_most + p) 0) (omega (arith, g.len_same)) room ∙ g.low.same p (omega arith) (omega arith)))
           | no q ↦ put_other m (p + 1) (get_or m p 0) (get_or m (entries_most + p) 0) (at + 1 + j) room (omega arith) (λ z. q (omega arith)) ∙ g.moved j (omega arith) b
         ];
         low = kept_trans (kept-part 0 (at + i + 1) 0 (at + (i - 1) + 1) m₀ m (omega arith) (omega arith) g.low)
@@ -321,7 +320,7 @@ module _ (s : List ℕ) (lo n w x : ℕ) (m : List ℕ) (room : (variables_size 
       let whole = around s m lo n j in_row in
       let t : Sorted (row s m lo j ++ binding_in s (entry m (lo + j)) ∷ row s m (lo + j + 1) (n - j - 1)) = rw whole at sorted in
       rw e (record {
-        len-same = put-length m (lo + j) w x;
+        len_same = put-length m (lo + j) w x;
         is = around s p lo n j in_row ∙ (rw (front, back, this)
             (sym (bind-at (name_in s w) (opnd_from (tag_in w) x) (row s m lo j) (binding_in s (entry m (lo + j))) (row s m (lo + j + 1) (n - j - 1)) t g.is))
             ∙ ap (bind (name_in s w) (opnd_from (tag_in w) x)) (sym whole));
@@ -334,7 +333,7 @@ module _ (s : List ℕ) (lo n w x : ℕ) (m : List ℕ) (room : (variables_size 
   insert_new i m1 m' sought o l e =
       let g = sought.new i o in
       let in_row : i ≤ n = g.inside in
-      let len1 : length m1 ≡ length m = l.len-same in
+      let len1 : length m1 ≡ length m = l.len_same in
       let p = put m1 (lo + i) w x in
       let front : row s p lo i ≡ row s m lo i
       = row_kept s m1 p lo i 0 (lo + i) (kept_put 0 (lo + i) m1 (lo + i) w x (omega arith) (omega arith) (λ j a b z. omega arith)) (omega arith) (omega arith)
@@ -347,7 +346,7 @@ module _ (s : List ℕ) (lo n w x : ℕ) (m : List ℕ) (room : (variables_size 
       let whole = cut s m lo n i in_row in
       let rest : (n + 1) - i - 1 ≡ n - i = omega arith in
       rw e (record {
-        len-same = put-length m1 (lo + i) w x ∙ len1;
+        len_same = put-length m1 (lo + i) w x ∙ len1;
         is = around s p lo (n + 1) i (omega arith) ∙ (rw (front, rest, back, this)
             (sym (bind_between (name_in s w) (opnd_from (tag_in w) x) (row s m lo i) (row s m (lo + i) (n - i)) (below_row s m lo n w i sorted g) g.below))
             ∙ ap (bind (name_in s w) (opnd_from (tag_in w) x)) (sym whole));
@@ -360,17 +359,17 @@ module _ (s : List ℕ) (lo n w x : ℕ) (m : List ℕ) (room : (variables_size 
 pub record Leaving (s : List ℕ) (mark k to : ℕ) (m₀ : List ℕ) (i n : ℕ) (m : List ℕ) : Type 0 where
   pub high : i ≤ k
   pub less : n ≤ i
-  pub len-same : length m ≡ length m₀
+  pub len_same : length m ≡ length m₀
   pub is : row s m to n ≡ env_of (made s m₀ mark i)
   pub low : Kept 0 to m₀ m
 
 pub leave-start : (s : List ℕ) (mark k to : ℕ) (m : List ℕ) → Leaving s mark k to m 0 0 m
 unfolding row made over
-leave-start s mark k to m = record { high = omega arith; less = omega arith; len-same = refl; is = refl; low = kept-all 0 to m }
+leave-start s mark k to m = record { high = omega arith; less = omega arith; len_same = refl; is = refl; low = kept-all 0 to m }
 
 module _ {s : List ℕ} {mark k to : ℕ} {m₀ : List ℕ} {i n : ℕ} {m : List ℕ} (g : Leaving s mark k to m₀ i n m) where
   pub leave-done : k ≤ i → Leaves s mark k to m₀ m n
-  leave-done h = let e : i ≡ k = omega (arith, g.high) in record { len-same = g.len-same; is = rw e at g.is; less = omega (arith, g.less, g.high); low = g.low }
+  leave-done h = let e : i ≡ k = omega (arith, g.high) in record { len_same = g.len_same; is = rw e at g.is; less = omega (arith, g.less, g.high); low = g.low }
 
   pub leave_sorted : Sorted (row s m to n)
   leave_sorted = rw g.is (env_sorted (made s m₀ mark i))
@@ -383,7 +382,7 @@ module _ {s : List ℕ} {mark k to : ℕ} {m₀ : List ℕ} {i n : ℕ} {m : Lis
       record {
         high = omega arith;
         less = omega (arith, g.less, f.more);
-        len-same = f.len-same ∙ g.len-same;
+        len_same = f.len_same ∙ g.len_same;
         is = rw add-one (f.is ∙ (ap (bind (name_in s (entry m (mark + i)).word) (opnd_from (tag_in (entry m (mark + i)).word) (entry m (mark + i)).payload)) g.is
             ∙ ap (λ (z : Entry). bind (name_in s z.word) (opnd_from (tag_in z.word) z.payload) (env_of (made s m₀ mark i))) q));
         low = kept_trans g.low f.low;
@@ -455,11 +454,11 @@ unfolding latest
 noted-blank s m lo n f = record { is = λ p a b c. f.is (p - bindings_most) }
 
 fills-none : (lo n : ℕ) (g : List ℕ) → Fills lo n g g
-fills-none lo n g = record { len-same = refl; more = λ i e. e; before = λ p a b. refl; behind = λ p a. refl }
+fills-none lo n g = record { len_same = refl; more = λ i e. e; before = λ p a b. refl; behind = λ p a. refl }
 
 fills_trans : {lo n : ℕ} {g g' g'' : List ℕ} → Fills lo n g g' → Fills lo n g' g'' → Fills lo n g g''
 fills_trans e f = record {
-  len-same = f.len-same ∙ e.len-same;
+  len_same = f.len_same ∙ e.len_same;
   more = λ i z. e.more i (f.more i z);
   before = λ p a b. f.before p a b ∙ e.before p a b;
   behind = λ p a. f.behind p a ∙ e.behind p a;
@@ -542,7 +541,7 @@ module _ {s m : List ℕ} {lo n i : ℕ} (g : List ℕ) (room : (variables_size 
       pub note_first : Notes s m i lo n g g'
       note_first = record {
         fills = record {
-          len-same = rw e (length-set g (lo - bindings_most + j) (i + 1));
+          len_same = rw e (length-set g (lo - bindings_most + j) (i + 1));
           more = λ q z. elim (ℕ_discrete q (lo - bindings_most + j)) [
             | yes y ↦ rw y v
             | no y ↦ sym (set_there q y) ∙ z
@@ -639,7 +638,7 @@ module _ {s m : List ℕ} {base lo n hi k : ℕ} {g g1 : List ℕ} (place : (bin
 
   pub note_both : {g2 : List ℕ} → NotesRow s m base hi k g1 g2 → NotesBoth s m base lo n hi k g2
   note_both e = record {
-    left = record { is = λ p a b c. e.fills.before p (omega arith) (omega arith) ∙ f.is.is p a b (omega (arith, e.fills.len-same)) };
+    left = record { is = λ p a b c. e.fills.before p (omega arith) (omega arith) ∙ f.is.is p a b (omega (arith, e.fills.len_same)) };
     right = e.is;
   }
 

@@ -1,5 +1,5 @@
 -- Where variables stand in scratch memory: two columns of entries; the bindings come first, the rows set aside behind them. Assumes nothing.
-use Rattle.std.specs.Prelude.{ℕ, ◌+◌, ◌*◌, ◌/◌}
+use Rattle.std.specs.Prelude.{ℕ, ◌*◌, ◌/◌}
 use Rattle.memory.specs.Layout.{script_most}
 
 -- a binding takes at least two bytes of the script; as many rows can be set aside

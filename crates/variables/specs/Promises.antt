@@ -31,13 +31,13 @@ pub record Tagged (w t r : ℕ) : Type 0 where
 
 -- the rules' bind, for any script; what was bound before, and what is set aside, stays
 pub record VariableBinds (n a k t x : ℕ) (m m' : List ℕ) : Type 0 where
-  pub len-same : length m' ≡ length m
+  pub len_same : length m' ≡ length m
   pub is : (s : List ℕ) → vars s m' (n + 1) ≡ bind (name s a k) (opnd_from t x) (vars s m n)
   pub old : Kept 0 n m m'
   pub aside : Kept bindings_most entries_most m m'
 
 pub record BindsAgain (n w t x : ℕ) (m m' : List ℕ) : Type 0 where
-  pub len-same : length m' ≡ length m
+  pub len_same : length m' ≡ length m
   pub is : (s : List ℕ) → vars s m' (n + 1) ≡ bind (name_in s w) (opnd_from t x) (vars s m n)
   pub old : Kept 0 n m m'
   pub aside : Kept bindings_most entries_most m m'
@@ -83,21 +83,21 @@ pub record Sought (s m : List ℕ) (lo n w : ℕ) (r : Spot) : Type 0 where
   pub new : (i : ℕ) → r ≡ Spot.TheVariants.New i → Belongs s m lo n w i
 
 pub record Lifted (at k : ℕ) (m m' : List ℕ) : Type 0 where
-  pub len-same : length m' ≡ length m
+  pub len_same : length m' ≡ length m
   pub moved : (i : ℕ) → i < k → entry m' (at + 1 + i) ≡ entry m (at + i)
   pub low : Kept 0 at m m'
   pub high : Kept (at + k + 1) entries_most m m'
 
 -- the rules' bind, on a row
 pub record Inserts (s : List ℕ) (lo n w x : ℕ) (m m' : List ℕ) (r : ℕ) : Type 0 where
-  pub len-same : length m' ≡ length m
+  pub len_same : length m' ≡ length m
   pub is : row s m' lo r ≡ bind (name_in s w) (opnd_from (tag_in w) x) (row s m lo n)
   pub more : r ≤ n + 1
   pub low : Kept 0 lo m m'
 
 -- the row is what the bindings come to
 pub record Leaves (s : List ℕ) (mark k to : ℕ) (m m' : List ℕ) (r : ℕ) : Type 0 where
-  pub len-same : length m' ≡ length m
+  pub len_same : length m' ≡ length m
   pub is : row s m' to r ≡ env_of (made s m mark k)
   pub less : r ≤ k
   pub low : Kept 0 to m m'
@@ -125,7 +125,7 @@ pub record Noted (s m : List ℕ) (base lo n : ℕ) (g : List ℕ) : Type 0 wher
 
 -- g gets notes for n entries from lo on: none is taken back, and other entries' stay
 pub record Fills (lo n : ℕ) (g g' : List ℕ) : Type 0 where
-  pub len-same : length g' ≡ length g
+  pub len_same : length g' ≡ length g
   pub more : (i : ℕ) → get_or g' i 0 ≡ 0 → get_or g i 0 ≡ 0
   pub before : (p : ℕ) → bindings_most ≤ p → p < lo → get_or g' (p - bindings_most) 0 ≡ get_or g (p - bindings_most) 0
   pub behind : (p : ℕ) → lo + n ≤ p → get_or g' (p - bindings_most) 0 ≡ get_or g (p - bindings_most) 0

@@ -1,5 +1,5 @@
 -- Room for bindings and rows. Assumes nothing.
-use Rattle.std.specs.Prelude.{ℕ, ◌+◌, ◌-◌, ◌*◌, ◌≤◌, ◌<◌}
+use Rattle.std.specs.Prelude.{ℕ, ◌+◌, ◌*◌, ◌≤◌}
 use Rattle.memory.specs.Layout.{script_most}
 use Rattle.variables.specs.Layout.{bindings_most, entries_most}
 

@@ -1,6 +1,6 @@
 -- Scopes: environments in rising order of names, the bindings that they come from, and the join of two of them. Assumes nothing.
 use Rattle.std.specs.Prelude.{ℕ, ◌≡◌, true, List, [], ◌∷◌}
-use Rattle.rules.specs.Actions.{◌>>=◌, ◌>>◌, change}
+use Rattle.rules.specs.Actions.{◌>>=◌, change}
 use Rattle.rules.specs.Lists.{precedes}
 use Rattle.rules.specs.Program.{Limits, Name, Opnd}
 use Rattle.rules.specs.Reading.{Env, Reads, with_env, the_env, bind, all_keys, phi, join_vars}

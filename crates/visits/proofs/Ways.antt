@@ -119,7 +119,7 @@ module _ {s p : List ℕ} {c : Counts} {x : List ℕ} {z : Sizes} {m : List ℕ}
   choice_op o {t} {e} h k = goal.op-at g h ∙ ap (λ (v : R.Opnd). R.Ends (R.IfTrue v t.0 e.0)) (sym k)
 
   pub choice_needs : (o : Opnd) {t e : BlockId} → row.op ≡ O.IfTrue t e → opnd_of o ≡ nth (operands_of p row) 0 → OperandInside z o × ((t.0 < z.blocks) × (e.0 < z.blocks))
-  choice_needs o h k = (goal.opnd-inside g o refl (goal.first_good g (choice_op o h k) refl), goal.arms-below g (choice_op o h k))
+  choice_needs o h k = (goal.opnd_inside g o refl (goal.first_good g (choice_op o h k) refl), goal.arms-below g (choice_op o h k))
 
   pub choice_way : (o : Opnd) {t e : BlockId} {w : List ℕ} {a : Acted} {r : Ruled} → row.op ≡ O.IfTrue t e → opnd_of o ≡ nth (operands_of p row) 0
       → ((j : ℕ) → StateDid z Every (λ L P. leave L P j (R.IfTrue (opnd_of o) t.0 e.0)) m q w a) → r ≡ nothing_of a → Rules z (MachineFits s p c) (rule_of i) m q w r
@@ -129,7 +129,7 @@ module _ {s p : List ℕ} {c : Counts} {x : List ℕ} {z : Sizes} {m : List ℕ}
   return_op o h k = goal.op-at g h ∙ ap (λ (v : R.Opnd). R.Ends (R.Return v)) (sym k)
 
   pub return_needs : (o : Opnd) {f : ℕ} → row.op ≡ O.Return → opnd_of o ≡ nth (operands_of p row) 0 → ReadsBlock p c row.block.0 f → OperandInside z o × (f < z.functions)
-  return_needs o h k b = (goal.opnd-inside g o refl (goal.first_good g (return_op o h k) refl), goal.function-below g b)
+  return_needs o h k b = (goal.opnd_inside g o refl (goal.first_good g (return_op o h k) refl), goal.function-below g b)
 
   pub return_way : (o : Opnd) {f : ℕ} {w : List ℕ} {a : Acted} {r : Ruled} → row.op ≡ O.Return → opnd_of o ≡ nth (operands_of p row) 0 → ReadsBlock p c row.block.0 f
       → ((j : ℕ) → StateDid z (FunctionIs j f) (λ L P. leave L P j (R.Return (opnd_of o))) m q w a) → r ≡ nothing_of a → Rules z (MachineFits s p c) (rule_of i) m q w r
@@ -207,7 +207,7 @@ module _ {s p : List ℕ} {c : Counts} {x : List ℕ} {z : Sizes} {m : List ℕ}
     send-op = goal.op-at g h ∙ ap (λ (v : R.Opnd). R.Send (R.Dynamic v (name_in s n)) (drop 1 (operands_of p row))) (sym eo)
 
     pub send-needs : Calling z p c x i × OperandInside z o
-    send-needs = (call_calling (ap (λ (y : R.Op). has (about y).callee) send-op), goal.opnd-inside g o refl (goal.first_good g send-op refl))
+    send-needs = (call_calling (ap (λ (y : R.Op). has (about y).callee) send-op), goal.opnd_inside g o refl (goal.first_good g send-op refl))
 
     send-fits : (P : Program) (v : Attrs) → MachineFits s p c P v → CallsIn s p c i k P v
     send-fits P v t = record { program = t.is; call = ap (λ (y : R.Op). has (about y).callee) send-op; args = args_are s p c i g.read ek }
@@ -229,7 +229,7 @@ module _ {s p : List ℕ} {c : Counts} {x : List ℕ} {z : Sizes} {m : List ℕ}
     compute_op {o} h = goal.op-at g h ∙ ap (λ (y : R.Opnd). R.Compute o y (nth (operands_of p row) 1)) (sym ev) ∙ ap (R.Compute o (opnd_of v)) (sym ew)
 
     pub compute_needs : {o : Arith} → row.op ≡ O.Compute o → OperandInside z v × OperandInside z w
-    compute_needs h = (goal.opnd-inside g v refl (goal.first_good g (compute_op h) refl), goal.opnd-inside g w refl (goal.second-good g (compute_op h) refl))
+    compute_needs h = (goal.opnd_inside g v refl (goal.first_good g (compute_op h) refl), goal.opnd-inside g w refl (goal.second-good g (compute_op h) refl))
 
     pub compute_way : {o : Arith} {j : Joined} {r : Ruled} → row.op ≡ O.Compute o → ((n : ℕ) → StateReads z Every (λ L P. rule L P n (R.Compute o (opnd_of v) (opnd_of w))) m j) → r ≡ kind_of q j
         → Rules z (MachineFits s p c) (rule_of i) m q m r
@@ -239,7 +239,7 @@ module _ {s p : List ℕ} {c : Counts} {x : List ℕ} {z : Sizes} {m : List ℕ}
     phi-op {b} {e} h = goal.op-at g h ∙ ap (λ (y : R.Opnd). R.Phi b.0 y e.0 (nth (operands_of p row) 1)) (sym ev) ∙ ap (R.Phi b.0 (opnd_of v) e.0) (sym ew)
 
     pub phi-needs : {b e : BlockId} → row.op ≡ O.Phi b e → (OperandInside z v × OperandInside z w) × ((b.0 < z.blocks) × (e.0 < z.blocks))
-    phi-needs h = ((goal.opnd-inside g v refl (goal.first_good g (phi-op h) refl), goal.opnd-inside g w refl (goal.second-good g (phi-op h) refl)), goal.sides-below g (phi-op h))
+    phi-needs h = ((goal.opnd_inside g v refl (goal.first_good g (phi-op h) refl), goal.opnd-inside g w refl (goal.second-good g (phi-op h) refl)), goal.sides-below g (phi-op h))
 
     pub phi_way : {b e : BlockId} {j : Joined} {r : Ruled} → row.op ≡ O.Phi b e → ((n : ℕ) → StateReads z Every (λ L P. rule L P n (R.Phi b.0 (opnd_of v) e.0 (opnd_of w))) m j)
         → r ≡ kind_of q j → Rules z (MachineFits s p c) (rule_of i) m q m r
@@ -252,7 +252,7 @@ module _ {s p : List ℕ} {c : Counts} {x : List ℕ} {z : Sizes} {m : List ℕ}
 
     pub set-needs : {n : Name} → row.op ≡ O.SetIvar n → (OperandInside z v × OperandInside z w) × ReceiverWithin z m v
     set-needs h = (
-      (goal.opnd-inside g v refl (goal.first_good g (set-op h) refl), goal.opnd-inside g w refl (goal.second-good g (set-op h) refl)),
+      (goal.opnd_inside g v refl (goal.first_good g (set-op h) refl), goal.opnd-inside g w refl (goal.second-good g (set-op h) refl)),
       goal.opnd-within g v refl (goal.first_good g (set-op h) refl),
     )
 
@@ -285,7 +285,7 @@ module _ {s p : List ℕ} {c : Counts} {x : List ℕ} {z : Sizes} {m : List ℕ}
     get_op = goal.op-at g h ∙ ap (R.GetIvar (name_in s n)) (sym eo)
 
     pub get_needs : OperandInside z o × ReceiverWithin z m o
-    get_needs = (goal.opnd-inside g o refl (goal.first_good g get_op refl), goal.opnd-within g o refl (goal.first_good g get_op refl))
+    get_needs = (goal.opnd_inside g o refl (goal.first_good g get_op refl), goal.opnd-within g o refl (goal.first_good g get_op refl))
 
     pub get_within : {w : List ℕ} {a : Acted} {b : Regs} → StateDid z Every (λ L P. mark_reads i (opnd_of o)) m q w a → a ≡ W.On b → ReceiverWithin z w o
     get_within d e = within-kept (marked-kinds i o (rw e at d)) get_needs.1

@@ -1,9 +1,5 @@
 -- `chains::build_index` meets its contract. Assumes nothing.
 use Rattle.chains.proofs.Whole.{index_is}
-use borrow.Author.Rules.{rules}
-use Rattle.chains.proofs.build_index.Reads as reads
-use Rattle.chains.proofs.build_index.Lts as lts
-use Rattle.chains.proofs.chain.Reads as chain-reads
 use Rattle.chains.proofs.build_index.Goals as goal
 
 pub returns : goal.returns

@@ -1,13 +1,7 @@
 -- `chains::chain` meets its contract. Assumes nothing.
-use Rattle.chains.proofs.Laws.{Chaining, chain_start, chain_skip, chain_more, chain_done}
+use Rattle.chains.proofs.Laws.{chain_start, chain_skip, chain_more, chain_done}
 use native.Mathlib.Omega.{arith}
-use mathlib.Core.Path.{◌∙◌}
-use lib.ListN.{length, length-set}
-use borrow.Author.Rules.{rules}
-use Rattle.chains.proofs.chain.Reads as reads
-use Rattle.chains.proofs.chain.Lts as lts
-use Rattle.chains.proofs.fill.Reads as fill-reads
-use Rattle.chains.proofs.key_of.Reads as key-of-reads
+use lib.ListN.{length-set}
 use Rattle.chains.proofs.chain.Goals as goal
 
 pub loop-i-init : goal.loop-i-init

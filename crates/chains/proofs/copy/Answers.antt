@@ -1,8 +1,6 @@
 -- `chains::copy` meets its contract. Assumes nothing.
-use Rattle.chains.proofs.Carry.{Copying, copy_start, copy_more, copy_done}
-use Prim.Native.Nat.{◌-◌}
+use Rattle.chains.proofs.Carry.{copy_start, copy_more, copy_done}
 use native.Mathlib.Omega.{arith}
-use borrow.Author.Rules.{rules}
 use Rattle.chains.proofs.copy.Goals as goal
 
 pub loop-i-init : goal.loop-i-init

@@ -1,8 +1,6 @@
 -- What the loop of `chains::copy` keeps.
-use Rattle.chains.proofs.Carry.{Copying, copy_start, copy_more, copy_done}
+use Rattle.chains.proofs.Carry.{Copying}
 use Prim.Native.Nat.{◌-◌}
-use native.Mathlib.Omega.{arith}
-use borrow.Author.Rules.{rules}
 use Rattle.chains.proofs.copy.Given as goal
 
 abbrev pub invariant-loop-i : goal.invariant-loop-i

@@ -1,7 +1,5 @@
 -- `chains::copy_index` meets its contract. Assumes nothing.
 use Rattle.chains.proofs.Carry.{index-carried}
-use mathlib.Core.Path.{refl}
-use borrow.Author.Rules.{rules}
 use Rattle.chains.proofs.copy_index.Goals as goal
 
 pub returns : goal.returns

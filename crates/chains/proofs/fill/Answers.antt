@@ -1,12 +1,6 @@
 -- `chains::fill` meets its contract. Assumes nothing.
-use Rattle.chains.proofs.Laws.{Filling, fill_start, fill_more, fill_done}
+use Rattle.chains.proofs.Laws.{fill_start, fill_more, fill_done}
 use native.Mathlib.Omega.{arith}
-use mathlib.Core.Path.{◌∙◌}
-use Prim.Native.Nat.{◌-◌}
-use lib.ListN.{length, length-set}
-use borrow.Author.Rules.{rules}
-use Rattle.chains.proofs.fill.Reads as reads
-use Rattle.chains.proofs.fill.Lts as lts
 use Rattle.chains.proofs.fill.Goals as goal
 
 pub loop-i-init : goal.loop-i-init

@@ -1,11 +1,5 @@
 -- `chains::key_of` meets its contract. Assumes nothing.
 use Rattle.chains.proofs.Laws.{key_code, key_param, key_no_param, key_return, key_no_return, key_inside}
-use borrow.Author.Rules.{rules}
-use Rattle.chains.proofs.key_of.Reads as reads
-use Rattle.chains.proofs.key_of.Lts as lts
-use Rattle.chains.proofs.is_param.Reads as is-param-reads
-use Rattle.chains.proofs.is_return.Reads as is-return-reads
-use Rattle.program.proofs.read_insn.Reads as read-insn-reads
 use Rattle.chains.proofs.key_of.Goals as goal
 
 pub returns-then-sort-eq0 : goal.returns-then-sort-eq0

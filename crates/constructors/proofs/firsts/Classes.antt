@@ -1,5 +1,5 @@
 -- The classes one after the other. Assumes nothing.
-use mathlib.Core.Bool.{Bool as 𝔹, true, false, cond}
+use mathlib.Core.Bool.{Bool as 𝔹, false, cond}
 use mathlib.Core.Path.{◌≡◌, refl, sym, ap, ap₂, ◌∙◌}
 use mathlib.Core.List.{List, [], ◌∷◌, ◌++◌}
 use Prim.Native.Nat.{ℕ, zero, suc, ◌+◌, ◌*◌, ◌≤◌, ◌<◌}
@@ -10,9 +10,9 @@ use lib.Dec.{eqb}
 use lib.ListN.{length, get_or}
 use mir.Syntax.{w32}
 use mir.Val.{Fits}
-use Rattle.kinds.specs.Kinds.{kind_from, kind_at, kinds_at}
+use Rattle.kinds.specs.Kinds.{kind_from, kinds_at}
 use Rattle.kinds.specs.declared.Kind.{Kind}
-use Rattle.rules.specs.Actions.{Answer, answered, refused, if_answered}
+use Rattle.rules.specs.Actions.{answered, refused}
 use Rattle.rules.specs.Program.{Limits, Program}
 use Rattle.rules.specs.Constructors.{first_kinds}
 use Rattle.rules.specs.Machine.{first_kinds_from}

@@ -7,11 +7,11 @@ use Prim.Native.Nat.{ℕ, zero, suc, ◌+◌, ◌-◌, ◌*◌, ◌/◌, ◌%◌
 use native.Mathlib.Decide.{ℕ_discrete}
 use native.Mathlib.Omega.{arith}
 use lib.Dec.{eqb}
-use lib.ListN.{length, get_or, set, length-set}
+use lib.ListN.{length, set, length-set}
 use lib.Seq.{get_or-set_same, get_or-set_other}
 use Rattle.kinds.specs.Kinds.{kind_from, kind_at, kinds_at}
 use Rattle.kinds.specs.declared.Kind.{Kind}
-use Rattle.kinds.specs.declared.Kind.TheVariants.{Empty, Nil}
+use Rattle.kinds.specs.declared.Kind.TheVariants.{Nil}
 use Rattle.ids.specs.declared.FunId.{FunId}
 use Rattle.rules.specs.Actions.{Answer, answered, refused}
 use Rattle.rules.specs.Lists.{bytes, same, is_just, cons_if, has, first, places_from}
@@ -20,7 +20,7 @@ use Rattle.rules.specs.Program.{Program, method_named, constructor_of, entry, cl
 use Rattle.rules.specs.Constructors.{first_kind, first_kinds, reverse_post_order, declared, initialized}
 use Rattle.program.specs.Tab.{tab}
 use Rattle.program.specs.Rows.{fun_at, function_in, ivars_of, class_at}
-use Rattle.program.specs.View.{program_view, ProgramReady, classes_of, functions_of}
+use Rattle.program.specs.View.{program_view, classes_of, functions_of}
 use Rattle.program.specs.declared.Counts.{Counts}
 use Rattle.program.specs.declared.Name.{Name}
 use Rattle.program.specs.declared.Function.{Function}
@@ -31,9 +31,9 @@ use Rattle.lookups.specs.Look.{constructor_found, Constructs}
 use Rattle.memory.specs.Layout.{ivars_most}
 use Rattle.constructors.specs.declared.Sure.{Sure}
 use Rattle.constructors.specs.declared.Sure.TheVariants as Q
-use Rattle.constructors.specs.Flows.{holds, ivar_in, FlowTold, sure_in, SureIs, FlowAnalyzed}
+use Rattle.constructors.specs.Flows.{holds, ivar_in, sure_in, SureIs, FlowAnalyzed}
 use Rattle.constructors.proofs.Meeting.{holds-none}
-use Rattle.constructors.specs.firsts.Firsts.{start_of, FirstsOnly, PutsKinds, Entries, outcome, FirstIs}
+use Rattle.constructors.specs.firsts.Firsts.{start_of, FirstsOnly, PutsKinds, Entries, FirstIs}
 
 -- ---- kinds put
 

@@ -1,5 +1,5 @@
 -- The first kinds of a class's attributes in a table. Assumes nothing.
-use Rattle.std.specs.Prelude.{Bool as 𝔹, true, false, cond, ◌≡◌, List, [], ◌∷◌, ℕ, ◌+◌, ◌*◌, ◌≤◌, ◌<◌, eqb, length, get_or}
+use Rattle.std.specs.Prelude.{Bool as 𝔹, true, false, cond, ◌≡◌, List, ℕ, ◌+◌, ◌*◌, ◌≤◌, ◌<◌, eqb, length, get_or}
 use Rattle.kinds.specs.Kinds.{kinds_at}
 use Rattle.kinds.specs.declared.Kind.{Kind}
 use Rattle.kinds.specs.declared.Kind.TheVariants.{Empty, Nil}

@@ -10,7 +10,6 @@ use Rattle.ids.specs.declared.ClassId.{ClassId}
 use Rattle.ids.specs.declared.FunId.{FunId}
 use Rattle.kinds.specs.declared.Kind.{Kind}
 use Rattle.kinds.specs.declared.Kind.TheVariants.{Nil, Truth}
-use Rattle.kinds.specs.declared.Kind.TheVariants as Kind
 use Rattle.rules.specs.Actions.{answered, refused, if◌then◌else◌, refuse}
 use Rattle.rules.specs.Lists.{bytes, same}
 use Rattle.rules.specs.Values.{fun_kind, class_kind, class_in}
@@ -28,17 +27,12 @@ use Rattle.program.specs.declared.Op.TheVariants.{New}
 use Rattle.program.specs.declared.Given.TheVariants.{Zero}
 use Rattle.program.specs.declared.Callee.TheVariants.{Dynamic}
 use Rattle.program.specs.declared.Owner.{Owner}
-use Rattle.program.specs.declared.Owner.TheVariants as Owner
 use Rattle.lookups.specs.Look.{fun_found, constructor_found, class_found, Constructs, LookKnown}
 use Rattle.lookups.specs.declared.FoundFun.{FoundFun}
-use Rattle.lookups.specs.declared.FoundFun.TheVariants as FoundFun
 use Rattle.lookups.specs.declared.FoundClass.{FoundClass}
-use Rattle.lookups.specs.declared.FoundClass.TheVariants as FoundClass
 use Rattle.lookups.specs.declared.Constructor.{Constructor}
-use Rattle.lookups.specs.declared.Constructor.TheVariants as Constructor
 use Rattle.phis.specs.Joining.{PhisSets, PhisFinds, var_of}
 use Rattle.phis.specs.declared.Var.{Var}
-use Rattle.phis.specs.declared.Var.TheVariants as Var
 use Rattle.memory.specs.Layout.{operands_most}
 use Rattle.variables.specs.Layout.{entries_most}
 use Rattle.cursor.specs.Layout.{stack_at}
@@ -77,7 +71,7 @@ module _ (s : List ℕ) (n : Name) (v : Opnd) (c : Cursor) (w : List ℕ) {b : B
         is = λ m. rw (f, x.is s, sym q ∙ e);
         ok = record {
           cur = f;
-          long = x.len-same;
+          long = x.len_same;
           old = λ i l. x.old.same i (omega arith) l;
           rows = λ i l h. x.aside.same i l h;
           stack = λ i l. x.aside.beyond i l;

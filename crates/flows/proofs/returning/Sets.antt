@@ -54,11 +54,11 @@ module _ (m : List ℕ) (c : Counts) (j : ℕ) (r : ProgramReady m c) (below : j
     is = λ h.
         let e : opnds_at + 2 * first ≡ opnds_at + 2 * first + 2 * 0 = omega arith in
         returned-some m c j (insn_read j r below refl) (operand_read m (opnds_at + 2 * first) count 0 lt (stands m h ∙ ap (opnd_at m) e));
-    inside = let a = row-range m c j r below in let b = r.len-mem in omega arith;
+    inside = let a = row-range m c j r below in let b = r.len_mem in omega arith;
   }
 
   pub return_none : ReturnsAt m c j 0
-  return_none = record { is = λ h. absurd (h refl); inside = let b = r.len-mem in omega arith }
+  return_none = record { is = λ h. absurd (h refl); inside = let b = r.len_mem in omega arith }
 
 -- ---- join_returns at its loop's head
 

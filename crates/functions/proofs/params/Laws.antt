@@ -1,8 +1,7 @@
 -- What each way through the functions shows, on plain values. Assumes nothing.
-use mathlib.Core.Bool.{Bool as 𝔹, true, false}
 use mathlib.Core.Path.{◌≡◌, refl, sym, ap, ◌∙◌}
 use mathlib.Core.List.{List, [], ◌∷◌, ◌++◌}
-use mathlib.Core.Option.{none, some}
+use mathlib.Core.Option.{some}
 use Prim.Native.Nat.{ℕ, zero, suc, ◌+◌, ◌-◌, ◌*◌, ◌≤◌, ◌<◌}
 use native.Mathlib.Numerals.{add-one}
 use native.Mathlib.Omega.{arith}
@@ -14,14 +13,11 @@ use Rattle.ids.specs.declared.FunId.{FunId}
 use Rattle.ids.specs.declared.InsnId.{InsnId}
 use Rattle.rules.specs.Actions.{Answer, answered, refused, if_answered, again, ends, loop}
 use Rattle.rules.specs.Program as P
-use Rattle.rules.specs.Reading as R
-use Rattle.rules.specs.Reading.{Parser, Reads, with_env, with_self, bind, push, push_insn, parse_param, turns, push_params, push_self, new_fun}
+use Rattle.rules.specs.Reading.{Parser, with_env, with_self, bind, push, parse_param, turns, push_params, push_self}
 use Rattle.variables.specs.Scopes.{env_of}
-use Rattle.variables.specs.Memory.{entry, made, vars, Kept}
+use Rattle.variables.specs.Memory.{entry, vars}
 use Rattle.variables.proofs.Entries.{made_move, kept-all, kept_trans, kept-part}
 use Rattle.phis.specs.Joining.{PhisSets}
-use Rattle.lexer.specs.Names.{name}
-use Rattle.lexer.specs.Lexed.{word_in}
 use Rattle.lexer.specs.declared.Lexed.{Lexed}
 use Rattle.lexer.specs.declared.Lexed.TheVariants as W
 use Rattle.lexer.specs.declared.Word.{Word}
@@ -37,28 +33,24 @@ use Rattle.program.specs.declared.NewInsn.TheVariants as I
 use Rattle.program.specs.declared.Op.TheVariants as Op
 use Rattle.program.specs.declared.Opnd.TheVariants.{Insn}
 use Rattle.program.specs.declared.Owner.{Owner}
-use Rattle.program.specs.declared.Owner.TheVariants as Owner
 use Rattle.cursor.specs.Cursor.{parser_of, move_cur, count_cur, stack_cur, bind_cur}
-use Rattle.cursor.specs.Promises.{Out, done, stop, outcome, Sees, Idents, CursorMatches, moved_of, ident_of, matched_of}
+use Rattle.cursor.specs.Promises.{outcome, Sees, Idents, CursorMatches, moved_of}
 use Rattle.cursor.specs.declared.Cursor.{Cursor}
 use Rattle.cursor.specs.declared.Ident.{Ident}
-use Rattle.cursor.specs.declared.Ident.TheVariants as Ident
 use Rattle.cursor.specs.declared.Matched.{Matched}
 use Rattle.cursor.specs.declared.Matched.TheVariants as M
 use Rattle.cursor.specs.declared.Moved.{Moved}
 use Rattle.cursor.specs.declared.Moved.TheVariants.{On, Refused}
 use Rattle.cursor.specs.declared.SelfAt.{SelfAt}
-use Rattle.cursor.specs.declared.SelfAt.TheVariants as SelfAt
 use Rattle.cursor.proofs.Wording.{spelt_close, spelt_comma, is-yes, is_no, word_read, peek-found, peek-none}
 use Rattle.cursor.proofs.Laws.{ident_on}
 use Rattle.memory.specs.Layout.{operands_most}
 use Rattle.variables.specs.Layout.{bindings_most, entries_most}
 use Rattle.cursor.specs.Layout.{stack_at, scratch_size}
 use Rattle.functions.specs.declared.params.OpenedFun.{OpenedFun}
-use Rattle.functions.specs.declared.params.OpenedFun.TheVariants as OpenedFun
 use Rattle.functions.specs.params.Names.{name_at, names_from, names_in, Lie, param_of}
-use Rattle.functions.specs.params.Promises.{receive_cur, enter_cur, PutsName, Head, Named, names_of, Params, ParamsRoom, Bound, BoundIf, PushesParam, ParamsFilled, PushesParams, Received}
-use Rattle.functions.specs.params.Promises.{PushesSelf, Entered, Funs}
+use Rattle.functions.specs.params.Promises.{receive_cur, enter_cur, PutsName, Head, Params, ParamsRoom, Bound, PushesParam, ParamsFilled, PushesParams}
+use Rattle.functions.specs.params.Promises.{PushesSelf, Funs}
 
 -- ---- names
 
@@ -316,7 +308,7 @@ module _ (l : Limits) (k : ℕ) {m w : List ℕ} {c : Cursor} (g : ParamsRoom k 
           blocks = ap (λ (z : Counts). z.blocks) ok.counts;
           low = v.old;
           rows = v.aside;
-          long = v.len-same;
+          long = v.len_same;
         };
       })
 

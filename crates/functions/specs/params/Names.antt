@@ -1,6 +1,6 @@
 -- The names of parameters, which wait where call arguments do. Assumes nothing.
 use Rattle.std.specs.Prelude.{List, [], ◌∷◌, ℕ, zero, suc, ◌+◌, ◌*◌, ◌≤◌, ◌<◌, length, get_or}
-use Rattle.rules.specs.Actions.{◌>>=◌, ◌>>◌, change}
+use Rattle.rules.specs.Actions.{◌>>=◌, change}
 use Rattle.rules.specs.Program as P
 use Rattle.rules.specs.Reading.{Reads, with_env, the_env, bind, push}
 use Rattle.lexer.specs.Names.{name}

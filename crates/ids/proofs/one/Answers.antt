@@ -1,5 +1,4 @@
 -- `ids::one` meets its contract. Assumes nothing.
-use borrow.Author.Rules.{rules}
 use Rattle.ids.proofs.Bits.{one_shl}
 use Rattle.ids.proofs.one.Goals as goal
 

@@ -1,7 +1,6 @@
 -- `ids::two` meets its contract. Assumes nothing.
 use mathlib.Core.Path.{ap₂}
 use lib.Bits.{bit_or}
-use borrow.Author.Rules.{rules}
 use Rattle.ids.proofs.two.Goals as goal
 
 pub returns : goal.returns

@@ -2,7 +2,6 @@
 use Rattle.kinds.proofs.Steps.{told, by_int, by_other, by_refusal}
 use Rattle.kinds.specs.Union.{union_of}
 use mathlib.Core.Path.{sym, ◌∙◌}
-use borrow.Author.Rules.{rules}
 use Rattle.kinds.proofs.by_union.Goals as goal
 
 pub returns-then-same : goal.returns-then-same

@@ -2,7 +2,6 @@
 use Rattle.kinds.specs.Union.{join_of}
 use Rattle.kinds.specs.declared.Joined.{Joined}
 use mathlib.Core.Path.{sym, ap, ◌∙◌}
-use borrow.Author.Rules.{rules}
 use Rattle.kinds.proofs.join.Goals as goal
 
 pub returns-in-Of : goal.returns-in-Of

@@ -6,7 +6,6 @@ use mir.ValLaws.{to_z-of_z}
 use mir.Syntax.{w64}
 use Prim.Native.Nat.{ℕ}
 use mathlib.Core.Path.{sym, ap, ◌∙◌}
-use borrow.Author.Rules.{rules}
 use Rattle.kinds.proofs.kind_from.Goals as goal
 
 pub returns-in-0 : goal.returns-in-0

@@ -1,6 +1,5 @@
 -- `kinds::mix` meets its contract. Assumes nothing.
 use Rattle.kinds.proofs.Steps.{told, told_and, mix_same, mix_number, mix_truth, mix_set}
-use borrow.Author.Rules.{rules}
 use Rattle.kinds.proofs.mix.Goals as goal
 
 pub returns-then-same : goal.returns-then-same

@@ -6,7 +6,6 @@ use Rattle.kinds.specs.declared.Kind.TheVariants.{Truth}
 use mir.ValLaws.{to_z-of_z}
 use mir.Syntax.{w64}
 use mathlib.Core.Path.{sym, ap, ap₂, ◌∙◌}
-use borrow.Author.Rules.{rules}
 use Rattle.kinds.proofs.result_of.Goals as goal
 
 pub returns-in-Add : goal.returns-in-Add

@@ -3,7 +3,6 @@ use Rattle.kinds.proofs.Laws.{sets-join}
 use mathlib.Core.Path.{sym, ap, ◌∙◌}
 use Rattle.kinds.specs.declared.Kind.{Kind}
 use Rattle.kinds.specs.Union.{union_of}
-use borrow.Author.Rules.{rules}
 use Rattle.kinds.proofs.union.Goals as goal
 
 pub returns-in-Objects-b : goal.returns-in-Objects-b

@@ -1,6 +1,5 @@
 -- `kinds::union_of` meets its contract. Assumes nothing.
 use Rattle.kinds.proofs.Steps.{told, told_or, not-alone, union-any, union_left, union_right, union-name, union_mix}
-use borrow.Author.Rules.{rules}
 use Rattle.kinds.proofs.union_of.Goals as goal
 
 pub returns-then-is_any : goal.returns-then-is_any

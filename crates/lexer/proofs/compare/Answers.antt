@@ -1,7 +1,5 @@
 -- `lexer::compare` meets its contract. Assumes nothing.
-use Prim.Native.Nat.{◌-◌}
-use Rattle.lexer.proofs.Names.{Comparing, cmp_start, cmp_longer, cmp_below, cmp_above, cmp_more, cmp_same, cmp_shorter}
-use borrow.Author.Rules.{rules}
+use Rattle.lexer.proofs.Names.{cmp_start, cmp_longer, cmp_below, cmp_above, cmp_more, cmp_same, cmp_shorter}
 use Rattle.lexer.proofs.compare.Goals as goal
 
 pub loop-i-init : goal.loop-i-init

@@ -1,7 +1,6 @@
 -- What the loop of `lexer::compare` keeps.
 use Prim.Native.Nat.{◌-◌}
-use Rattle.lexer.proofs.Names.{Comparing, cmp_start, cmp_longer, cmp_below, cmp_above, cmp_more, cmp_same, cmp_shorter}
-use borrow.Author.Rules.{rules}
+use Rattle.lexer.proofs.Names.{Comparing}
 use Rattle.lexer.proofs.compare.Given as goal
 
 abbrev pub invariant-loop-i : goal.invariant-loop-i

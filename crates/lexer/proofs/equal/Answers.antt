@@ -1,8 +1,5 @@
 -- `lexer::equal` meets its contract. Assumes nothing.
-use Prim.Native.Nat.{◌-◌}
-use Rattle.lexer.proofs.Names.{Comparing}
 use Rattle.lexer.proofs.Same.{eq_start, eq_differ, eq_more, eq_done, eq_apart}
-use borrow.Author.Rules.{rules}
 use Rattle.lexer.proofs.equal.Goals as goal
 
 pub loop-i-init : goal.loop-i-init

@@ -1,8 +1,6 @@
 -- What the loop of `lexer::equal` keeps.
 use Prim.Native.Nat.{◌-◌}
 use Rattle.lexer.proofs.Names.{Comparing}
-use Rattle.lexer.proofs.Same.{eq_start, eq_differ, eq_more, eq_done, eq_apart}
-use borrow.Author.Rules.{rules}
 use Rattle.lexer.proofs.equal.Given as goal
 
 abbrev pub invariant-loop-i : goal.invariant-loop-i

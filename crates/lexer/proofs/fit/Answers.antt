@@ -1,6 +1,5 @@
 -- `lexer::fit` meets its contract. Assumes nothing.
 use Rattle.lexer.proofs.Names.{fit_in, fit_cut, fit_none}
-use borrow.Author.Rules.{rules}
 use Rattle.lexer.proofs.fit.Goals as goal
 
 pub returns-then-n-rest : goal.returns-then-n-rest

@@ -1,5 +1,4 @@
 -- `lexer::is_in_word` meets its contract. Assumes nothing.
-use borrow.Author.Rules.{rules}
 use Rattle.lexer.proofs.is_in_word.Goals as goal
 
 pub returns : goal.returns

@@ -1,6 +1,5 @@
 -- `lexer::kept_kind` meets its contract. Assumes nothing.
 use Rattle.lexer.proofs.Same.{kept_at, kept_three, kept-none}
-use borrow.Author.Rules.{rules}
 use Rattle.lexer.proofs.kept_kind.Goals as goal
 
 pub returns-in-2 : goal.returns-in-2

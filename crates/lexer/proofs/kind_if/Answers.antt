@@ -1,5 +1,4 @@
 -- `lexer::kind_if` meets its contract. Assumes nothing.
-use borrow.Author.Rules.{rules}
 use Rattle.lexer.proofs.kind_if.Goals as goal
 
 pub returns-then-spells : goal.returns-then-spells

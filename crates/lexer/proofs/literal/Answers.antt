@@ -1,7 +1,5 @@
 -- `lexer::literal` meets its contract. Assumes nothing.
-use Prim.Native.Nat.{◌-◌}
-use Rattle.lexer.proofs.Runs.{Counting, lit_start, lit_tens, lit_over, lit_more, lit_done}
-use borrow.Author.Rules.{rules}
+use Rattle.lexer.proofs.Runs.{lit_start, lit_tens, lit_over, lit_more, lit_done}
 use Rattle.lexer.proofs.literal.Goals as goal
 
 pub loop-i-init : goal.loop-i-init

@@ -1,7 +1,6 @@
 -- What the loop of `lexer::literal` keeps.
 use Prim.Native.Nat.{◌-◌}
-use Rattle.lexer.proofs.Runs.{Counting, lit_start, lit_tens, lit_over, lit_more, lit_done}
-use borrow.Author.Rules.{rules}
+use Rattle.lexer.proofs.Runs.{Counting}
 use Rattle.lexer.proofs.literal.Given as goal
 
 abbrev pub invariant-loop-i : goal.invariant-loop-i

@@ -1,6 +1,5 @@
 -- `lexer::precedes_name` meets its contract. Assumes nothing.
 use Rattle.lexer.proofs.Names.{precedes-is}
-use borrow.Author.Rules.{rules}
 use Rattle.lexer.proofs.precedes_name.Goals as goal
 
 pub returns : goal.returns

@@ -1,6 +1,5 @@
 -- `lexer::sign_at` meets its contract. Assumes nothing.
 use Rattle.lexer.proofs.Lexes.{glance_end, glance_letter, glance_digit, glance_over, glance_sign, glance_none}
-use borrow.Author.Rules.{rules}
 use Rattle.lexer.proofs.sign_at.Goals as goal
 
 pub returns-then-script-start : goal.returns-then-script-start

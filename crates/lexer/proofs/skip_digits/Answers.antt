@@ -1,10 +1,7 @@
 -- `lexer::skip_digits` meets its contract. Assumes nothing.
-use Prim.Native.Nat.{◌-◌}
-use lib.ListN.{length}
 use mathlib.Core.Path.{refl}
 use Rattle.rules.specs.Words.{digit}
-use Rattle.lexer.proofs.Runs.{Skipping, skip-more, skip-ends, skip_out}
-use borrow.Author.Rules.{rules}
+use Rattle.lexer.proofs.Runs.{skip-more, skip-ends, skip_out}
 use Rattle.lexer.proofs.skip_digits.Goals as goal
 
 pub loop-i-init : goal.loop-i-init

@@ -1,10 +1,8 @@
 -- What the loop of `lexer::skip_digits` keeps.
 use Prim.Native.Nat.{◌-◌}
 use lib.ListN.{length}
-use mathlib.Core.Path.{refl}
 use Rattle.rules.specs.Words.{digit}
-use Rattle.lexer.proofs.Runs.{Skipping, skip-more, skip-ends, skip_out}
-use borrow.Author.Rules.{rules}
+use Rattle.lexer.proofs.Runs.{Skipping}
 use Rattle.lexer.proofs.skip_digits.Given as goal
 
 abbrev pub invariant-loop-i : goal.invariant-loop-i

@@ -1,6 +1,5 @@
 -- `lexer::spells` meets its contract. Assumes nothing.
 use Rattle.lexer.proofs.Same.{spells_is}
-use borrow.Author.Rules.{rules}
 use Rattle.lexer.proofs.spells.Goals as goal
 
 pub returns : goal.returns

@@ -1,6 +1,5 @@
 -- `lexer::word_at` meets its contract. Assumes nothing.
 use Rattle.lexer.proofs.Lexes.{word_end, word-letter, word-digit, word_over, word-sign, word_none}
-use borrow.Author.Rules.{rules}
 use Rattle.lexer.proofs.word_at.Goals as goal
 
 pub returns-then-script-start : goal.returns-then-script-start

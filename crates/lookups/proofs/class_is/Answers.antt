@@ -1,6 +1,5 @@
 -- `lookups::class_is` meets its contract. Assumes nothing.
 use Rattle.lookups.proofs.Rows.{is-class}
-use borrow.Author.Rules.{rules}
 use Rattle.lookups.proofs.class_is.Goals as goal
 
 pub returns : goal.returns

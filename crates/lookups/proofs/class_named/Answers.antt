@@ -1,9 +1,6 @@
 -- `lookups::class_named` meets its contract. Assumes nothing.
-use Rattle.program.specs.Rows.{name_in, class_at}
-use Rattle.lookups.specs.Look.{is_class}
-use Rattle.lookups.proofs.Finds.{Latest, latest-start, latest-more}
+use Rattle.lookups.proofs.Finds.{latest-start, latest-more}
 use Rattle.lookups.proofs.Rows.{class-none, class_hit}
-use borrow.Author.Rules.{rules}
 use Rattle.lookups.proofs.class_named.Goals as goal
 
 pub loop-i-init : goal.loop-i-init

@@ -1,9 +1,7 @@
 -- What the loop of `lookups::class_named` keeps.
 use Rattle.program.specs.Rows.{name_in, class_at}
 use Rattle.lookups.specs.Look.{is_class}
-use Rattle.lookups.proofs.Finds.{Latest, latest-start, latest-more}
-use Rattle.lookups.proofs.Rows.{class-none, class_hit}
-use borrow.Author.Rules.{rules}
+use Rattle.lookups.proofs.Finds.{Latest}
 use Rattle.lookups.proofs.class_named.Given as goal
 
 abbrev pub invariant-loop-i : goal.invariant-loop-i

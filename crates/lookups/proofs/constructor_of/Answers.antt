@@ -1,10 +1,6 @@
 -- `lookups::constructor_of` meets its contract. Assumes nothing.
-use Prim.Native.Nat.{◌-◌}
-use Rattle.rules.specs.Lists.{bytes}
-use Rattle.lookups.specs.Look.{is_method, fun_row}
-use Rattle.lookups.proofs.Finds.{First, first_more}
+use Rattle.lookups.proofs.Finds.{first_more}
 use Rattle.lookups.proofs.Rows.{methods_from, constructs_none, constructs_hit}
-use borrow.Author.Rules.{rules}
 use Rattle.lookups.proofs.constructor_of.Goals as goal
 
 pub loop-i-init : goal.loop-i-init

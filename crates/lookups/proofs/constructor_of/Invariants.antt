@@ -2,9 +2,7 @@
 use Prim.Native.Nat.{◌-◌}
 use Rattle.rules.specs.Lists.{bytes}
 use Rattle.lookups.specs.Look.{is_method, fun_row}
-use Rattle.lookups.proofs.Finds.{First, first_more}
-use Rattle.lookups.proofs.Rows.{methods_from, constructs_none, constructs_hit}
-use borrow.Author.Rules.{rules}
+use Rattle.lookups.proofs.Finds.{First}
 use Rattle.lookups.proofs.constructor_of.Given as goal
 
 abbrev pub invariant-loop-i : goal.invariant-loop-i

@@ -1,6 +1,5 @@
 -- `lookups::fun_is` meets its contract. Assumes nothing.
 use Rattle.lookups.proofs.Rows.{is_fun_lem}
-use borrow.Author.Rules.{rules}
 use Rattle.lookups.proofs.fun_is.Goals as goal
 
 pub returns : goal.returns

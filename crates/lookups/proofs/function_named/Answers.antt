@@ -1,9 +1,6 @@
 -- `lookups::function_named` meets its contract. Assumes nothing.
-use Rattle.program.specs.Rows.{name_in}
-use Rattle.lookups.specs.Look.{is_fun, fun_row}
-use Rattle.lookups.proofs.Finds.{Latest, latest-start, latest-more}
+use Rattle.lookups.proofs.Finds.{latest-start, latest-more}
 use Rattle.lookups.proofs.Rows.{fun_none, fun_hit}
-use borrow.Author.Rules.{rules}
 use Rattle.lookups.proofs.function_named.Goals as goal
 
 pub loop-i-init : goal.loop-i-init

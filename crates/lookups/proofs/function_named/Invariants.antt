@@ -1,9 +1,7 @@
 -- What the loop of `lookups::function_named` keeps.
 use Rattle.program.specs.Rows.{name_in}
 use Rattle.lookups.specs.Look.{is_fun, fun_row}
-use Rattle.lookups.proofs.Finds.{Latest, latest-start, latest-more}
-use Rattle.lookups.proofs.Rows.{fun_none, fun_hit}
-use borrow.Author.Rules.{rules}
+use Rattle.lookups.proofs.Finds.{Latest}
 use Rattle.lookups.proofs.function_named.Given as goal
 
 abbrev pub invariant-loop-i : goal.invariant-loop-i

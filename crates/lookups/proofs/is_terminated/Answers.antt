@@ -1,6 +1,5 @@
 -- `lookups::is_terminated` meets its contract. Assumes nothing.
 use Rattle.lookups.proofs.Rows.{tells_is}
-use borrow.Author.Rules.{rules}
 use Rattle.lookups.proofs.is_terminated.Goals as goal
 
 pub returns : goal.returns

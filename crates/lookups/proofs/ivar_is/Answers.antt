@@ -1,6 +1,5 @@
 -- `lookups::ivar_is` meets its contract. Assumes nothing.
 use Rattle.lookups.proofs.Rows.{is_ivar_lem}
-use borrow.Author.Rules.{rules}
 use Rattle.lookups.proofs.ivar_is.Goals as goal
 
 pub returns : goal.returns

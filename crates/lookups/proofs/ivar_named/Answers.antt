@@ -1,11 +1,7 @@
 -- `lookups::ivar_named` meets its contract. Assumes nothing.
 use native.Mathlib.Omega.{arith}
-use Prim.Native.Nat.{◌-◌}
-use Rattle.program.specs.Rows.{name_in}
-use Rattle.lookups.specs.Look.{is_ivar, ivar_row}
-use Rattle.lookups.proofs.Finds.{First, first-start, first_more}
+use Rattle.lookups.proofs.Finds.{first-start, first_more}
 use Rattle.lookups.proofs.Rows.{ivar_none, ivar_hit}
-use borrow.Author.Rules.{rules}
 use Rattle.lookups.proofs.ivar_named.Goals as goal
 
 pub loop-j-init : goal.loop-j-init
@@ -13,10 +9,10 @@ loop-j-init c = search first-start
 
 pub ivar_is-requires-clause-k_lt_classes_most : goal.ivar_is-requires-clause-k_lt_classes_most
 ivar_is-requires-clause-k_lt_classes_most c = omega (
-    arith,
-    c.requires.program_ready.ivars _ c.requires.k_lt_classes,
-    c.requires.program_ready.classes,
-  )
+  arith,
+  c.requires.program_ready.ivars _ c.requires.k_lt_classes,
+  c.requires.program_ready.classes,
+)
 
 pub returns-then-ivar_is : goal.returns-then-ivar_is
 returns-then-ivar_is c = search ivar_hit

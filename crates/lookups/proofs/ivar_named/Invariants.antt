@@ -1,11 +1,8 @@
 -- What the loop of `lookups::ivar_named` keeps.
-use native.Mathlib.Omega.{arith}
 use Prim.Native.Nat.{◌-◌}
 use Rattle.program.specs.Rows.{name_in}
 use Rattle.lookups.specs.Look.{is_ivar, ivar_row}
-use Rattle.lookups.proofs.Finds.{First, first-start, first_more}
-use Rattle.lookups.proofs.Rows.{ivar_none, ivar_hit}
-use borrow.Author.Rules.{rules}
+use Rattle.lookups.proofs.Finds.{First}
 use Rattle.lookups.proofs.ivar_named.Given as goal
 
 abbrev pub invariant-loop-j : goal.invariant-loop-j

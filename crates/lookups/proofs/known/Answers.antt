@@ -1,6 +1,5 @@
 -- `lookups::known` meets its contract. Assumes nothing.
 use Rattle.lookups.proofs.Rows.{known-class, known-most, known-all}
-use borrow.Author.Rules.{rules}
 use Rattle.lookups.proofs.known.Goals as goal
 
 pub returns-then-i-most : goal.returns-then-i-most

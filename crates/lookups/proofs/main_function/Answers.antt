@@ -1,8 +1,6 @@
 -- `lookups::main_function` meets its contract. Assumes nothing.
-use Rattle.lookups.specs.Look.{is_main, fun_row}
-use Rattle.lookups.proofs.Finds.{Latest, latest-start, latest-more}
+use Rattle.lookups.proofs.Finds.{latest-start, latest-more}
 use Rattle.lookups.proofs.Rows.{main-none, main_hit}
-use borrow.Author.Rules.{rules}
 use Rattle.lookups.proofs.main_function.Goals as goal
 
 pub loop-i-init : goal.loop-i-init

@@ -1,8 +1,6 @@
 -- What the loop of `lookups::main_function` keeps.
 use Rattle.lookups.specs.Look.{is_main, fun_row}
-use Rattle.lookups.proofs.Finds.{Latest, latest-start, latest-more}
-use Rattle.lookups.proofs.Rows.{main-none, main_hit}
-use borrow.Author.Rules.{rules}
+use Rattle.lookups.proofs.Finds.{Latest}
 use Rattle.lookups.proofs.main_function.Given as goal
 
 abbrev pub invariant-loop-i : goal.invariant-loop-i

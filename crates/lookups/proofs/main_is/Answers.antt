@@ -1,6 +1,5 @@
 -- `lookups::main_is` meets its contract. Assumes nothing.
 use Rattle.lookups.proofs.Rows.{main_method, main-yes, main-other}
-use borrow.Author.Rules.{rules}
 use Rattle.lookups.proofs.main_is.Goals as goal
 
 pub returns-in-Class : goal.returns-in-Class

@@ -1,6 +1,5 @@
 -- `lookups::method_is` meets its contract. Assumes nothing.
 use Rattle.lookups.proofs.Rows.{method_here, method_else}
-use borrow.Author.Rules.{rules}
 use Rattle.lookups.proofs.method_is.Goals as goal
 
 pub returns-then-is_owned : goal.returns-then-is_owned

@@ -1,10 +1,6 @@
 -- `lookups::method_named` meets its contract. Assumes nothing.
-use Prim.Native.Nat.{◌-◌}
-use Rattle.program.specs.Rows.{name_in}
-use Rattle.lookups.specs.Look.{is_method, fun_row}
-use Rattle.lookups.proofs.Finds.{First, first_more}
+use Rattle.lookups.proofs.Finds.{first_more}
 use Rattle.lookups.proofs.Rows.{methods_from, methods_none, methods_hit}
-use borrow.Author.Rules.{rules}
 use Rattle.lookups.proofs.method_named.Goals as goal
 
 pub loop-i-init : goal.loop-i-init

@@ -2,9 +2,7 @@
 use Prim.Native.Nat.{◌-◌}
 use Rattle.program.specs.Rows.{name_in}
 use Rattle.lookups.specs.Look.{is_method, fun_row}
-use Rattle.lookups.proofs.Finds.{First, first_more}
-use Rattle.lookups.proofs.Rows.{methods_from, methods_none, methods_hit}
-use borrow.Author.Rules.{rules}
+use Rattle.lookups.proofs.Finds.{First}
 use Rattle.lookups.proofs.method_named.Given as goal
 
 abbrev pub invariant-loop-i : goal.invariant-loop-i

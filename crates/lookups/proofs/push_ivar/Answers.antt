@@ -1,6 +1,5 @@
 -- `lookups::push_ivar` meets its contract. Assumes nothing.
 use Rattle.lookups.proofs.Ivars.{ivar_taken, ivar_full, ivar_done}
-use borrow.Author.Rules.{rules}
 use Rattle.lookups.proofs.push_ivar.Goals as goal
 
 pub returns-in-At : goal.returns-in-At

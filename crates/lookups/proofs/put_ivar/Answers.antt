@@ -2,7 +2,6 @@
 use native.Mathlib.Omega.{arith}
 use lib.ListN.{length-set}
 use Rattle.lookups.proofs.Ivars.{ivar_put}
-use borrow.Author.Rules.{rules}
 use Rattle.lookups.proofs.put_ivar.Goals as goal
 
 pub bounds-program-at-2 : goal.bounds-program-at-2

@@ -2,17 +2,16 @@
 use mathlib.Core.Bool.{Bool as 𝔹, true, false}
 use mathlib.Core.Path.{◌≡◌, refl, sym, ap, ◌∙◌}
 use mathlib.Core.List.{List, ◌∷◌}
-use Prim.Native.Nat.{ℕ, ◌+◌, ◌<◌}
+use Prim.Native.Nat.{ℕ, ◌+◌}
 use lib.ListN.{get_or}
-use Rattle.rules.specs.Actions.{Answer, if_answered}
 use Rattle.rules.specs.Program.{Limits, Program, code}
 use Rattle.rules.specs.Machine.{State, set_live, go_live, state_of, take_block, taken}
 use Rattle.state.specs.declared.Sizes.{Sizes}
 use Rattle.state.specs.declared.Regs.{Regs}
 use Rattle.state.specs.declared.Acted.{Acted}
 use Rattle.state.specs.declared.Acted.TheVariants.{On, Refused}
-use Rattle.state.specs.View.{live_of, insns_of, blocks_of, state_view, StateReady}
-use Rattle.state.specs.Changes.{StatePut, StateAfter, ReadyAfter, StateDid, TookBlock, push_all}
+use Rattle.state.specs.View.{live_of, blocks_of, state_view, StateReady}
+use Rattle.state.specs.Changes.{StatePut, ReadyAfter, StateDid, TookBlock, push_all}
 use Rattle.state.proofs.Lists.{lives_old, lives_new}
 use Rattle.machine.specs.blocks.Blocks.{CodeIs, ReadyNext, BlockStepped, blocks_in}
 

@@ -1,15 +1,15 @@
 -- Changes one after the other, and the rules of a choice and of a Return. Assumes nothing.
-use mathlib.Core.Bool.{Bool as 𝔹, true, false, not}
+use mathlib.Core.Bool.{Bool as 𝔹, true, false}
 use mathlib.Core.Path.{◌≡◌, refl, sym, ap, ◌∙◌}
 use mathlib.Core.List.{List}
 use Prim.Native.Nat.{ℕ}
 use Rattle.kinds.specs.declared.Kind.{Kind}
 use Rattle.kinds.specs.Kinds.{is_empty}
 use Rattle.kinds.specs.Rules.{admits}
-use Rattle.rules.specs.Actions.{Answer, answered, refused, if_answered, ◌>>◌, unless, each}
+use Rattle.rules.specs.Actions.{Answer, answered, if_answered, ◌>>◌}
 use Rattle.rules.specs.Program as P
 use Rattle.rules.specs.Program.{Limits, Program, IfTrue, Return, function_of}
-use Rattle.rules.specs.Machine.{State, Acts, kind_of, callers_of, push_block, wake_if_wider, leave}
+use Rattle.rules.specs.Machine.{State, Acts, push_block, leave}
 use Rattle.program.specs.declared.Opnd.{Opnd}
 use Rattle.program.specs.Rows.{opnd_of}
 use Rattle.state.specs.declared.Sizes.{Sizes}
@@ -17,9 +17,9 @@ use Rattle.state.specs.declared.Regs.{Regs}
 use Rattle.state.specs.declared.Acted.{Acted}
 use Rattle.state.specs.declared.Acted.TheVariants.{On, Refused}
 use Rattle.state.specs.View.{Attrs, kinds_of, state_view, StateReady}
-use Rattle.state.specs.Changes.{went, StateAfter, ReadyAfter, StateDid, Every, wake_callers}
+use Rattle.state.specs.Changes.{StateAfter, ReadyAfter, StateDid, Every, wake_callers}
 use Rattle.machine.specs.opnds.Reads.{kind_in, push_block_if, FunctionIs}
-use Rattle.machine.proofs.opnds.Given.{kind_of}
+use Rattle.machine.proofs.opnds.Given.{kind_of_lem}
 
 -- ---- one change, then another
 
@@ -61,7 +61,7 @@ module _ (z : Sizes) (m : List ℕ) (q : Regs) (b : 𝔹) (i : ℕ) where
 choice_is : (L : Limits) (p : Program) (i t e : ℕ) (v : P.Opnd) (s : State)
     → leave L p i (IfTrue v t e) s ≡ (push_block_if L p (admits true (kind_in s.kinds v)) t >> push_block_if L p (admits false (kind_in s.kinds v)) e) s
 unfolding leave push_block_if
-choice_is L p i t e v s = rw (kind_of s v)
+choice_is L p i t e v s = rw (kind_of_lem s v)
 
 module _ (z : Sizes) (m : List ℕ) (q : Regs) (o : Opnd) (t e : ℕ) {k : Kind} {a b : 𝔹} (ek : k ≡ kind_in (kinds_of z m) (opnd_of o)) (ea : a ≡ admits true k)
     (eb : b ≡ admits false k) where
@@ -84,12 +84,12 @@ module _ (z : Sizes) (m : List ℕ) (q : Regs) (o : Opnd) (t e : ℕ) {k : Kind}
 
 return_none : (L : Limits) (p : Program) (i : ℕ) (v : P.Opnd) (s : State) → is_empty (kind_in s.kinds v) ≡ true → leave L p i (Return v) s ≡ answered (tt, s)
 unfolding leave
-return_none L p i v s e = rw (kind_of s v, e)
+return_none L p i v s e = rw (kind_of_lem s v, e)
 
 return_some : (L : Limits) (p : Program) (i : ℕ) (v : P.Opnd) (s : State) → is_empty (kind_in s.kinds v) ≡ false
     → leave L p i (Return v) s ≡ wake_callers L p (function_of p i) (kind_in s.kinds v) s
 unfolding leave wake_callers
-return_some L p i v s e = rw (kind_of s v, e)
+return_some L p i v s e = rw (kind_of_lem s v, e)
 
 module _ (z : Sizes) (m : List ℕ) (q : Regs) (f : ℕ) (o : Opnd) {k : Kind} {b : 𝔹} (ek : k ≡ kind_in (kinds_of z m) (opnd_of o)) (eb : b ≡ is_empty k) where
   pub return_nothing : StateReady z m q → b ≡ true → (i : ℕ) → StateDid z (FunctionIs i f) (λ L p. leave L p i (Return (opnd_of o))) m q m (On q)

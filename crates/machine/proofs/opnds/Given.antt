@@ -12,7 +12,7 @@ use Rattle.kinds.specs.declared.Joined.TheVariants.{Of, Refused}
 use Rattle.kinds.specs.declared.Arith.{Arith}
 use Rattle.kinds.specs.Union.{union_of, and_then, join_of, union_all}
 use Rattle.kinds.specs.Rules.{arith_of}
-use Rattle.rules.specs.Actions.{Answer, lift}
+use Rattle.rules.specs.Actions.{lift}
 use Rattle.rules.specs.Values.{to_answer}
 use Rattle.rules.specs.Program as P
 use Rattle.rules.specs.Program.{Limits, Program, Compute, Phi}
@@ -21,15 +21,14 @@ use Rattle.program.specs.declared.Opnd.{Opnd}
 use Rattle.program.specs.declared.Opnd.TheVariants.{Const, Insn}
 use Rattle.program.specs.Rows.{opnd_of}
 use Rattle.state.specs.declared.Sizes.{Sizes}
-use Rattle.state.specs.declared.Regs.{Regs}
-use Rattle.state.specs.View.{Attrs, kinds_of, live_of, state_view}
+use Rattle.state.specs.View.{kinds_of, live_of, state_view}
 use Rattle.state.specs.Changes.{Every}
 use Rattle.machine.specs.opnds.Reads.{OperandInside, kind_in, StateReads}
 
-pub kind_of : (s : State) (o : P.Opnd) → kind_of s o ≡ kind_in s.kinds o
+pub kind_of_lem : (s : State) (o : P.Opnd) → kind_of s o ≡ kind_in s.kinds o
 unfolding kind_of
-kind_of s (P.Const k) = refl
-kind_of s (P.Insn i) = refl
+kind_of_lem s (P.Const k) = refl
+kind_of_lem s (P.Insn i) = refl
 
 pub inside-at : (z : Sizes) {o : Opnd} (i : InsnId) → OperandInside z o → o ≡ Insn i → i.0 < z.insns
 inside-at z i h e = rw e at h
@@ -46,7 +45,7 @@ pub computed : (z : Sizes) (m : List ℕ) (o : Arith) (v w : Opnd) {j k : Kind} 
     → r ≡ arith_of o j k → (i : ℕ) → StateReads z Every (λ L p. rule L p i (Compute o (opnd_of v) (opnd_of w))) m r
 unfolding rule
 computed z m o v w e h g i = record {
-  is = λ L p y _ q. rw (g, e, h, ← kind_of (state_view z y m q) (opnd_of v), ← kind_of (state_view z y m q) (opnd_of w));
+  is = λ L p y _ q. rw (g, e, h, ← kind_of_lem (state_view z y m q) (opnd_of v), ← kind_of_lem (state_view z y m q) (opnd_of w));
 }
 
 -- ---- Phi
@@ -86,6 +85,6 @@ joined_two z m b c v w {x} {y} {j} {r} ex ey ej er i = record {
       let e : r ≡ cond (get_or s.live c false)
       (join_of (cond (get_or s.live b false) (join_of (Of Empty) (kind_of s (opnd_of v))) (Of Empty)) (kind_of s (opnd_of w)))
       (cond (get_or s.live b false) (join_of (Of Empty) (kind_of s (opnd_of v))) (Of Empty)) =
-      rw (er, ej, ex, ey, kind_of s (opnd_of v), kind_of s (opnd_of w)) in
+      rw (er, ej, ex, ey, kind_of_lem s (opnd_of v), kind_of_lem s (opnd_of w)) in
       ap (λ (u : Joined). lift (to_answer u) s) (e ∙ two (get_or s.live b false) (get_or s.live c false) s (opnd_of v) (opnd_of w)) ∙ sym (phi-is L p i b c (opnd_of v) (opnd_of w) s);
 }

@@ -19,7 +19,7 @@ use Rattle.program.specs.Rows.{opnd_of}
 use Rattle.state.specs.declared.Sizes.{Sizes}
 use Rattle.state.specs.View.{kinds_of, state_view}
 use Rattle.machine.specs.opnds.Reads.{kind_in}
-use Rattle.machine.proofs.opnds.Given.{kind_of}
+use Rattle.machine.proofs.opnds.Given.{kind_of_lem}
 use Rattle.machine.specs.declared.receivers.ReceiverClasses.TheVariants.{Classes, Refused}
 use Rattle.machine.specs.receivers.Receivers.{Receives}
 
@@ -40,11 +40,11 @@ of_other k h = rw (ne_eqb (tag_of k) 8 h)
 
 pub asked-yes : (o : P.Opnd) (s : State) (c : ℕ) → classes_in (kind_in s.kinds o) ≡ some c → classes_of o s ≡ answered (members_of c, s)
 unfolding classes_of
-asked-yes o s c e = let g = ap classes_in (kind_of s o) ∙ e in rw g
+asked-yes o s c e = let g = ap classes_in (kind_of_lem s o) ∙ e in rw g
 
 pub asked_no : (o : P.Opnd) (s : State) → classes_in (kind_in s.kinds o) ≡ none → classes_of o s ≡ refused 14
 unfolding classes_of
-asked_no o s e = let g = ap classes_in (kind_of s o) ∙ e in rw g
+asked_no o s e = let g = ap classes_in (kind_of_lem s o) ∙ e in rw g
 
 module _ (z : Sizes) (m : List ℕ) (o : Opnd) {k : Kind} {t : ℕ} (ek : k ≡ kind_in (kinds_of z m) (opnd_of o)) (et : t ≡ tag_of k) where
   pub is-object : {c : ℕ} → t ≡ 8 → c ≡ set_of k → Receives z m o (Classes c)

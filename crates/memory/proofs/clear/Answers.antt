@@ -1,8 +1,5 @@
 -- `memory::clear` meets its contract. Assumes nothing.
-use borrow.Author.Rules.{rules}
-use Prim.Native.Nat.{◌-◌}
-use lib.ListN.{length}
-use Rattle.memory.proofs.Laws.{Clearing, clearing_start, clearing_more, clearing_done}
+use Rattle.memory.proofs.Laws.{clearing_start, clearing_more, clearing_done}
 use Rattle.memory.proofs.clear.Goals as goal
 
 pub loop-i-init : goal.loop-i-init

@@ -1,8 +1,7 @@
 -- What the loop of `memory::clear` keeps.
-use borrow.Author.Rules.{rules}
 use Prim.Native.Nat.{◌-◌}
 use lib.ListN.{length}
-use Rattle.memory.proofs.Laws.{Clearing, clearing_start, clearing_more, clearing_done}
+use Rattle.memory.proofs.Laws.{Clearing}
 use Rattle.memory.proofs.clear.Given as goal
 
 abbrev pub invariant-loop-i : goal.invariant-loop-i

@@ -10,7 +10,7 @@ use mir.Syntax.{w64}
 use mir.Val.{Fits}
 use lib.Dec.{eqb, lit<}
 use lib.Pow.{pow_pos, pow_mono, field, mod-mod-pow}
-use lib.ListN.{length, get_or, get_or-eq_default}
+use lib.ListN.{get_or, get_or-eq_default}
 use Rattle.kinds.specs.Kinds.{bit_of}
 use Rattle.ids.proofs.Bits.{one_shl}
 use Rattle.memory.specs.tables.Tables.{listed}

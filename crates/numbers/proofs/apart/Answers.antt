@@ -2,7 +2,6 @@
 use Rattle.numbers.proofs.Laws.{sub_low, sub_high}
 use Rattle.numbers.specs.Numbers.{sign_of}
 use mathlib.Core.Path.{ap}
-use borrow.Author.Rules.{rules}
 use Rattle.numbers.proofs.apart.Goals as goal
 
 pub returns-then-a-b : goal.returns-then-a-b

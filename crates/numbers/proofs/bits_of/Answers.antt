@@ -4,7 +4,6 @@ use native.Mathlib.Omega.{arith}
 use mir.Syntax.{w64}
 use mir.Val.{of_z}
 use Rattle.numbers.proofs.Signed.{up_from, down_from}
-use borrow.Author.Rules.{rules}
 use Rattle.numbers.proofs.bits_of.Goals as goal
 
 pub returns-in-Up : goal.returns-in-Up

@@ -6,7 +6,6 @@ use Rattle.numbers.specs.Numbers.{fit_within, sign_of, value_of, turned}
 use Rattle.numbers.specs.declared.Sign.{Sign}
 use lib.IntN.{◌-ℤ◌, ◌+ℤ◌}
 use mathlib.Core.Path.{ap, ap₂, ◌∙◌}
-use borrow.Author.Rules.{rules}
 use Rattle.numbers.proofs.difference.Goals as goal
 
 pub total-requires : goal.total-requires

@@ -8,7 +8,6 @@ use mir.ValLaws.{to_z_pos}
 use mir.Syntax.{w64}
 use lib.IntN.{pos, negsuc}
 use mathlib.Core.Path.{sym, ap, ◌∙◌}
-use borrow.Author.Rules.{rules}
 use Rattle.numbers.proofs.fitted.Goals as goal
 
 pub overflow_sub-result : goal.overflow_sub-result

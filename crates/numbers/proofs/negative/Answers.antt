@@ -1,5 +1,4 @@
 -- `numbers::negative` meets its contract. Assumes nothing.
-use borrow.Author.Rules.{rules}
 use Rattle.numbers.proofs.Laws.{fit-yes, fit_no, whole_is, over-is, neg_zero, neg_down, neg_big}
 use Rattle.numbers.specs.Numbers.{fit_within}
 use lib.IntN.{pos, neg_ℤ}

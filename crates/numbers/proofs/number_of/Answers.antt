@@ -6,7 +6,6 @@ use mir.Syntax.{w64}
 use mir.Val.{SFits, to_z}
 use mir.ValLaws.{to_z-of_z, to_z-Fits}
 use Rattle.numbers.proofs.Signed.{read_low}
-use borrow.Author.Rules.{rules}
 use Rattle.numbers.proofs.number_of.Goals as goal
 
 pub overflow_sub-result-else-bits-lt9223372036854775808 : goal.overflow_sub-result-else-bits-lt9223372036854775808

@@ -1,5 +1,4 @@
 -- `numbers::positive` meets its contract. Assumes nothing.
-use borrow.Author.Rules.{rules}
 use Rattle.numbers.proofs.Laws.{fit_no, whole_is, over-is}
 use Rattle.numbers.specs.Numbers.{fit_within}
 use lib.IntN.{pos}

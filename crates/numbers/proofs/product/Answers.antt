@@ -1,5 +1,4 @@
 -- `numbers::product` meets its contract. Assumes nothing.
-use borrow.Author.Rules.{rules}
 use Rattle.numbers.proofs.Signed.{size_from, value-from}
 use mir.Syntax.{w64}
 use Rattle.numbers.specs.Numbers.{fit_within}

@@ -6,7 +6,6 @@ use Prim.Native.Nat.{ℕ, ◌*◌}
 use lib.IntN.{pos, neg_ℤ, ◌*ℤ◌}
 use Rattle.numbers.specs.declared.Sign.{Sign}
 use native.Mathlib.Numerals.{add-one}
-use borrow.Author.Rules.{rules}
 use Rattle.numbers.proofs.product_of.Goals as goal
 
 pub overflow_add-l : goal.overflow_add-l

@@ -6,7 +6,6 @@ use Rattle.numbers.specs.Numbers.{fit_within, value_of}
 use Rattle.numbers.specs.declared.Sign.{Sign}
 use lib.IntN.{◌+ℤ◌}
 use mathlib.Core.Path.{ap, ap₂, ◌∙◌}
-use borrow.Author.Rules.{rules}
 use Rattle.numbers.proofs.sum.Goals as goal
 
 pub total-requires : goal.total-requires

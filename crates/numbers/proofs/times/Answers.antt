@@ -6,7 +6,6 @@ use Rattle.numbers.proofs.Laws.{whole_yes, whole_no}
 use Prim.Native.Nat.{ℕ, ◌*◌, ◌<◌, ◌^◌}
 use native.Mathlib.Nat.{le-div_iff_mul-le, div-lt_iff_lt-mul, zero-mul}
 use lib.Dec.{lit<}
-use borrow.Author.Rules.{rules}
 use Rattle.numbers.proofs.times.Goals as goal
 use Rattle.numbers.proofs.times.Goals.{Then-b-most}
 

@@ -5,7 +5,6 @@ use Rattle.numbers.specs.declared.Sign.{Sign}
 use lib.IntN.{◌+ℤ◌}
 use native.Mathlib.Omega.{arith}
 use mathlib.Core.Path.{sym, ap, ap₂, ◌∙◌}
-use borrow.Author.Rules.{rules}
 use Rattle.numbers.proofs.total.Goals as goal
 
 pub overflow_add-result : goal.overflow_add-result

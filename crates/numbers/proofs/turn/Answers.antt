@@ -1,7 +1,6 @@
 -- `numbers::turn` meets its contract. Assumes nothing.
 use Rattle.numbers.specs.Numbers.{turned}
 use mathlib.Core.Path.{sym, ap}
-use borrow.Author.Rules.{rules}
 use Rattle.numbers.proofs.turn.Goals as goal
 
 pub returns-in-Up : goal.returns-in-Up

@@ -18,12 +18,10 @@ use Rattle.program.specs.declared.Name.{Name}
 use Rattle.program.specs.declared.NewClass.{NewClass}
 use Rattle.program.specs.declared.NewClass.TheVariants as New
 use Rattle.program.specs.declared.Owner.{Owner}
-use Rattle.program.specs.declared.Owner.TheVariants as Owner
-use Rattle.cursor.specs.Cursor.{parser_of, count_cur, CursorReady}
+use Rattle.cursor.specs.Cursor.{parser_of, count_cur}
 use Rattle.cursor.specs.Promises.{Idents, moved_of}
 use Rattle.cursor.specs.declared.Cursor.{Cursor}
 use Rattle.cursor.specs.declared.Ident.{Ident}
-use Rattle.cursor.specs.declared.Ident.TheVariants as Ident
 use Rattle.cursor.specs.declared.Moved.{Moved}
 use Rattle.cursor.specs.declared.Moved.TheVariants.{On, Refused}
 use Rattle.cursor.proofs.Laws.{ident_on, ident_is}

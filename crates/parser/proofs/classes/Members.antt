@@ -14,7 +14,6 @@ use Rattle.rules.specs.Reading as R
 use Rattle.rules.specs.Reading.{Parser, parse_fun, parse_method, parse_attr, parse_class_member}
 use Rattle.lookups.specs.Look.{fun_found, Declares}
 use Rattle.lookups.specs.declared.Declared.{Declared}
-use Rattle.lookups.specs.declared.Declared.TheVariants as Declared
 use Rattle.lookups.specs.declared.FoundFun.{FoundFun}
 use Rattle.lookups.specs.declared.FoundFun.TheVariants as Found
 use Rattle.program.specs.Rows.{name_in}
@@ -30,13 +29,11 @@ use Rattle.cursor.specs.Cursor.{parser_of, move_cur}
 use Rattle.cursor.specs.Promises.{Idents, Expects, Sees, Spelt, moved_of}
 use Rattle.cursor.specs.declared.Cursor.{Cursor}
 use Rattle.cursor.specs.declared.Ident.{Ident}
-use Rattle.cursor.specs.declared.Ident.TheVariants as Ident
 use Rattle.cursor.specs.declared.Moved.{Moved}
 use Rattle.cursor.specs.declared.Moved.TheVariants.{On, Refused}
 use Rattle.cursor.proofs.Wording.{spelt_end, is-yes, is_no, word_read, next-none}
 use Rattle.cursor.proofs.Laws.{ident_on, ident_is}
 use Rattle.functions.specs.declared.params.OpenedFun.{OpenedFun}
-use Rattle.functions.specs.declared.params.OpenedFun.TheVariants as OpenedFun
 use Rattle.functions.specs.Bodies.{Rests, Onto, Takes, Taken}
 use Rattle.parser.specs.declared.classes.Turned.{Turned}
 use Rattle.parser.specs.declared.classes.Turned.TheVariants as T

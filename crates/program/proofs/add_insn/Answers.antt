@@ -1,6 +1,5 @@
 -- `program::add_insn` meets its contract. Assumes nothing.
 use Rattle.program.proofs.Pushing.{ready-puts, adds-is}
-use borrow.Author.Rules.{rules}
 use Rattle.program.proofs.add_insn.Goals as goal
 
 pub commit-requires-clause-program_ready : goal.commit-requires-clause-program_ready

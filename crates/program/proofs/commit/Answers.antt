@@ -1,6 +1,5 @@
 -- `program::commit` meets its contract. Assumes nothing.
 use Rattle.program.proofs.Committing.{commit_end, commit_plain}
-use borrow.Author.Rules.{rules}
 use Rattle.program.proofs.commit.Goals as goal
 
 pub returns-then-ends_block : goal.returns-then-ends_block

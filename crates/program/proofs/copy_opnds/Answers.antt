@@ -1,9 +1,7 @@
 -- `program::copy_opnds` meets its contract. Assumes nothing.
 use native.Mathlib.Omega.{arith}
 use lib.ListN.{length-set}
-use Prim.Native.Nat.{◌-◌}
-use Rattle.program.proofs.Pushing.{Copying, copy_start, copy_more, copy_done}
-use borrow.Author.Rules.{rules}
+use Rattle.program.proofs.Pushing.{copy_start, copy_more, copy_done}
 use Rattle.program.proofs.copy_opnds.Goals as goal
 
 pub loop-i-init : goal.loop-i-init

@@ -1,9 +1,6 @@
 -- What the loop of `program::copy_opnds` keeps.
-use native.Mathlib.Omega.{arith}
-use lib.ListN.{length-set}
 use Prim.Native.Nat.{◌-◌}
-use Rattle.program.proofs.Pushing.{Copying, copy_start, copy_more, copy_done}
-use borrow.Author.Rules.{rules}
+use Rattle.program.proofs.Pushing.{Copying}
 use Rattle.program.proofs.copy_opnds.Given as goal
 
 abbrev pub invariant-loop-i : goal.invariant-loop-i

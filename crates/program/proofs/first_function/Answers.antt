@@ -1,6 +1,5 @@
 -- `program::first_function` meets its contract. Assumes nothing.
 use Rattle.program.proofs.Owners.{owns-start, owns-row}
-use borrow.Author.Rules.{rules}
 use Rattle.program.proofs.first_function.Goals as goal
 
 pub returns-then-n-counts : goal.returns-then-n-counts

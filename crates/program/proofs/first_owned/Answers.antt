@@ -1,8 +1,5 @@
 -- `program::first_owned` meets its contract. Assumes nothing.
-use Prim.Native.Nat.{◌-◌}
-use Rattle.program.specs.View.{OwnsFrom}
 use Rattle.program.proofs.Owners.{owns-start, owns-next, owns-end}
-use borrow.Author.Rules.{rules}
 use Rattle.program.proofs.first_owned.Goals as goal
 
 pub loop-i-init : goal.loop-i-init

@@ -1,8 +1,6 @@
 -- What the loop of `program::first_owned` keeps.
 use Prim.Native.Nat.{◌-◌}
 use Rattle.program.specs.View.{OwnsFrom}
-use Rattle.program.proofs.Owners.{owns-start, owns-next, owns-end}
-use borrow.Author.Rules.{rules}
 use Rattle.program.proofs.first_owned.Given as goal
 
 abbrev pub invariant-loop-i : goal.invariant-loop-i

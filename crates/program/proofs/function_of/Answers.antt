@@ -1,6 +1,5 @@
 -- `program::function_of` meets its contract. Assumes nothing.
 use Rattle.program.proofs.Reading.{block_read}
-use borrow.Author.Rules.{rules}
 use Rattle.program.proofs.function_of.Goals as goal
 
 pub returns : goal.returns

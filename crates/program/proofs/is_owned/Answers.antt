@@ -1,7 +1,6 @@
 -- `program::is_owned` meets its contract. Assumes nothing.
 use native.Mathlib.Omega.{arith}
 use Rattle.program.proofs.Owners.{owned-same, owned-other}
-use borrow.Author.Rules.{rules}
 use Rattle.program.proofs.is_owned.Goals as goal
 
 pub returns-then-x-k : goal.returns-then-x-k

@@ -1,6 +1,5 @@
 -- `program::listed_in` meets its contract. Assumes nothing.
 use Rattle.program.proofs.Forms.{listed-send, listed-none}
-use borrow.Author.Rules.{rules}
 use Rattle.program.proofs.listed_in.Goals as goal
 
 pub returns-then-n-gt0 : goal.returns-then-n-gt0

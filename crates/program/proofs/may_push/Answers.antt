@@ -1,6 +1,5 @@
 -- `program::may_push` meets its contract. Assumes nothing.
 use Rattle.program.proofs.Pushing.{asks_ended, asks_insns, asks_over, asks_listed, asks_none}
-use borrow.Author.Rules.{rules}
 use Rattle.program.proofs.may_push.Goals as goal
 
 pub returns-then-program-at-ne0 : goal.returns-then-program-at-ne0

@@ -1,6 +1,5 @@
 -- `program::new_block` meets its contract. Assumes nothing.
 use Rattle.program.proofs.Adding.{block-stop, block_grew}
-use borrow.Author.Rules.{rules}
 use Rattle.program.proofs.new_block.Goals as goal
 
 pub returns-then-limits-n : goal.returns-then-limits-n

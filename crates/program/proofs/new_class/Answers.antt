@@ -1,6 +1,5 @@
 -- `program::new_class` meets its contract. Assumes nothing.
 use Rattle.program.proofs.Adding.{class-stop, class-grew}
-use borrow.Author.Rules.{rules}
 use Rattle.program.proofs.new_class.Goals as goal
 
 pub returns-then-limits-n : goal.returns-then-limits-n

@@ -1,6 +1,5 @@
 -- `program::new_fun` meets its contract. Assumes nothing.
 use Rattle.program.proofs.Adding.{fun_no_block, fun_full, fun_grew}
-use borrow.Author.Rules.{rules}
 use Rattle.program.proofs.new_fun.Goals as goal
 
 pub returns-then-limits-n : goal.returns-then-limits-n

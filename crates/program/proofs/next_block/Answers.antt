@@ -1,6 +1,5 @@
 -- `program::next_block` meets its contract. Assumes nothing.
 use Rattle.program.proofs.Reading.{next-first, next_last}
-use borrow.Author.Rules.{rules}
 use Rattle.program.proofs.next_block.Goals as goal
 
 pub returns-then-n-eq0 : goal.returns-then-n-eq0

@@ -1,7 +1,6 @@
 -- `program::no_program` meets its contract. Assumes nothing.
 use mathlib.Core.Path.{refl}
 use Rattle.program.proofs.Adding.{starts_is}
-use borrow.Author.Rules.{rules}
 use Rattle.program.proofs.no_program.Goals as goal
 
 pub returns : goal.returns

@@ -1,6 +1,5 @@
 -- `program::op_from` meets its contract. Assumes nothing.
 use Rattle.program.proofs.Forms.{op_0, op_1, op_2, op_3, op_4, op_5, op_6, op_7, op_8, op_9, op_10, op_11, op_12, op_13, op-past}
-use borrow.Author.Rules.{rules}
 use Rattle.program.proofs.op_from.Goals as goal
 
 pub returns-in-0 : goal.returns-in-0

@@ -1,6 +1,5 @@
 -- `program::op_words` meets its contract. Assumes nothing.
 use Rattle.program.proofs.Forms.{words_0, words_1, words_2, words_3, words_4, words_5, words_6, words_7, words_8, words_9, words_10, words_11, words_12, words_13, words_14}
-use borrow.Author.Rules.{rules}
 use Rattle.program.proofs.op_words.Goals as goal
 
 pub returns-in-Jump : goal.returns-in-Jump

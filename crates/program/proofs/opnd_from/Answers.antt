@@ -1,6 +1,5 @@
 -- `program::opnd_from` meets its contract. Assumes nothing.
 use Rattle.program.proofs.Forms.{opnd_insn, opnd_const}
-use borrow.Author.Rules.{rules}
 use Rattle.program.proofs.opnd_from.Goals as goal
 
 pub returns-then-tag-eq10 : goal.returns-then-tag-eq10

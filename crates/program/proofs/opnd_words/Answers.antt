@@ -1,6 +1,5 @@
 -- `program::opnd_words` meets its contract. Assumes nothing.
 use Rattle.program.proofs.Forms.{words_const, words_insn}
-use borrow.Author.Rules.{rules}
 use Rattle.program.proofs.opnd_words.Goals as goal
 
 pub returns-in-Const : goal.returns-in-Const

@@ -1,6 +1,5 @@
 -- `program::owner_from` meets its contract. Assumes nothing.
 use Rattle.program.proofs.Forms.{owner_none, owner_class}
-use borrow.Author.Rules.{rules}
 use Rattle.program.proofs.owner_from.Goals as goal
 
 pub returns-then-x-eq0 : goal.returns-then-x-eq0

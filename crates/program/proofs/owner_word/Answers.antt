@@ -1,6 +1,5 @@
 -- `program::owner_word` meets its contract. Assumes nothing.
 use Rattle.program.proofs.Forms.{word_none, word-class}
-use borrow.Author.Rules.{rules}
 use Rattle.program.proofs.owner_word.Goals as goal
 
 pub returns-in-Class : goal.returns-in-Class

@@ -1,6 +1,5 @@
 -- `program::push_call` meets its contract. Assumes nothing.
 use Rattle.program.proofs.Calling.{call_static_lem, call_dynamic}
-use borrow.Author.Rules.{rules}
 use Rattle.program.proofs.push_call.Goals as goal
 
 pub returns-in-Static : goal.returns-in-Static

@@ -1,6 +1,5 @@
 -- `program::push_dynamic` meets its contract. Assumes nothing.
 use Rattle.program.proofs.Calling.{dynamic_room, dynamic_stop, dynamic_grew}
-use borrow.Author.Rules.{rules}
 use Rattle.program.proofs.push_dynamic.Goals as goal
 
 pub returns-then-e-ne0 : goal.returns-then-e-ne0

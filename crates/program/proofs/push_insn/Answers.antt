@@ -1,6 +1,5 @@
 -- `program::push_insn` meets its contract. Assumes nothing.
 use Rattle.program.proofs.Pushing.{room-given, push-stop, push-grew}
-use borrow.Author.Rules.{rules}
 use Rattle.program.proofs.push_insn.Goals as goal
 
 pub returns-then-e-ne0 : goal.returns-then-e-ne0

@@ -1,6 +1,5 @@
 -- `program::push_static` meets its contract. Assumes nothing.
 use Rattle.program.proofs.Calling.{static_room, static_stop, static_grew}
-use borrow.Author.Rules.{rules}
 use Rattle.program.proofs.push_static.Goals as goal
 
 pub returns-then-e-ne0 : goal.returns-then-e-ne0

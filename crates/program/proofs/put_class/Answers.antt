@@ -2,7 +2,6 @@
 use native.Mathlib.Omega.{arith}
 use lib.ListN.{length-set}
 use Rattle.program.proofs.Stores.{class-put}
-use borrow.Author.Rules.{rules}
 use Rattle.program.proofs.put_class.Goals as goal
 
 pub bounds-program-at-2 : goal.bounds-program-at-2

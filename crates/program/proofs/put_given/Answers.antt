@@ -1,6 +1,5 @@
 -- `program::put_given` meets its contract. Assumes nothing.
 use Rattle.program.proofs.Pushing.{given-none, given_one, given_two}
-use borrow.Author.Rules.{rules}
 use Rattle.program.proofs.put_given.Goals as goal
 
 pub returns-in-Zero : goal.returns-in-Zero

@@ -2,7 +2,6 @@
 use native.Mathlib.Omega.{arith}
 use lib.ListN.{length-set}
 use Rattle.program.proofs.Stores.{row_put}
-use borrow.Author.Rules.{rules}
 use Rattle.program.proofs.put_insn.Goals as goal
 
 pub bounds-program-at-2 : goal.bounds-program-at-2

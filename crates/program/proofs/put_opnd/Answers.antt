@@ -1,6 +1,5 @@
 -- `program::put_opnd` meets its contract. Assumes nothing.
 use Rattle.program.proofs.Areas.{puts_one}
-use borrow.Author.Rules.{rules}
 use Rattle.program.proofs.put_opnd.Goals as goal
 
 pub returns : goal.returns

@@ -1,6 +1,5 @@
 -- `program::read_fun` meets its contract. Assumes nothing.
 use Rattle.program.proofs.Reading.{fun_read}
-use borrow.Author.Rules.{rules}
 use Rattle.program.proofs.read_fun.Goals as goal
 
 pub returns : goal.returns

@@ -1,6 +1,5 @@
 -- `program::read_insn` meets its contract. Assumes nothing.
 use Rattle.program.proofs.Reading.{insn_read}
-use borrow.Author.Rules.{rules}
 use Rattle.program.proofs.read_insn.Goals as goal
 
 pub returns : goal.returns

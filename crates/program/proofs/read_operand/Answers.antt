@@ -1,6 +1,5 @@
 -- `program::read_operand` meets its contract. Assumes nothing.
 use Rattle.program.proofs.Reading.{operand_read}
-use borrow.Author.Rules.{rules}
 use Rattle.program.proofs.read_operand.Goals as goal
 
 pub returns : goal.returns

@@ -1,6 +1,5 @@
 -- `program::same_opnd` meets its contract. Assumes nothing.
 use Rattle.program.proofs.Reading.{same_consts, const_insn, insn_const, same-insns}
-use borrow.Author.Rules.{rules}
 use Rattle.program.proofs.same_opnd.Goals as goal
 
 pub returns-in-Const-w : goal.returns-in-Const-w

@@ -1,8 +1,6 @@
 -- All instructions are appended, so the table holds them.
-use Rattle.std.proofs.Common.{◌≡◌, sym, arith, subst, List}
-use Rattle.records.specs.Records.{Holds}
-use Rattle.records.specs.declared.Record.{Record}
-use Rattle.records.proofs.Table.{committed, committed_holds}
+use Rattle.std.proofs.Common.{◌≡◌, arith}
+use Rattle.records.proofs.Table.{committed_holds}
 use Rattle.records.proofs.commit.Goals as goal
 
 pub returns : goal.returns

@@ -1,6 +1,5 @@
 -- `records::drafted` meets its contract. Assumes nothing.
 use Rattle.records.proofs.Rows.{record_is}
-use borrow.Author.Rules.{rules}
 use Rattle.records.proofs.drafted.Goals as goal
 
 pub returns : goal.returns

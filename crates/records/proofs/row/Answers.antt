@@ -1,6 +1,5 @@
 -- `records::row` meets its contract. Assumes nothing.
 use Rattle.records.proofs.Rows.{row_is}
-use borrow.Author.Rules.{rules}
 use Rattle.records.proofs.row.Goals as goal
 
 pub returns : goal.returns

@@ -1,12 +1,12 @@
 -- The ways through add_call. Assumes nothing.
-use mathlib.Core.Bool.{Bool as 𝔹, true, false, not, cond}
-use mathlib.Core.Path.{◌≡◌, refl, sym, ap, ap₂, ◌∙◌}
+use mathlib.Core.Bool.{Bool as 𝔹, true, false, cond}
+use mathlib.Core.Path.{◌≡◌, refl, sym, ap, ◌∙◌}
 use mathlib.Core.List.{List}
 use Prim.Native.Nat.{ℕ, ◌≤◌, ◌<◌}
 use borrow.Author.Tests.{le-leb, lt-leb, not-true, not-false}
 use lib.Dec.{leb}
 use lib.ListN.{length}
-use Rattle.rules.specs.Actions.{Answer, answered, refused, if_answered, ask}
+use Rattle.rules.specs.Actions.{Answer, answered, if_answered, ask}
 use Rattle.rules.specs.Program.{Limits, Program, about, op_of, entry, parameters}
 use Rattle.rules.specs.Machine.{State, marked, add_caller, push_block, add_call}
 use Rattle.state.specs.declared.Sizes.{Sizes}

@@ -1,5 +1,5 @@
 -- One Param, the loop of pass_arguments, and that of count_params. Assumes nothing.
-use mathlib.Core.Bool.{Bool as 𝔹, true, false, not}
+use mathlib.Core.Bool.{Bool as 𝔹, true, false}
 use mathlib.Core.Path.{◌≡◌, refl, sym, ap, subst, ◌∙◌}
 use mathlib.Core.Option.{none, some}
 use mathlib.Core.List.{List}
@@ -38,7 +38,7 @@ use Rattle.state.proofs.Wakes.{wake_same, wake_wider}
 use Rattle.chains.specs.Chains.{ChainsChained, at, self, ChainIs, FitsId}
 use Rattle.chains.proofs.Lists.{Starts, chained_below, chained_none, chained_some, chained_low, chained_high, chained_next}
 use Rattle.machine.specs.opnds.Reads.{OperandInside, kind_in}
-use Rattle.machine.proofs.opnds.Given.{kind_of}
+use Rattle.machine.proofs.opnds.Given.{kind_of_lem}
 use Rattle.flows.specs.declared.AsSet.TheVariants.{Set}
 use Rattle.flows.specs.Flows.{Argues, as_set}
 use Rattle.flows.proofs.Callers.{fits-inside}
@@ -106,7 +106,7 @@ module _ {m : List ℕ} {c : Counts} {z : Sizes} {w : List ℕ} {q : Regs} {i j 
     is = λ L room p v u.
         let s = state_view z v w q in
         let y = program_view u.script m c in
-        let e : k ≡ kind_of s (argument L y (place_of L y j) i) = a.is L u.script u.call ∙ sym (kind_of s (argument L y (place_of L y j) i)) in
+        let e : k ≡ kind_of s (argument L y (place_of L y j) i) = a.is L u.script u.call ∙ sym (kind_of_lem s (argument L y (place_of L y j) i)) in
         g.is L room p v tt ∙ rw u.program (ap (λ (t : Kind). wake_if_wider L y t j s) e ∙ pass-is L y i j s);
     ok = g.ok;
   }
@@ -256,12 +256,8 @@ module _ {m : List ℕ} {c : Counts} {z : Sizes} {x : List ℕ} {h : ℕ} {w : L
     blocks_below = λ k lt. absurd (omega arith);
   })
 
-  pub keeping_more : {b : 𝔹} {n : ℕ} → j < z.insns → (b ≡ true → Keeps m c z w i j) → not b ≡ false → n ≡ get_or x (param_links_at + j) 0 → Keeping m c z x h w i n
-  keeping_more {b} lt f t en q r = param_kept (g q r) lt (f (sure b t)) en refl refl
-    where
-      sure : (b : 𝔹) → not b ≡ false → b ≡ true
-      sure true e = refl
-      sure false e = sym e
+  pub keeping_more : {b : 𝔹} {n : ℕ} → j < z.insns → (b ≡ true → Keeps m c z w i j) → b ≡ true → n ≡ get_or x (param_links_at + j) 0 → Keeping m c z x h w i n
+  keeping_more {b} lt f t en q r = param_kept (g q r) lt (f t) en refl refl
 
   pub keeping_done : (e : ℕ) → h ≡ get_or x (params_at + e) 0 → z.insns ≤ j → (f : ℕ) → PassIdle z (PassIn m c z x i f e) (λ L p. pass_arguments L p i f) w
   keeping_done e eh le f = record { is = λ q r. params-done (g q r) e eh le f }

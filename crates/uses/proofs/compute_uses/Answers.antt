@@ -1,13 +1,7 @@
 -- `uses::compute_uses` meets its contract. Assumes nothing.
-use Rattle.uses.proofs.Laying.{Laying, Copying, lay_start, copy_start, copy_done, on_room, lay_done, copy_rises, copy_room, copy_inside, copy_more}
+use Rattle.uses.proofs.Laying.{lay_start, copy_start, copy_done, on_room, lay_done, copy_rises, copy_room, copy_inside, copy_more}
 use lib.ListN.{length-set}
-use Prim.Native.Nat.{◌-◌}
 use native.Mathlib.Omega.{arith}
-use borrow.Author.Rules.{rules}
-use Rattle.uses.proofs.compute_uses.Reads as reads
-use Rattle.uses.proofs.compute_uses.Lts as lts
-use Rattle.uses.proofs.link_all.Reads as link-all-reads
-use Rattle.memory.specs.Layout.{uses_most}
 use Rattle.uses.proofs.compute_uses.Goals as goal
 
 pub loop-j-init : goal.loop-j-init

@@ -1,12 +1,6 @@
 -- What the loop of `uses::compute_uses` keeps.
-use Rattle.uses.proofs.Laying.{Laying, Copying, lay_start, copy_start, copy_done, on_room, lay_done, copy_rises, copy_room, copy_inside, copy_more}
-use lib.ListN.{length-set}
+use Rattle.uses.proofs.Laying.{Laying, Copying}
 use Prim.Native.Nat.{◌-◌}
-use native.Mathlib.Omega.{arith}
-use borrow.Author.Rules.{rules}
-use Rattle.uses.proofs.compute_uses.Reads as reads
-use Rattle.uses.proofs.compute_uses.Lts as lts
-use Rattle.uses.proofs.link_all.Reads as link-all-reads
 use Rattle.memory.specs.Layout.{uses_most}
 use Rattle.uses.proofs.compute_uses.Given as goal
 

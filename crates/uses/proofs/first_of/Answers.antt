@@ -1,8 +1,5 @@
 -- `uses::first_of` meets its contract. Assumes nothing.
 use Rattle.uses.proofs.Linking.{first_some, first-none}
-use borrow.Author.Rules.{rules}
-use Rattle.uses.proofs.first_of.Reads as reads
-use Rattle.uses.proofs.first_of.Lts as lts
 use Rattle.uses.proofs.first_of.Goals as goal
 
 pub returns-then-h-lt-USES_MOST : goal.returns-then-h-lt-USES_MOST

@@ -2,10 +2,6 @@
 use lib.ListN.{length-set}
 use native.Mathlib.Omega.{arith}
 use Rattle.uses.proofs.Linking.{link_old, link_new}
-use borrow.Author.Rules.{rules}
-use Rattle.uses.proofs.link.Reads as reads
-use Rattle.uses.proofs.link.Lts as lts
-use Rattle.uses.proofs.first_of.Reads as first-of-reads
 use Rattle.uses.proofs.link.Goals as goal
 
 pub returns-then-x-i : goal.returns-then-x-i

@@ -1,11 +1,7 @@
 -- `uses::link_all` meets its contract. Assumes nothing.
-use Rattle.uses.proofs.Linking.{Linking, all_start, all-next, all_more, all_done}
+use Rattle.uses.proofs.Linking.{all_start, all-next, all_more, all_done}
 use native.Mathlib.Omega.{arith}
 use borrow.Author.Rules.{rules}
-use Rattle.uses.proofs.link_all.Reads as reads
-use Rattle.uses.proofs.link_all.Lts as lts
-use Rattle.chains.proofs.fill.Reads as fill-reads
-use Rattle.uses.proofs.link_insn.Reads as link-insn-reads
 use Rattle.uses.proofs.link_all.Goals as goal
 
 pub loop-i-init : goal.loop-i-init

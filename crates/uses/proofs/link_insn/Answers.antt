@@ -1,15 +1,6 @@
 -- `uses::link_insn` meets its contract. Assumes nothing.
-use Rattle.uses.proofs.Linking.{Turning, turn_start, turn_const, turn_far, turn_link, turn_done, opnd_room, link_room, insn_room}
+use Rattle.uses.proofs.Linking.{turn_start, turn_const, turn_far, turn_link, turn_done, opnd_room, link_room, insn_room}
 use native.Mathlib.Omega.{arith}
-use Prim.Native.Nat.{◌-◌}
-use borrow.Author.Rules.{rules}
-use Rattle.uses.proofs.link_insn.Reads as reads
-use Rattle.uses.proofs.link_insn.Lts as lts
-use Rattle.program.proofs.read_insn.Reads as read-insn-reads
-use Rattle.program.proofs.read_opnd.Reads as read-opnd-reads
-use Rattle.uses.proofs.link.Reads as link-reads
-use Rattle.uses.proofs.most.Reads as most-reads
-use Rattle.uses.proofs.smaller.Reads as smaller-reads
 use Rattle.uses.proofs.link_insn.Goals as goal
 
 pub overflow_mul-at : goal.overflow_mul-at
@@ -63,23 +54,23 @@ link-e-requires-clause-uses_size_in_bounds c = c.loop-q.invariant.len
 
 pub link-e-requires-clause-e_nonzero : goal.link-e-requires-clause-e_nonzero
 link-e-requires-clause-e_nonzero c = (
-      link_room c.loop-q.invariant (omega arith)
-          c.read_opnd-o.ensures,
-      c.loop-q.invariant.few,
-    )
+  link_room c.loop-q.invariant (omega arith)
+      c.read_opnd-o.ensures,
+  c.loop-q.invariant.few,
+)
 
 pub link-e-requires-clause-i_lt_instructions_most : goal.link-e-requires-clause-i_lt_instructions_most
 link-e-requires-clause-i_lt_instructions_most c = (
-      omega (
-        arith,
-        c.requires.program_ready.insns,
-        c.requires.i_lt_insns,
-      ),
-      omega (
-        arith,
-        c.requires.program_ready.insns,
-      ),
-    )
+  omega (
+    arith,
+    c.requires.program_ready.insns,
+    c.requires.i_lt_insns,
+  ),
+  omega (
+    arith,
+    c.requires.program_ready.insns,
+  ),
+)
 
 pub loop-q-preserved-then-k-n : goal.loop-q-preserved-then-k-n
 loop-q-preserved-then-k-n c = search turn_link

@@ -9,11 +9,11 @@ use lib.ListN.{length}
 use borrow.Author.Tests.{eq-eqb}
 use Rattle.numbers.proofs.Laws.{same_refl_ℤ}
 use Rattle.kinds.specs.Kinds.{tag_of, number_of, same_kind}
-use Rattle.rules.specs.Actions.{choose, Answer, answered, refused, if_answered, ◌>>=◌, ◌>>◌, ask, give, change}
+use Rattle.rules.specs.Actions.{choose, Answer, answered, refused, if_answered, ◌>>◌, ask, give, change}
 use Rattle.rules.specs.Lists.{same, precedes, or_else}
 use Rattle.rules.specs.Program.{Limits, Name, Opnd, Const, Insn, Op, Phi, same_opnd, about, terminated, listed_count}
 use Rattle.rules.specs.Program as P
-use Rattle.rules.specs.Reading.{Env, Parser, Reads, with_env, with_program, the_env, lookup, bind, nil, value_or_nil, all_keys, push_insn, push, phi, join_vars}
+use Rattle.rules.specs.Reading.{Env, Parser, Reads, with_env, with_program, lookup, bind, nil, value_or_nil, all_keys, push_insn, push, phi, join_vars}
 use Rattle.variables.specs.Scopes.{Above, Sorted, Bindings, over, env_of, join_one, join_rows}
 use Rattle.variables.proofs.scopes.Order.{OrderStands, before, equal, behind, stands, below-same}
 use Rattle.variables.proofs.scopes.Sorted.{above_trans, lookup-here, lookup-on, absent, bind_sorted, bound, unbound, none-some, rebound}

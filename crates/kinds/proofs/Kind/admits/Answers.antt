@@ -1,7 +1,6 @@
 -- `kinds::Kind::admits` meets its contract. Assumes nothing.
 use Rattle.kinds.specs.Rules.{admits}
 use mathlib.Core.Path.{sym, ap}
-use borrow.Author.Rules.{rules}
 use Rattle.kinds.proofs.Kind.admits.Goals as goal
 
 pub returns-in-Truth : goal.returns-in-Truth

@@ -1,6 +1,5 @@
 -- `kinds::Kind::classes` meets its contract. Assumes nothing.
 use mathlib.Core.Path.{sym, ap, ◌∙◌}
-use borrow.Author.Rules.{rules}
 use Rattle.kinds.specs.declared.Kind.TheVariants.{Truth}
 use Rattle.kinds.specs.Union.{set_of}
 use Rattle.kinds.proofs.Kind.classes.Goals as goal

@@ -1,5 +1,4 @@
 -- `kinds::Kind::is_any` meets its contract. Assumes nothing.
-use borrow.Author.Rules.{rules}
 use Rattle.kinds.proofs.Kind.is_any.Goals as goal
 
 pub returns : goal.returns

@@ -1,5 +1,4 @@
 -- `kinds::Kind::is_empty` meets its contract. Assumes nothing.
-use borrow.Author.Rules.{rules}
 use Rattle.kinds.proofs.Kind.is_empty.Goals as goal
 
 pub returns : goal.returns

@@ -1,5 +1,4 @@
 -- `kinds::Kind::is_name` meets its contract. Assumes nothing.
-use borrow.Author.Rules.{rules}
 use Rattle.kinds.proofs.Kind.is_name.Goals as goal
 
 pub returns : goal.returns

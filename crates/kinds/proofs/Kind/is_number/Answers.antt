@@ -1,5 +1,4 @@
 -- `kinds::Kind::is_number` meets its contract. Assumes nothing.
-use borrow.Author.Rules.{rules}
 use Rattle.kinds.proofs.Kind.is_number.Goals as goal
 
 pub returns : goal.returns

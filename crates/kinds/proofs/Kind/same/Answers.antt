@@ -2,7 +2,6 @@
 use Rattle.kinds.proofs.Same.{same_bits, other_tag}
 use lib.Dec.{eqb}
 use mathlib.Core.Path.{sym, ap₂, ◌∙◌}
-use borrow.Author.Rules.{rules}
 use Rattle.kinds.proofs.Kind.same.Goals as goal
 
 pub returns-then-tag : goal.returns-then-tag

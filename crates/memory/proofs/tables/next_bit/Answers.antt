@@ -1,9 +1,7 @@
 -- `memory::tables::next_bit` meets its contract. Assumes nothing.
-use Prim.Native.Nat.{◌-◌, ◌+◌, ◌/◌}
+use Prim.Native.Nat.{◌+◌, ◌/◌}
 use Rattle.memory.proofs.tables.Bit.{zeros-fit, place-fits}
-use Rattle.memory.specs.tables.Bits.{bit_at}
-use Rattle.memory.proofs.tables.Walk.{Walked, walk_start, walk_end, walk-on, walk-found, walk-past}
-use borrow.Author.Rules.{rules}
+use Rattle.memory.proofs.tables.Walk.{walk_start, walk_end, walk-on, walk-found, walk-past}
 use Rattle.memory.proofs.tables.next_bit.Goals as goal
 
 pub loop-i-init : goal.loop-i-init

@@ -1,9 +1,7 @@
 -- What the loop of `memory::tables::next_bit` keeps.
-use Prim.Native.Nat.{◌-◌, ◌+◌, ◌/◌}
-use Rattle.memory.proofs.tables.Bit.{zeros-fit, place-fits}
+use Prim.Native.Nat.{◌-◌}
 use Rattle.memory.specs.tables.Bits.{bit_at}
-use Rattle.memory.proofs.tables.Walk.{Walked, walk_start, walk_end, walk-on, walk-found, walk-past}
-use borrow.Author.Rules.{rules}
+use Rattle.memory.proofs.tables.Walk.{Walked}
 use Rattle.memory.proofs.tables.next_bit.Given as goal
 
 abbrev pub invariant-loop-i : goal.invariant-loop-i

@@ -1,7 +1,6 @@
 -- `memory::tables::row_word` meets its contract. Assumes nothing.
 use Prim.Native.Nat.{◌+◌}
 use Rattle.memory.proofs.tables.Word.{row-none, row-all, row-some, some_bits}
-use borrow.Author.Rules.{rules}
 use Rattle.memory.proofs.tables.row_word.Goals as goal
 
 pub returns-then-n-from : goal.returns-then-n-from

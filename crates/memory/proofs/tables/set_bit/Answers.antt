@@ -1,6 +1,5 @@
 -- `memory::tables::set_bit` meets its contract. Assumes nothing.
 use Rattle.memory.proofs.tables.Bit.{bit_stored}
-use borrow.Author.Rules.{rules}
 use Rattle.memory.proofs.tables.set_bit.Goals as goal
 
 pub returns : goal.returns

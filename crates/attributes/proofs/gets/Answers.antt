@@ -1,0 +1,9 @@
+-- `attributes::gets` meets its contract. Assumes nothing.
+use Rattle.attributes.proofs.Woken.{gets-is}
+use Rattle.program.specs.Rows.{name_in}
+use Rattle.attributes.proofs.gets.Goals as goal
+
+pub returns : goal.returns
+returns c =
+    gets-is c.args.script.now c.args.program.now c.args.counts c.args.i.0 (name_in c.args.script.now c.args.n) c.read_insn-row.ensures
+    c.op_gets.ensures

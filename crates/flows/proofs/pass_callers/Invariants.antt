@@ -1,0 +1,10 @@
+-- What the loop of `flows::pass_callers` keeps.
+use Rattle.flows.proofs.Callers.{Passing}
+use Prim.Native.Nat.{◌-◌}
+use Rattle.flows.proofs.pass_callers.Given as goal
+
+abbrev pub invariant-loop-i : goal.invariant-loop-i
+invariant-loop-i l = Passing l.program l.counts l.sizes l.state l.f.0 l.n l.initial.x l.x l.from.0
+
+abbrev pub decreases-loop-i : goal.decreases-loop-i
+decreases-loop-i l = l.sizes.insns - l.from.0

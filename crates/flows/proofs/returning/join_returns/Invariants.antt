@@ -1,0 +1,11 @@
+-- What the loop of `flows::returning::join_returns` keeps.
+use Prim.Native.Nat.{◌-◌}
+use Rattle.state.specs.View.{kinds_of}
+use Rattle.flows.proofs.returning.Sets.{Gathering}
+use Rattle.flows.proofs.returning.join_returns.Given as goal
+
+abbrev pub invariant-loop-j : goal.invariant-loop-j
+invariant-loop-j l = Gathering l.program l.counts l.chains (kinds_of l.sizes l.state) l.initial.j.0 l.was l.classes l.met l.s l.j.0
+
+abbrev pub decreases-loop-j : goal.decreases-loop-j
+decreases-loop-j l = l.counts.insns - l.j.0

@@ -1,0 +1,8 @@
+-- `machine::opnds::phi` meets its contract. Assumes nothing.
+use Rattle.machine.proofs.opnds.Given.{joined_two}
+use Rattle.machine.proofs.opnds.phi.Goals as goal
+
+pub returns : goal.returns
+returns c =
+    joined_two c.args.sizes c.args.state.now c.args.b.0 c.args.c.0 c.args.v c.args.w c.is_live-first.ensures c.is_live-second.ensures
+    c.join_if-one.ensures c.join_if.ensures

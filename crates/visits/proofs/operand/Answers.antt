@@ -1,0 +1,8 @@
+-- `visits::operand` meets its contract. Assumes nothing.
+use Rattle.visits.proofs.Given.{operand_none}
+use borrow.Author.Rules.{rules}
+use Rattle.visits.proofs.operand.Goals as goal
+
+pub returns : goal.returns
+returns c =
+    operand_none c.args.program.now c.args.row c.args.j c.if-j-row.false
