@@ -1,3 +1,1 @@
 pub mod Running
-pub mod Shared
-pub mod Facts

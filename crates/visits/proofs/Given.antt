@@ -1,7 +1,7 @@
 -- What a finished program gives of the instruction that is visited. Assumes nothing.
-use mathlib.Core.Bool.{true, ◌&&◌, cond}
+use mathlib.Core.Bool.{true, ◌&&◌}
 use mathlib.Core.Path.{◌≡◌, sym, ap, ◌∙◌, subst}
-use mathlib.Core.List.{List, [], ◌∷◌}
+use mathlib.Core.List.{List, ◌∷◌}
 use Prim.Native.Nat.{ℕ, ◌+◌, ◌*◌, ◌≤◌, ◌<◌}
 use native.Mathlib.Omega.{arith}
 use borrow.Author.Tests.{ltb-true, leb-true}
@@ -15,7 +15,7 @@ use Rattle.rules.specs.Lists.{all, to_list}
 use Rattle.rules.specs.Values.{function_in, class_in}
 use Rattle.rules.specs.Program as R
 use Rattle.rules.specs.Program.{Program, Instruction, about, op_of, block_of, function_at, function_of}
-use Rattle.rules.specs.Finished.{Finished, is_block_of, is_function, is_class, good_constant, good_opnd, good_op, good_block, good_instruction}
+use Rattle.rules.specs.Finished.{is_block_of, is_function, is_class, good_opnd, good_op, good_block, good_instruction}
 use Rattle.rules.proofs.Exactness.Promise.{and_left, and_right}
 use Rattle.program.specs.declared.Counts.{Counts}
 use Rattle.program.specs.declared.Op.{Op}
@@ -29,13 +29,12 @@ use Rattle.program.proofs.Areas.{given-length}
 use Rattle.program.proofs.Viewing.{instructions-length, blocks-length, functions-length, classes-length}
 use Rattle.state.specs.declared.Sizes.{Sizes}
 use Rattle.state.specs.declared.Regs.{Regs}
-use Rattle.state.specs.View.{Attrs, kinds_of, called_of}
+use Rattle.state.specs.View.{kinds_of, called_of}
 use Rattle.machine.specs.opnds.Reads.{OperandInside, kind_in}
 use Rattle.machine.specs.receivers.Receivers.{StateMatches, ReceiverWithin}
 use Rattle.machine.proofs.receivers.Fine.{within-good}
 use Rattle.flows.specs.Flows.{FlowsSound, FlowsKnown}
 use Rattle.flows.proofs.Sounds.{sound_of, second}
-use Rattle.machine.specs.Analysed.{Indexed, MachineFits, Steady}
 use Rattle.program.specs.Layout.{opnds_at}
 use Rattle.visits.specs.Visits.{operands_of, Visiting}
 

@@ -6,10 +6,10 @@ use Rattle.kinds.specs.declared.Kind.{Kind}
 use Rattle.kinds.specs.declared.Kind.TheVariants.{Empty}
 use Rattle.kinds.specs.declared.Joined.{Joined}
 use Rattle.kinds.specs.declared.Joined.TheVariants as J
-use Rattle.rules.specs.Actions.{Answer, answered, refused, if_answered, lift}
+use Rattle.rules.specs.Actions.{Answer, answered, if_answered, lift}
 use Rattle.rules.specs.Values.{to_answer}
-use Rattle.rules.specs.Program.{Limits, Program, op_of}
-use Rattle.rules.specs.Machine.{State, Acts, rule, store, visit}
+use Rattle.rules.specs.Program.{Limits, Program}
+use Rattle.rules.specs.Machine.{State, Acts, store, visit}
 use Rattle.state.specs.declared.Sizes.{Sizes}
 use Rattle.state.specs.declared.Regs.{Regs}
 use Rattle.state.specs.declared.Acted.{Acted}

@@ -229,7 +229,7 @@ module _ {s p : List ℕ} {c : Counts} {x : List ℕ} {z : Sizes} {m : List ℕ}
     compute_op {o} h = goal.op-at g h ∙ ap (λ (y : R.Opnd). R.Compute o y (nth (operands_of p row) 1)) (sym ev) ∙ ap (R.Compute o (opnd_of v)) (sym ew)
 
     pub compute_needs : {o : Arith} → row.op ≡ O.Compute o → OperandInside z v × OperandInside z w
-    compute_needs h = (goal.opnd_inside g v refl (goal.first_good g (compute_op h) refl), goal.opnd-inside g w refl (goal.second-good g (compute_op h) refl))
+    compute_needs h = (goal.opnd_inside g v refl (goal.first_good g (compute_op h) refl), goal.opnd_inside g w refl (goal.second_good g (compute_op h) refl))
 
     pub compute_way : {o : Arith} {j : Joined} {r : Ruled} → row.op ≡ O.Compute o → ((n : ℕ) → StateReads z Every (λ L P. rule L P n (R.Compute o (opnd_of v) (opnd_of w))) m j) → r ≡ kind_of q j
         → Rules z (MachineFits s p c) (rule_of i) m q m r
@@ -239,7 +239,7 @@ module _ {s p : List ℕ} {c : Counts} {x : List ℕ} {z : Sizes} {m : List ℕ}
     phi-op {b} {e} h = goal.op-at g h ∙ ap (λ (y : R.Opnd). R.Phi b.0 y e.0 (nth (operands_of p row) 1)) (sym ev) ∙ ap (R.Phi b.0 (opnd_of v) e.0) (sym ew)
 
     pub phi-needs : {b e : BlockId} → row.op ≡ O.Phi b e → (OperandInside z v × OperandInside z w) × ((b.0 < z.blocks) × (e.0 < z.blocks))
-    phi-needs h = ((goal.opnd_inside g v refl (goal.first_good g (phi-op h) refl), goal.opnd-inside g w refl (goal.second-good g (phi-op h) refl)), goal.sides-below g (phi-op h))
+    phi-needs h = ((goal.opnd_inside g v refl (goal.first_good g (phi-op h) refl), goal.opnd_inside g w refl (goal.second_good g (phi-op h) refl)), goal.sides_below g (phi-op h))
 
     pub phi_way : {b e : BlockId} {j : Joined} {r : Ruled} → row.op ≡ O.Phi b e → ((n : ℕ) → StateReads z Every (λ L P. rule L P n (R.Phi b.0 (opnd_of v) e.0 (opnd_of w))) m j)
         → r ≡ kind_of q j → Rules z (MachineFits s p c) (rule_of i) m q m r
@@ -252,8 +252,8 @@ module _ {s p : List ℕ} {c : Counts} {x : List ℕ} {z : Sizes} {m : List ℕ}
 
     pub set-needs : {n : Name} → row.op ≡ O.SetIvar n → (OperandInside z v × OperandInside z w) × ReceiverWithin z m v
     set-needs h = (
-      (goal.opnd_inside g v refl (goal.first_good g (set-op h) refl), goal.opnd-inside g w refl (goal.second-good g (set-op h) refl)),
-      goal.opnd-within g v refl (goal.first_good g (set-op h) refl),
+      (goal.opnd_inside g v refl (goal.first_good g (set-op h) refl), goal.opnd_inside g w refl (goal.second_good g (set-op h) refl)),
+      goal.opnd_within g v refl (goal.first_good g (set-op h) refl),
     )
 
     pub set_way : {n : Name} {u : List ℕ} {a : Acted} {r : Ruled} → row.op ≡ O.SetIvar n → StateDid z (ProgramIs s p c) (λ L P. set_ivars L P (name_in s n) (opnd_of v) (opnd_of w)) m q u a
@@ -285,7 +285,7 @@ module _ {s p : List ℕ} {c : Counts} {x : List ℕ} {z : Sizes} {m : List ℕ}
     get_op = goal.op-at g h ∙ ap (R.GetIvar (name_in s n)) (sym eo)
 
     pub get_needs : OperandInside z o × ReceiverWithin z m o
-    get_needs = (goal.opnd_inside g o refl (goal.first_good g get_op refl), goal.opnd-within g o refl (goal.first_good g get_op refl))
+    get_needs = (goal.opnd_inside g o refl (goal.first_good g get_op refl), goal.opnd_within g o refl (goal.first_good g get_op refl))
 
     pub get_within : {w : List ℕ} {a : Acted} {b : Regs} → StateDid z Every (λ L P. mark_reads i (opnd_of o)) m q w a → a ≡ W.On b → ReceiverWithin z w o
     get_within d e = within-kept (marked-kinds i o (rw e at d)) get_needs.1

@@ -18,7 +18,7 @@ use Rattle.state.specs.declared.Acted.{Acted}
 use Rattle.state.specs.declared.Acted.TheVariants as W
 use Rattle.state.specs.View.{Attrs, state_view, StateReady}
 use Rattle.state.specs.Changes.{StateAfter}
-use Rattle.machine.specs.Analysed.{Indexed, MachineFits, Steady}
+use Rattle.machine.specs.Analysed.{Indexed, Steady}
 use Rattle.memory.specs.Layout.{worklist_most}
 use Rattle.program.specs.Layout.{opnds_at}
 use Rattle.visits.specs.declared.Ruled.{Ruled}

@@ -1,6 +1,5 @@
 -- `visits::branch` meets its contract. Assumes nothing.
 use Rattle.visits.proofs.Ways.{choice_needs, choice_way}
-use borrow.Author.Rules.{rules}
 use Rattle.visits.proofs.branch.Goals as goal
 
 pub operand-o-requires-clause-program_ready : goal.operand-o-requires-clause-program_ready

@@ -1,6 +1,5 @@
 -- `visits::call` meets its contract. Assumes nothing.
 use Rattle.visits.proofs.Ways.{call_needs, call-room, call_backs, did-held, call_way, call-stop}
-use borrow.Author.Rules.{rules}
 use Rattle.visits.proofs.call.Goals as goal
 
 pub send_static-w-requires-clause-state_ready : goal.send_static-w-requires-clause-state_ready

@@ -1,6 +1,5 @@
 -- `visits::compute` meets its contract. Assumes nothing.
 use Rattle.visits.proofs.Ways.{compute_needs, compute_way}
-use borrow.Author.Rules.{rules}
 use Rattle.visits.proofs.compute.Goals as goal
 
 pub operand-v-requires-clause-program_ready : goal.operand-v-requires-clause-program_ready
@@ -20,7 +19,7 @@ compute-j-requires-clause-state_held c = c.requires.visiting.ready.held
 
 pub compute-j-requires-clause-operand_inside : goal.compute-j-requires-clause-operand_inside
 compute-j-requires-clause-operand_inside c = compute_needs c.requires.visiting c.operand-v.result c.operand-w.result c.operand-v.ensures
-          c.operand-w.ensures c.requires.op_value
+    c.operand-w.ensures c.requires.op_value
 
 pub returns : goal.returns
 returns c =

@@ -1,7 +1,6 @@
 -- `visits::get_ivar` meets its contract. Assumes nothing.
 use Rattle.visits.proofs.Ways.{get_needs, get_within, did-held, get_way, get_stop}
 use Rattle.visits.proofs.Given.{matches}
-use borrow.Author.Rules.{rules}
 use Rattle.visits.proofs.get_ivar.Goals as goal
 
 pub operand-o-requires-clause-program_ready : goal.operand-o-requires-clause-program_ready
@@ -33,7 +32,7 @@ read_ivar-j-requires-clause-operand_inside c = (get_needs c.requires.visiting c.
 
 pub read_ivar-j-requires-clause-receiver_within : goal.read_ivar-j-requires-clause-receiver_within
 read_ivar-j-requires-clause-receiver_within c = get_within c.requires.visiting c.operand-o.result c.requires.op_value c.operand-o.ensures
-              c.mark_reads-w.ensures c.in-On.is
+    c.mark_reads-w.ensures c.in-On.is
 
 pub returns-in-On : goal.returns-in-On
 returns-in-On c =

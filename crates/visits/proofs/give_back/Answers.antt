@@ -1,6 +1,5 @@
 -- `visits::give_back` meets its contract. Assumes nothing.
 use Rattle.visits.proofs.Ways.{return_needs, return_way}
-use borrow.Author.Rules.{rules}
 use Rattle.visits.proofs.give_back.Goals as goal
 
 pub function_of-f-requires-clause-program_ready : goal.function_of-f-requires-clause-program_ready

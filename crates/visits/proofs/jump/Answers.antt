@@ -1,7 +1,6 @@
 -- `visits::jump` meets its contract. Assumes nothing.
 use Rattle.visits.proofs.Ways.{jump_way}
 use Rattle.visits.proofs.Given.{op-at, jump_below}
-use borrow.Author.Rules.{rules}
 use Rattle.visits.proofs.jump.Goals as goal
 
 pub push_block-w-requires-clause-state_ready : goal.push_block-w-requires-clause-state_ready

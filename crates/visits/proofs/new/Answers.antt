@@ -1,5 +1,4 @@
 -- `visits::new` meets its contract. Assumes nothing.
-use borrow.Author.Rules.{rules}
 use Rattle.visits.proofs.Ways.{new_way}
 use Rattle.visits.proofs.Given.{op-at, new-below}
 use Rattle.visits.proofs.new.Goals as goal

@@ -1,7 +1,6 @@
 -- `visits::nothing` meets its contract. Assumes nothing.
 use Rattle.visits.specs.Visits.{nothing_of}
 use mathlib.Core.Path.{sym, ap}
-use borrow.Author.Rules.{rules}
 use Rattle.visits.proofs.nothing.Goals as goal
 
 pub returns-in-On : goal.returns-in-On

@@ -1,6 +1,5 @@
 -- `visits::operand` meets its contract. Assumes nothing.
 use Rattle.visits.proofs.Given.{operand_none}
-use borrow.Author.Rules.{rules}
 use Rattle.visits.proofs.operand.Goals as goal
 
 pub returns : goal.returns

@@ -1,7 +1,6 @@
 -- `visits::param` meets its contract. Assumes nothing.
 use Rattle.visits.proofs.Ways.{param_way}
 use Rattle.visits.proofs.Given.{callers-known, function-below}
-use borrow.Author.Rules.{rules}
 use Rattle.visits.proofs.param.Goals as goal
 
 pub function_of-f-requires-clause-program_ready : goal.function_of-f-requires-clause-program_ready

@@ -1,6 +1,5 @@
 -- `visits::phi` meets its contract. Assumes nothing.
 use Rattle.visits.proofs.Ways.{phi-needs, phi_way}
-use borrow.Author.Rules.{rules}
 use Rattle.visits.proofs.phi.Goals as goal
 
 pub operand-v-requires-clause-program_ready : goal.operand-v-requires-clause-program_ready
@@ -20,11 +19,11 @@ phi-j-requires-clause-state_held c = c.requires.visiting.ready.held
 
 pub phi-j-requires-clause-operand_inside : goal.phi-j-requires-clause-operand_inside
 phi-j-requires-clause-operand_inside c = (phi-needs c.requires.visiting c.operand-v.result c.operand-w.result c.operand-v.ensures
-          c.operand-w.ensures c.requires.op_value).0
+    c.operand-w.ensures c.requires.op_value).0
 
 pub phi-j-requires-clause-b_lt_blocks : goal.phi-j-requires-clause-b_lt_blocks
 phi-j-requires-clause-b_lt_blocks c = (phi-needs c.requires.visiting c.operand-v.result c.operand-w.result c.operand-v.ensures
-          c.operand-w.ensures c.requires.op_value).1
+    c.operand-w.ensures c.requires.op_value).1
 
 pub returns : goal.returns
 returns c =

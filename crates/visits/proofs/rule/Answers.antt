@@ -1,5 +1,4 @@
 -- `visits::rule` meets its contract. Assumes nothing.
-use borrow.Author.Rules.{rules}
 use Rattle.visits.proofs.rule.Goals as goal
 
 pub jump-requires-clause-visiting : goal.jump-requires-clause-visiting

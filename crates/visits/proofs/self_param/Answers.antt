@@ -1,5 +1,4 @@
 -- `visits::self_param` meets its contract. Assumes nothing.
-use borrow.Author.Rules.{rules}
 use Rattle.visits.proofs.Ways.{self_way}
 use Rattle.visits.proofs.Given.{op-at, self-below}
 use Rattle.visits.proofs.self_param.Goals as goal

@@ -1,7 +1,6 @@
 -- `visits::send` meets its contract. Assumes nothing.
 use Rattle.visits.proofs.Ways.{send-needs, call_backs, did-held, send_way, send-stop}
 use native.Mathlib.Omega.{arith}
-use borrow.Author.Rules.{rules}
 use Rattle.visits.proofs.send.Goals as goal
 
 pub operand-o-requires-clause-program_ready : goal.operand-o-requires-clause-program_ready
@@ -27,9 +26,9 @@ call_kind-j-requires-clause-backs c = call_backs c.requires.visiting
 
 pub call_kind-j-requires-clause-i_lt_insns : goal.call_kind-j-requires-clause-i_lt_insns
 call_kind-j-requires-clause-i_lt_insns c = (
-          c.requires.visiting.below,
-      omega arith,
-    )
+  c.requires.visiting.below,
+  omega arith,
+)
 
 pub returns-in-On : goal.returns-in-On
 returns-in-On c =

@@ -1,7 +1,6 @@
 -- `visits::set_ivar` meets its contract. Assumes nothing.
 use Rattle.visits.proofs.Ways.{set-needs, set_way}
 use Rattle.visits.proofs.Given.{matches}
-use borrow.Author.Rules.{rules}
 use Rattle.visits.proofs.set_ivar.Goals as goal
 
 pub operand-o-requires-clause-program_ready : goal.operand-o-requires-clause-program_ready
@@ -24,11 +23,11 @@ set_ivar-w-requires-clause-state_matches c = matches c.requires.visiting
 
 pub set_ivar-w-requires-clause-operand_inside : goal.set_ivar-w-requires-clause-operand_inside
 set_ivar-w-requires-clause-operand_inside c = (set-needs c.requires.visiting c.operand-o.result c.operand-v.result c.operand-o.ensures
-            c.operand-v.ensures c.requires.op_value).0
+    c.operand-v.ensures c.requires.op_value).0
 
 pub set_ivar-w-requires-clause-receiver_within : goal.set_ivar-w-requires-clause-receiver_within
 set_ivar-w-requires-clause-receiver_within c = (set-needs c.requires.visiting c.operand-o.result c.operand-v.result c.operand-o.ensures
-            c.operand-v.ensures c.requires.op_value).1
+    c.operand-v.ensures c.requires.op_value).1
 
 pub returns : goal.returns
 returns c =

@@ -2,7 +2,6 @@
 use Rattle.machine.proofs.Fitting.{did-fits}
 use Rattle.visits.proofs.Ways.{fits-tables}
 use Rattle.visits.proofs.Ruling.{visited, visit-stopped, ruled-ready}
-use borrow.Author.Rules.{rules}
 use Rattle.visits.proofs.visit.Goals as goal
 
 pub rule-r-requires : goal.rule-r-requires

@@ -1,7 +1,6 @@
 -- `visits::with_kind` meets its contract. Assumes nothing.
 use Rattle.visits.specs.Visits.{kind_of}
 use mathlib.Core.Path.{sym, ap}
-use borrow.Author.Rules.{rules}
 use Rattle.visits.proofs.with_kind.Goals as goal
 
 pub returns-in-Of : goal.returns-in-Of

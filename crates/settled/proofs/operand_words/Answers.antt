@@ -1,0 +1,26 @@
+-- `settled::operand_words` meets its contract. Assumes nothing.
+use Rattle.state.specs.View.{kinds_of}
+use Rattle.settled.proofs.Operands.{word-inside, stands_inside, operand_kind, operand_nil}
+use borrow.Author.Rules.{rules}
+use native.Mathlib.Omega.{arith}
+use Rattle.settled.proofs.operand_words.Goals as goal
+
+pub opnd_words-requires-clause-at_in_bounds : goal.opnd_words-requires-clause-at_in_bounds
+opnd_words-requires-clause-at_in_bounds c = let insn = c.args.insn in
+    let j = c.args.j in word-inside insn j c.requires.program_ready c.requires.count_bound (omega arith)
+
+pub opnd_words-requires-clause-state_held : goal.opnd_words-requires-clause-state_held
+opnd_words-requires-clause-state_held c = let insn = c.args.insn in
+    let j = c.args.j in c.requires.state_held
+
+pub opnd_words-requires-clause-operand_inside : goal.opnd_words-requires-clause-operand_inside
+opnd_words-requires-clause-operand_inside c = let insn = c.args.insn in
+    let j = c.args.j in stands_inside insn j c.requires.program_ready c.requires.count_bound c.args.sizes (c.requires.operand_inside (omega arith))
+
+pub returns-then-j-insn : goal.returns-then-j-insn
+returns-then-j-insn c =
+    operand_kind c.args.insn c.args.j c.requires.program_ready c.requires.count_bound (kinds_of c.args.sizes c.args.state.now) (omega arith) c.opnd_words.ensures
+
+pub returns : goal.returns
+returns c =    operand_nil c.args.insn c.args.j c.requires.program_ready c.requires.count_bound (kinds_of c.args.sizes c.args.state.now)
+    c.if-j-insn.false

@@ -1,0 +1,14 @@
+-- What the loop of `settled::settled` keeps.
+use mathlib.Core.Bool.{false≢true}
+use borrow.Author.Tests.{not-false}
+use borrow.Author.Rules.{rules}
+use Rattle.machine.proofs.receivers.Walk.{step, none_left, class-below}
+use Rattle.flows.specs.Flows.{words_of}
+use Rattle.settled.proofs.Settling.{Settling, settling_start, settling_more, settling_done}
+use Rattle.settled.proofs.settled.Given as goal
+
+abbrev pub invariant-loop-x : goal.invariant-loop-x
+invariant-loop-x l = Settling l.script l.program l.counts l.sizes l.state l.n l.i.0 (words_of l.k) l.set l.left
+
+abbrev pub decreases-loop-x : goal.decreases-loop-x
+decreases-loop-x l = l.left
