@@ -31,3 +31,13 @@ abbrev pub SentTells : Option ℕ → List ℕ → Told → Type 0
 SentTells o t (Answered n) = (o ≡ none) × (n ≡ length t)
 SentTells o t (Refused q n) = (o ≡ some q) × (n ≡ length t)
 SentTells o t (Stopped n) = n < length t
+
+-- how many bytes that is, from the text's start
+abbrev pub sent_count : Sent → ℕ
+sent_count (All n) = n
+sent_count (Part n) = n
+
+abbrev pub told_count : Told → ℕ
+told_count (Answered n) = n
+told_count (Refused q n) = n
+told_count (Stopped n) = n

@@ -1,13 +1,14 @@
 // Frames on an output.
 #![tactic(auto)]
 
-ghost use Rattle.std.specs.Prelude.{◌≡◌, ◌≤◌, length};
+ghost use Rattle.std.specs.Prelude.{◌≡◌, ◌≤◌, length, take};
+ghost use Rattle.std.specs.Io.KnownBytes.{Appends};
 ghost use Rattle.std.proofs.Math.Option.{none, some};
 ghost use Rattle.rules.specs.Program.{limits};
 ghost use Rattle.rules.specs.Frames.{refusal_frame, analyze, live};
 ghost use Rattle.answer.specs.Layout.{answer_length};
 ghost use Rattle.frames.specs.Text.{line_most, rest_of};
-ghost use Rattle.printing.specs.Sent.{Handed, Sends, number_in, SentTells};
+ghost use Rattle.printing.specs.Sent.{Handed, Sends, number_in, SentTells, sent_count, told_count};
 
 use call::Outcome;
 use frames::NextFrame;
@@ -40,7 +41,8 @@ pub enum Told {
 fn write_some<W: Write>(to: &mut W, answer: &[usize], from: NextFrame, out: &mut [u8]) -> Piece
     requires answer_len { length answer.now ≡ answer_length }
     requires line_most_in_bounds { line_most ≤ length out.old }
-    ensures { Handed answer.now from out.old result out.new }
+    ensures handed { Handed answer.now from out.old result out.new }
+    ensures appends { Appends (W.contents to.old) (W.contents to.new) (take result.taken out.new) }
 {
     let reach = frames::write_from(answer, from, out);
     let next = reach.next;
@@ -52,7 +54,8 @@ fn write_some<W: Write>(to: &mut W, answer: &[usize], from: NextFrame, out: &mut
 // Writes all frames of an answer, up to the first write that fails.
 pub fn write_frames<W: Write>(to: &mut W, answer: &[usize]) -> Sent
     requires { length answer.now ≡ answer_length }
-    ensures { Sends (rest_of answer.now NextFrame.Totals) result }
+    ensures sends { Sends (rest_of answer.now NextFrame.Totals) result }
+    ensures appends { Appends (W.contents to.old) (W.contents to.new) (take (sent_count result) (rest_of answer.now NextFrame.Totals)) }
 {
     let mut out = [0u8; 65536];
     let mut cursor = NextFrame::Totals;
@@ -72,7 +75,8 @@ pub fn write_frames<W: Write>(to: &mut W, answer: &[usize]) -> Sent
 
 // Writes the frame of a refusal.
 pub fn write_refusal<W: Write>(to: &mut W, n: u8) -> Sent
-    ensures { Sends (refusal_frame n) result }
+    ensures sends { Sends (refusal_frame n) result }
+    ensures appends { Appends (W.contents to.old) (W.contents to.new) (take (sent_count result) (refusal_frame n)) }
 {
     let mut line = [0u8; 32];
     let len = frames::write_refusal(n, &mut line);
@@ -85,7 +89,8 @@ pub fn write_refusal<W: Write>(to: &mut W, n: u8) -> Sent
 
 fn tell_answer<W: Write>(to: &mut W, answer: &[usize]) -> Told
     requires { length answer.now ≡ answer_length }
-    ensures { SentTells none (rest_of answer.now NextFrame.Totals) result }
+    ensures tells { SentTells none (rest_of answer.now NextFrame.Totals) result }
+    ensures appends { Appends (W.contents to.old) (W.contents to.new) (take (told_count result) (rest_of answer.now NextFrame.Totals)) }
 {
     match write_frames(to, answer) {
         Sent::All(n) => Told::Answered(n),
@@ -94,7 +99,8 @@ fn tell_answer<W: Write>(to: &mut W, answer: &[usize]) -> Told
 }
 
 fn tell_refusal<W: Write>(to: &mut W, q: u8) -> Told
-    ensures { SentTells (some q) (refusal_frame q) result }
+    ensures tells { SentTells (some q) (refusal_frame q) result }
+    ensures appends { Appends (W.contents to.old) (W.contents to.new) (take (told_count result) (refusal_frame q)) }
 {
     match write_refusal(to, q) {
         Sent::All(n) => Told::Refused(q, n),
@@ -104,7 +110,8 @@ fn tell_refusal<W: Write>(to: &mut W, q: u8) -> Told
 
 // Writes the frames of a script's answer, or of its refusal.
 pub fn write_answer<W: Write>(to: &mut W, script: &[u8]) -> Told
-    ensures { SentTells (number_in (analyze limits script.now)) (live script.now) result }
+    ensures tells { SentTells (number_in (analyze limits script.now)) (live script.now) result }
+    ensures appends { Appends (W.contents to.old) (W.contents to.new) (take (told_count result) (live script.now)) }
 {
     let mut answer = [0usize; call::ANSWER_LEN];
     let mut program = [0usize; call::PROGRAM_LEN];
