@@ -1,38 +1,27 @@
 -- The script that was read, and texts put one behind the other. Assumes nothing.
-use mathlib.Core.Option.{Option, none, some}
-use mathlib.Core.Path.{◌≡◌, refl, sym, ap, ◌∙◌}
-use mathlib.Core.List.{List, ◌++◌, append_assoc}
-use Prim.Native.Nat.{ℕ, suc, ◌+◌, ◌≤◌, ◌<◌}
+use Rattle.std.proofs.Common.{◌≡◌, ℕ, ◌+◌, ◌≤◌, ◌<◌, List, ◌++◌, Option, None, Some, IfSome, ◌⊎◌, inl, inr, arith, length, take, set, refl, sym, ap, ◌∙◌, append_assoc, append-nil, length-set, length-append, length-take-le, take_all}
+use Rattle.std.proofs.Math.Option.{some}
+use Rattle.std.specs.Io.KnownBytes.{Appends, Consumes, IsAtEnd}
 use native.Mathlib.Numerals.{add-one}
-use native.Mathlib.Omega.{arith}
-use lib.ListN.{length, get_or, set, take, length-set, length-append}
-use lib.Seq.{paste, paste-zero, paste-suc, take-paste, take_all, length-take-le}
+use lib.ListN.{get_or}
+use lib.Seq.{paste, paste-zero, paste-suc, take-paste}
 use borrow.Author.Tests.{lt-leb}
 use Rattle.rules.specs.Actions.{Answer, answered, refused}
 use Rattle.rules.specs.Lists.{bytes}
 use Rattle.rules.specs.Program.{limits}
-use Rattle.rules.specs.Frames.{Analysis, analyze}
+use Rattle.rules.specs.Frames.{Analysis, analyze, live}
 use Rattle.rules.specs.Steps as Steps
+use Rattle.rules.proofs.Wellformed.Tests.{lt_or_le}
 use Rattle.rules.proofs.Demand.{limits_usable, answers, long-refused}
-use Rattle.streams.specs.declared.Input.{Input}
-use Rattle.streams.specs.declared.Input.TheVariants.{Read}
-use Rattle.streams.specs.Input.{InputFits}
 use Rattle.printing.specs.declared.Told.{Told}
 use Rattle.printing.specs.declared.Told.TheVariants.{Answered, Refused, Stopped}
-use Rattle.printing.specs.Sent.{number_in, SentTells}
+use Rattle.printing.specs.Sent.{number_in, SentTells, told_count}
 use Rattle.live.specs.declared.Ran.{Ran}
 use Rattle.live.specs.declared.Ran.TheVariants.{Answer as Ended}
-use Rattle.live.specs.Runs.{Runs, Numbered}
+use Rattle.live.specs.Runs.{Runs, Prints, Numbered}
 use Rattle.live.specs.Questions.{words_of, line_of, QuestionPut}
 
 -- ---- the script
-
-module _ (d : List ℕ) {r : Input} {n : ℕ} (g : InputFits d r) (e : r ≡ Read n) where
-  pub read-most : n ≤ length d
-  read-most = (rw e at g).0
-
-  pub read_count : n ≡ length (take n d)
-  read_count = (rw e at g).1
 
 -- a refusal's number is a question's
 pub numbered : (d : List ℕ) {r : Ran} {n : ℕ} {t : Told} → Runs d r → r ≡ Ended n t → Numbered t
@@ -45,23 +34,42 @@ numbered d {r} {n} {t} g e = go t (rw e at g).1
     of (answered a) h f = let z : ◌≡◌ {A = ℕ} 0 1 = cc in absurd (omega arith)
     of {q} (refused m) h f = let z : m ≡ q = cc in (omega (arith, h.0), omega (arith, h.1))
 
-    go : (t : Told) → SentTells (number_in (analyze limits s)) (Rattle.rules.specs.Frames.live s) t → Numbered t
+    go : (t : Told) → SentTells (number_in (analyze limits s)) (live s) t → Numbered t
     go (Answered k) h = tt
     go (Refused q k) h = of (analyze limits s) (answers limits limits_usable s) h.0
     go (Stopped k) h = tt
-
-module _ (t : Told) {q n : ℕ} (g : Numbered t) (e : t ≡ Refused q n) where
-  pub number-least : 1 ≤ q
-  number-least = (rw e at g).0
-
-  pub number-most : q ≤ 20
-  number-most = (rw e at g).1
 
 -- a buffer that is full has a script that is too long
 pub full-refused : (d : List ℕ) {n : ℕ} → length d ≡ limits.script + 1 → n ≡ length d → number_in (analyze limits (take n d)) ≡ some 1
 full-refused d {n} e f =
     let l : take n d ≡ d = take_all n d (omega arith) in
     rw (l, long-refused limits d (lt-leb (length d) limits.script (omega arith)))
+
+-- two scripts that are both too long have the same answer
+long_alike : (s t : List ℕ) → limits.script < length s → limits.script < length t → analyze limits s ≡ analyze limits t
+long_alike s t h k = long-refused limits s (lt-leb (length s) limits.script h) ∙ sym (long-refused limits t (lt-leb (length t) limits.script k))
+
+-- what was read of an input that is known has its answer: it is all of the input, or both are too long
+input_answer : (input d : List ℕ) (rest : Option (List ℕ)) (n : ℕ) → length d ≡ limits.script + 1 → n ≤ length d → Consumes (Some input) rest (take n d)
+    → (n < length d → IsAtEnd rest) → analyze limits (take n d) ≡ analyze limits input
+input_answer input d None n l h e end = absurd e
+input_answer input d (Some r) n l h e end = go (lt_or_le n (length d))
+  where
+    long : length (take n d) ≡ n
+    long = length-take-le n d h
+
+    go : (n < length d) ⊎ (length d ≤ n) → analyze limits (take n d) ≡ analyze limits input
+    go (inr f) = long_alike (take n d) input (omega (arith, long, l, f)) (rw (e, length-append) (omega (arith, long, l, f)))
+    go (inl f) = ap (analyze limits) (sym (e ∙ ap (λ x. take n d ++ x) (end f) ∙ append-nil (take n d)))
+
+pub printed : (old rest a b : Option (List ℕ)) (d : List ℕ) (n : ℕ) (t : Told) → length d ≡ limits.script + 1 → n ≤ length d → Consumes old rest (take n d)
+    → (n < length d → IsAtEnd rest) → SentTells (number_in (analyze limits (take n d))) (live (take n d)) t
+    → Appends a b (take (told_count t) (live (take n d))) → IfSome old (λ input. Prints input a b (Ended n t))
+unfolding live
+printed None rest a b d n t l h e end g k = tt
+printed (Some input) rest a b d n t l h e end g k =
+    let q = input_answer input d rest n l h e end in
+    (rw (← q) g, rw (← q) k)
 
 -- ---- texts
 
@@ -99,10 +107,6 @@ module _ {t : List ℕ} {at : ℕ} {d out : List ℕ} {i : ℕ} (g : Putting t a
 -- the words of question k, where n is its number
 pub words-put : {t : List ℕ} {n k at r : ℕ} {d d' : List ℕ} → n ≡ k → t ≡ words_of k → QuestionPut t at d r d' → QuestionPut (words_of n) at d r d'
 words-put e f g = rw (e, ← f) g
-
--- a number that is at least k and not k
-pub past : {A : Type 0} {n : ℕ} (k : ℕ) → (A → k ≤ n) → A × (n ≡ k → ⊥) → suc k ≤ n
-past k f r = let h = f r.0 in let g = r.1 in omega arith
 
 -- one text behind another
 pub put_then : {t u : List ℕ} {at m n : ℕ} {d d' d'' : List ℕ} → QuestionPut t at d m d' → QuestionPut u m d' n d'' → QuestionPut (t ++ u) at d n d''

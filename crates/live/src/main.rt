@@ -2,9 +2,9 @@
 // refused, where reading or writing fails, and where the program is given an argument.
 #![tactic(auto)]
 
-ghost use Rattle.std.specs.Prelude.{◌≡◌, ◌+◌, ◌≤◌, length};
+ghost use Rattle.std.specs.Prelude.{◌≡◌, ◌+◌, ◌≤◌, length, IfSome};
 ghost use Rattle.rules.specs.Program.{limits};
-ghost use Rattle.live.specs.Runs.{Runs, Numbered};
+ghost use Rattle.live.specs.Runs.{Runs, Prints, Numbered};
 ghost use Rattle.live.specs.Questions.{words_of, line_of, line_most, words_most, QuestionPut};
 
 use printing::Told;
@@ -23,7 +23,9 @@ enum Ran {
 // Reads a script and writes its frames. The buffer has one byte more than the longest script: a longer input fills it, and is refused.
 fn run<R: Read, W: Write>(from: &mut R, to: &mut W, script: &mut [u8]) -> Ran
     requires { length script.old ≡ limits.script + 1 }
-    ensures { Runs script.new result }
+    ensures runs { Runs script.new result }
+    ensures prints { IfSome (R.remaining from.old)
+        (λ input. Prints input (W.contents to.old) (W.contents to.new) result) }
 {
     match streams::read(from, script) {
         Input::Read(n) => {
