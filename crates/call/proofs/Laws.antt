@@ -171,8 +171,8 @@ pub reads-tables : (s t p : List ℕ) {r : ReadOutcome} → ReadsScript s t r �
 reads-tables s t p {r} g e h = subst (λ x. ReadsScript s x r) (sym (tables_back t (drop program_size p) (e ∙ length-take-le program_size p h))) g
 
 -- the number of a refusal is a question's
-number_of : (s : List ℕ) (n : ℕ) → parse_program limits s ≡ refused n → n ≤ 20
-number_of s n e = go (leb (length s) limits.script) refl
+number_of_lem : (s : List ℕ) (n : ℕ) → parse_program limits s ≡ refused n → n ≤ 20
+number_of_lem s n e = go (leb (length s) limits.script) refl
   where
     go : (b : 𝔹) → leb (length s) limits.script ≡ b → n ≤ 20
     go true h = let q = (program_comes limits s h).refuses n e in omega (arith, q.most)
@@ -180,7 +180,7 @@ number_of s n e = go (leb (length s) limits.script) refl
 
 module _ (s t : List ℕ) {r : ReadOutcome} (g : ReadsScript s t r) where
   pub reading_number : {n : ℕ} → r ≡ R.Refused n → n < 256
-  reading_number {n} e = omega (arith, number_of s n (sym (rw e at g).is))
+  reading_number {n} e = omega (arith, number_of_lem s n (sym (rw e at g).is))
 
   pub reading_refused : {n : ℕ} (a : List ℕ) → r ≡ R.Refused n → found (Refused n) a ≡ imaged (analyze limits s)
   reading_refused {n} a e = sym (imaged_no s n (sym (rw e at g).is))

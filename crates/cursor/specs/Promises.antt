@@ -2,7 +2,7 @@
 use Rattle.std.specs.Prelude.{Bool as 𝔹, true, false, ◌≡◌, List, [], ◌∷◌, ℕ, ◌+◌, ◌*◌, ◌≤◌, ◌<◌, eqb, length, get_or}
 use Rattle.std.proofs.Math.Option.{Option, none, some}
 use Prim.Native.String.{String}
-use Rattle.rules.specs.Actions.{Answer, answered, refused, ◌>>=◌, ◌>>◌, give, ask, if◌then◌else◌}
+use Rattle.rules.specs.Actions.{Answer, answered, refused, ◌>>=◌, ◌>>◌, give, ask, when◌then◌else◌}
 use Rattle.rules.specs.Lists.{bytes, same}
 use Rattle.rules.specs.Program as P
 use Rattle.rules.specs.Reading.{Parser, Reads, peek, pass, next, expect, expect_ident, match_token}
@@ -106,7 +106,7 @@ Spelt k t = (x : List ℕ) → same x (bytes t) ≡ eqb (kind_of x) k
 unfoldable pub match_kind : List ℕ → ℕ → Reads 𝔹
 match_kind s k = do
   w ← peek s
-  if eqb (kind_of w.text) k then (do
+  when eqb (kind_of w.text) k then (do
     pass s
     give true) else give false
 

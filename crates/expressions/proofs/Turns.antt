@@ -10,7 +10,7 @@ use lib.Dec.{eqb, ltb}
 use lib.ListN.{length}
 use Rattle.kinds.specs.declared.Arith.{Arith}
 use Rattle.kinds.specs.declared.Arith.TheVariants.{Add, Sub, Mul, Less}
-use Rattle.rules.specs.Actions.{answered, Turn, again, ends, loop, if◌then◌else◌, give}
+use Rattle.rules.specs.Actions.{answered, Turn, again, ends, loop, when◌then◌else◌, give}
 use Rattle.rules.specs.Program as P
 use Rattle.rules.specs.Words.{is}
 use Rattle.rules.specs.Reading.{Parser, Reads, pass, expect, match_token, turns, push, Operator, operator, on_with, parse_arg, parse_args, parse_call, parse_member, parse_right, parse_suffix}
@@ -48,10 +48,6 @@ use Rattle.expressions.specs.declared.Suffixed.{Suffixed}
 use Rattle.expressions.proofs.Loops.{Loops, loops_start, loops_on, loops_end, loops_stop}
 use Rattle.expressions.proofs.Stack.{height_free, waiting-same, stacks_args, stacks_at, stacks_more, stacks_state, stacks_in, stacks_step, step_height, step_from}
 use Rattle.expressions.proofs.Ways.{ident_went, match_went, match_not, match_gave, expect-went, expect_gave, suffix_low, operator-passed, call-passed, member_passed}
-
--- the arguments of a call, taken off the stack
-pub taken_here : {f : Reads (List P.Opnd)} {s m w m1 w1 : List ℕ} {c c1 : Cursor} {t : Args} {n : ℕ} → ArgsDid f s m w c m1 w1 t → t ≡ Args.Done c1 n → In s m1 w1 c1
-taken_here {w1 = w1} {c = c} d e = (got d.did (ap (args_of w1 c.args) e)).here
 
 module _ (L : P.Limits) (s : List ℕ) (E : ℕ → Reads P.Opnd) where
   -- ---- one argument
@@ -356,10 +352,10 @@ module _ (L : P.Limits) (s : List ℕ) (E : ℕ → Reads P.Opnd) where
     -- the rules' choice, over what the tests of the word come to
     abbrev on_operator : Option Operator → Bool → Bool → Reads (Turn P.Opnd P.Opnd)
     on_operator u f g = elim u [
-      | some o ↦ if ltb o.prec prec then give (ends v) else on_with L s E (parse_right L s E o v)
+      | some o ↦ when ltb o.prec prec then give (ends v) else on_with L s E (parse_right L s E o v)
       | none ↦
-          if f then on_with L s E (parse_call L s E v)
-          else if g then on_with L s E (parse_member L s E v)
+          when f then on_with L s E (parse_call L s E v)
+          else when g then on_with L s E (parse_member L s E v)
           else give (ends v)
     ]
 
@@ -373,7 +369,7 @@ module _ (L : P.Limits) (s : List ℕ) (E : ℕ → Reads P.Opnd) where
     three r p q x i = on_operator (p i) (q i) (x i) r
 
     weighed : (t : Bool) (o : Arith) (n right : ℕ) (r : Parser)
-        → on_suffix (cond t Suffix.Ends (Suffix.Operator o right)) r ≡ (if t then give (ends v) else on_with L s E (parse_right L s E (operator o n right) v)) r
+        → on_suffix (cond t Suffix.Ends (Suffix.Operator o right)) r ≡ (when t then give (ends v) else on_with L s E (parse_right L s E (operator o n right) v)) r
     unfolding parse_right
     weighed true o n right r = refl
     weighed false o n right r = refl

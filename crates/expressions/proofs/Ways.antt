@@ -161,9 +161,6 @@ literal_value : {s : List ℕ} {at : ℕ} (x : Word) → Lexed.LexerReads s at x
 unfolding value_of
 literal_value x h e = h.value ∙ rw (literal_yes x h e)
 
-pub small-value : {s : List ℕ} {c : Cursor} {r : Lexed} {x : Word} → Sees s c r → r ≡ Seen.Found x → x.value < 9223372036854775808
-small-value see e = (word_read see e).small
-
 module _ (L : P.Limits) (s : List ℕ) (E : ℕ → Reads P.Opnd) where
   module _ {m w m1 w1 : List ℕ} {c : Cursor} {p : Parsed} (d : CursorDid (E 0) 1 s m w c m1 w1 (parsed_of p)) where
     pub group_no : {n : ℕ} → p ≡ Refused n → CursorDid (parse_group L s E) 1 s m w c m1 w1 (parsed_of (Refused n))

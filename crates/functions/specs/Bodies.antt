@@ -3,7 +3,8 @@ use Rattle.std.specs.Prelude.{false, ◌≡◌, List, [], ℕ, ◌+◌, ◌≤�
 use Rattle.std.proofs.Math.Option.{none}
 use Rattle.rules.specs.Actions.{◌>>=◌, ◌>>◌, give, change, loop}
 use Rattle.rules.specs.Program as P
-use Rattle.rules.specs.Reading.{Reads, with_env, with_self, the_class, expect, expect_ident, push_self, push_params, parse_param, turns, parse_statements, parse_statement, end_block, new_fun, parse_fun}
+use Rattle.rules.specs.Reading.{Reads, with_env, with_self, the_class, expect, expect_ident, push_self, push_params, parse_param, turns, parse_statements, parse_statement}
+use Rattle.rules.specs.Reading.{end_block, new_fun, parse_fun}
 use Rattle.program.specs.View as View
 use Rattle.program.specs.declared.Limits.{Limits}
 use Rattle.cursor.specs.Cursor.{parser_of, CursorReady}

@@ -1,17 +1,17 @@
 -- Steps inside an `if`. Assumes nothing.
-use mathlib.Core.Path.{◌≡◌, refl, ap, ◌∙◌}
+use mathlib.Core.Path.{◌≡◌, ap, ◌∙◌}
 use mathlib.Core.List.{List}
 use Prim.Native.Nat.{ℕ, ◌+◌, ◌*◌, ◌≤◌, ◌<◌}
 use native.Mathlib.Omega.{arith}
 use lib.ListN.{get_or}
 use Rattle.ids.specs.declared.BlockId.{BlockId}
-use Rattle.rules.specs.Reading.{with_block, new_block}
+use Rattle.rules.specs.Reading.{new_block}
 use Rattle.variables.specs.Scopes.{env_of}
 use Rattle.variables.specs.Memory.{entry, vars, Kept}
 use Rattle.variables.proofs.Entries.{made_move}
 use Rattle.program.specs.View as View
 use Rattle.program.specs.declared.Limits.{Limits}
-use Rattle.cursor.specs.Cursor.{parser_of, In, CursorStep}
+use Rattle.cursor.specs.Cursor.{In, CursorStep}
 use Rattle.cursor.specs.Promises.{Out, done, stop, CursorAfter, CursorDid}
 use Rattle.cursor.specs.declared.Cursor.{Cursor}
 use Rattle.cursor.proofs.Laws.{in_counted}
@@ -21,17 +21,6 @@ use Rattle.statements.specs.declared.Branch.{Branch}
 use Rattle.statements.specs.declared.Opened.{Opened}
 use Rattle.statements.specs.declared.Opened.TheVariants as O
 use Rattle.statements.specs.Shape.{block_cur, opened_of, Widened, Opens, StatementInside, Arm}
-
--- ---- the parser's state
-
-module _ (s m w : List ℕ) (c : Cursor) where
-  pub block_of_lem : (parser_of s m w c).block ≡ c.block.0
-  unfolding parser_of
-  block_of_lem = refl
-
-  pub block_to : (b : BlockId) → with_block b.0 (parser_of s m w c) ≡ parser_of s m w (block_cur b c)
-  unfolding parser_of
-  block_to b = refl
 
 -- ---- what a step from c₀ keeps of scratch memory
 

@@ -1,6 +1,6 @@
 -- The parts of the rules' `if` that the readers here do one by one. Assumes nothing.
 use Rattle.std.specs.Prelude.{Bool as 𝔹, true, false, ◌||◌, List, ℕ}
-use Rattle.rules.specs.Actions.{if◌then◌else◌, ◌>>=◌, ◌>>◌, give, skip, change}
+use Rattle.rules.specs.Actions.{when◌then◌else◌, ◌>>=◌, ◌>>◌, give, skip, change}
 use Rattle.rules.specs.Words.{Word, is}
 use Rattle.rules.specs.Program.{Limits, Opnd, Op, Ends, Jump, IfTrue}
 use Rattle.rules.specs.Reading.{Env, Reads, with_env, with_block, the_block, the_env, nil, all_keys, push_insn, new_block, phi, join_vars, expect, match_token, parse_statements, end_block}
@@ -63,7 +63,7 @@ module _ (L : Limits) (s : List ℕ) where
   parse_else S before old v then₀ join last x = do
     l ← the_env
     else? ← match_token s "else"
-    if else? then (do
+    when else? then (do
       else₀ ← open_else before old v then₀
       y ← parse_arm S join
       finish_else old join then₀ l last x else₀ y) else finish_if before old v then₀ join last x l

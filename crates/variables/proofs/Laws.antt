@@ -631,7 +631,8 @@ module _ {s m : List ℕ} {base lo n : ℕ} {g₀ : List ℕ} {i u : ℕ} {g : L
     };
   }
 
-module _ {s m : List ℕ} {base lo n hi k : ℕ} {g g1 : List ℕ} (place : (bindings_most ≤ lo) × ((lo + n ≤ hi) × (hi + k ≤ script_most))) (blank : VariablesBlank g) (f : NotesRow s m base lo n g g1) where
+module _ {s m : List ℕ} {base lo n hi k : ℕ} {g g1 : List ℕ} (place : (bindings_most ≤ lo) × ((lo + n ≤ hi) × (hi + k ≤ script_most)))
+    (blank : VariablesBlank g) (f : NotesRow s m base lo n g g1) where
   pub note_second : Noted s m 0 hi k g1
   unfolding latest
   note_second = record { is = λ p a b c. f.fills.behind p (omega arith) ∙ blank.is (p - bindings_most) }

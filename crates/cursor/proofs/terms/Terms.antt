@@ -10,7 +10,7 @@ use Rattle.ids.specs.declared.ClassId.{ClassId}
 use Rattle.ids.specs.declared.FunId.{FunId}
 use Rattle.kinds.specs.declared.Kind.{Kind}
 use Rattle.kinds.specs.declared.Kind.TheVariants.{Nil, Truth}
-use Rattle.rules.specs.Actions.{answered, refused, if◌then◌else◌, refuse}
+use Rattle.rules.specs.Actions.{answered, refused, when◌then◌else◌, refuse}
 use Rattle.rules.specs.Lists.{bytes, same}
 use Rattle.rules.specs.Values.{fun_kind, class_kind, class_in}
 use Rattle.rules.specs.Program as P
@@ -212,7 +212,7 @@ module _ (L : P.Limits) (s : List ℕ) (m w : List ℕ) (c : Cursor) (k : ClassI
 -- the rules' choice, by the class that a constant names
 abbrev send_by : P.Limits → List ℕ → (ℕ → Reads P.Opnd) → P.Opnd → P.Name → List P.Opnd → Option ℕ → Reads P.Opnd
 send_by L s E v n l o = elim o [
-  | some c ↦ if named n "new" then create_instance L s E c l else refuse 8
+  | some c ↦ when named n "new" then create_instance L s E c l else refuse 8
   | none ↦ push L (P.Send (P.Dynamic v n) l)
 ]
 

@@ -2,8 +2,12 @@
 use Rattle.cursor.proofs.Laws.{got}
 use Rattle.cursor.proofs.Wording.{spelt_equals, spelt_open}
 use Rattle.cursor.specs.Promises.{parsed_of}
-use Rattle.expressions.proofs.Turns.{arg_close, arg_last, arg_more, arg_no1, arg_no2, arg_none, args-again, args-less, args-start, args_done, args_high, args_no1, args_no2, call-yes, call_no, member_no2, member_no3, member_read, member_send, right-yes, right_no, suffix_call, suffix_ends, suffix_member, suffix_none, suffix_operator, suffix_other, suffixes_again, suffixes_done, suffixes_less, suffixes_no, suffixes_start}
-use Rattle.expressions.proofs.Ways.{call-passed, expr_deep, expr_no, expr_on, expr_unseen, group_no, group_open, group_yes, ident_went, ivar_get, ivar_no1, ivar_no2, ivar_no3, ivar_set, low-after, match_went, member_no1, member_passed, name_get, name_no1, name_no2, name_no3, name_set, operator-passed, passed, primary_group, primary_ivar, primary_name, primary_number, sees_word}
+use Rattle.expressions.proofs.Turns.{arg_close, arg_last, arg_more, arg_no1, arg_no2, arg_none, args-again, args-less, args-start, args_done, args_high, args_no1}
+use Rattle.expressions.proofs.Turns.{args_no2, call-yes, call_no, member_no2, member_no3, member_read, member_send, right-yes, right_no, suffix_call, suffix_ends}
+use Rattle.expressions.proofs.Turns.{suffix_member, suffix_none, suffix_operator, suffix_other, suffixes_again, suffixes_done, suffixes_less, suffixes_no, suffixes_start}
+use Rattle.expressions.proofs.Ways.{call-passed, expr_deep, expr_no, expr_on, expr_unseen, group_no, group_open, group_yes, ident_went, ivar_get, ivar_no1, ivar_no2}
+use Rattle.expressions.proofs.Ways.{ivar_no3, ivar_set, low-after, match_went, member_no1, member_passed, name_get, name_no1, name_no2, name_no3, name_set}
+use Rattle.expressions.proofs.Ways.{operator-passed, passed, primary_group, primary_ivar, primary_name, primary_number, sees_word}
 use Rattle.program.specs.Rows.{opnd_of}
 use mathlib.Core.Path.{ap, refl}
 use native.Mathlib.Omega.{arith}

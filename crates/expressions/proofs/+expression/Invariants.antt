@@ -52,7 +52,9 @@ abbrev pub decreases-parse_args-loop-c1 : goal.decreases-parse_args-loop-c1
 decreases-parse_args-loop-c1 l = length l.script - l.cur.at
 
 abbrev pub invariant-parse_suffixes-loop-c1 : goal.invariant-parse_suffixes-loop-c1
-invariant-parse_suffixes-loop-c1 l = SuffixInv (limits_of l.limits) l.script (parse_expr (limits_of l.limits) l.script l.depth) l.prec l.initial.program l.initial.scratch l.initial.cur l.initial.left l.program l.scratch l.cur l.left
+invariant-parse_suffixes-loop-c1 l = SuffixInv (limits_of l.limits) l.script
+    (parse_expr (limits_of l.limits) l.script l.depth) l.prec l.initial.program l.initial.scratch l.initial.cur l.initial.left l.program l.scratch
+    l.cur l.left
 
 abbrev pub decreases-parse_suffixes-loop-c1 : goal.decreases-parse_suffixes-loop-c1
 decreases-parse_suffixes-loop-c1 l = length l.script - l.cur.at

@@ -16,25 +16,9 @@ parse_top-requires-clause-small c = c.requires.small
 pub parse_top-requires-clause-class_value : goal.parse_top-requires-clause-class_value
 parse_top-requires-clause-class_value c = c.loop-e.invariant.onto.class ∙ c.requires.class_value
 
-pub shape_of-program-in-Refused : goal.shape_of-program-in-Refused
-shape_of-program-in-Refused c =
-    c.parse_top.auto.program ∙ c.loop-e.invariant.long_m
-
-pub shape_of-scratch-in-Refused : goal.shape_of-scratch-in-Refused
-shape_of-scratch-in-Refused c =
-    c.parse_top.auto.scratch ∙ c.loop-e.invariant.long_w
-
 pub returns-in-Refused : goal.returns-in-Refused
 returns-in-Refused c =
     going_no c.loop-e.invariant c.parse_top.ensures c.in-Refused.is
-
-pub shape_of-program-in-Ends : goal.shape_of-program-in-Ends
-shape_of-program-in-Ends c =
-    c.parse_top.auto.program ∙ c.loop-e.invariant.long_m
-
-pub shape_of-scratch-in-Ends : goal.shape_of-scratch-in-Ends
-shape_of-scratch-in-Ends c =
-    c.parse_top.auto.scratch ∙ c.loop-e.invariant.long_w
 
 pub returns-in-Ends : goal.returns-in-Ends
 returns-in-Ends c =

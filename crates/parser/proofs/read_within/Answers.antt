@@ -1,7 +1,6 @@
 -- `parser::read_within` meets its contract. Assumes nothing.
 use Rattle.parser.proofs.Tops.{start_nobody, read-long, read_rests, read_no, read-yes}
 use native.Mathlib.Omega.{arith}
-use mathlib.Core.Path.{◌∙◌}
 use Rattle.parser.proofs.read_within.Goals as goal
 
 pub returns-then-limits-script : goal.returns-then-limits-script
@@ -22,10 +21,6 @@ parse_program-requires-clause-small c = c.requires.small
 pub parse_program-requires-clause-class_value : goal.parse_program-requires-clause-class_value
 parse_program-requires-clause-class_value c = start_nobody c.start-c.ensures
 
-pub shape_of-program-in-On : goal.shape_of-program-in-On
-shape_of-program-in-On c =
-    c.parse_program.auto.program ∙ c.no_program-counts.auto.program
-
 pub returns-in-On : goal.returns-in-On
 returns-in-On c =
     read-yes c.args.limits _
@@ -34,10 +29,6 @@ returns-in-On c =
     c.no_program-counts.ensures
     c.start-c.ensures
     c.parse_program.ensures c.in-On.is
-
-pub shape_of-program-in-Refused : goal.shape_of-program-in-Refused
-shape_of-program-in-Refused c =
-    c.parse_program.auto.program ∙ c.no_program-counts.auto.program
 
 pub returns-in-Refused : goal.returns-in-Refused
 returns-in-Refused c =

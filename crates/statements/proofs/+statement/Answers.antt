@@ -1,5 +1,7 @@
 -- The cycle `statement` of `statements` meets its contracts. Assumes nothing.
-use Rattle.statements.proofs.Cycle.{block-yes, block_in, block_no, block_no2, else_arm, else_bare, else_in, else_in2, else_in3, else_inside, else_join, else_no, else_no2, else_none, else_sorted, else_yes, going_ends, going_less, going_no, going_none, going_on, going_start, if_arm, if_in2, if_in3, if_in4, if_no, if_no2, if_no3, if_no4, if_yes, state_deep, state_expr, state_if, state_in, state_return}
+use Rattle.statements.proofs.Cycle.{block-yes, block_in, block_no, block_no2, else_arm, else_bare, else_in, else_in2, else_in3, else_inside, else_join, else_no, else_no2}
+use Rattle.statements.proofs.Cycle.{else_none, else_sorted, else_yes, going_ends, going_less, going_no, going_none, going_on, going_start, if_arm, if_in2, if_in3, if_in4}
+use Rattle.statements.proofs.Cycle.{if_no, if_no2, if_no3, if_no4, if_yes, state_deep, state_expr, state_if, state_in, state_return}
 use Rattle.statements.proofs.Paths.{expr_in}
 use mathlib.Core.Path.{refl}
 use native.Mathlib.Omega.{arith}
@@ -10,7 +12,11 @@ parse_block-parse_statements-requires t c =
     (omega (arith, c.decreases), (c.requires.fact, c.requires.small))
 
 pub parse_block-end_block-requires : goal.parse_block-end_block-requires
-parse_block-end_block-requires t c = record { program_ready = (block_in _ _ c.parse_statements.ensures c.in-Done.is).ready.tables; small = c.requires.small; block_lt_blocks = (block_in _ _ c.parse_statements.ensures c.in-Done.is).block }
+parse_block-end_block-requires t c = record {
+  program_ready = (block_in _ _ c.parse_statements.ensures c.in-Done.is).ready.tables;
+  small = c.requires.small;
+  block_lt_blocks = (block_in _ _ c.parse_statements.ensures c.in-Done.is).block;
+}
 
 pub parse_block-returns-in-Refused : goal.parse_block-returns-in-Refused
 parse_block-returns-in-Refused t c =

@@ -1,5 +1,4 @@
 -- `statements::finish_else` meets its contract. Assumes nothing.
-use mathlib.Core.Path.{◌∙◌}
 use Rattle.statements.proofs.Paths.{both_no, both_in, both_yes}
 use Rattle.statements.proofs.finish_else.Goals as goal
 
@@ -8,14 +7,6 @@ join_value-requires-clause-fact c = both_in c.args.limits c.args.q c.args.b c.ar
 
 pub join_value-requires-clause-small : goal.join_value-requires-clause-small
 join_value-requires-clause-small c = c.requires.small
-
-pub shape_of-program-in-On : goal.shape_of-program-in-On
-shape_of-program-in-On c =
-    c.join_value.auto.program ∙ c.join_vars.auto.program
-
-pub shape_of-scratch-in-On : goal.shape_of-scratch-in-On
-shape_of-scratch-in-On c =
-    c.join_vars.auto.scratch
 
 pub returns-in-On : goal.returns-in-On
 returns-in-On c =

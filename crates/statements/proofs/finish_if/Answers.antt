@@ -1,5 +1,4 @@
 -- `statements::finish_if` meets its contract. Assumes nothing.
-use mathlib.Core.Path.{◌∙◌}
 use Rattle.statements.proofs.Paths.{bare_no, bare_in, bare_inside, bare_join, bare_sorted, bare_no2, bare_in2, bare_yes}
 use Rattle.statements.proofs.finish_if.Goals as goal
 
@@ -24,25 +23,9 @@ join_value-requires-clause-fact c = bare_in2 _ _ c.requires.fact c.requires.arm 
 pub join_value-requires-clause-small : goal.join_value-requires-clause-small
 join_value-requires-clause-small c = c.requires.small
 
-pub shape_of-program-in-On-join_vars : goal.shape_of-program-in-On-join_vars
-shape_of-program-in-On-join_vars c =
-    c.join_value.auto.program ∙ (c.join_vars.auto.program ∙ c.add_end.auto.program)
-
-pub shape_of-scratch-in-On-join_vars : goal.shape_of-scratch-in-On-join_vars
-shape_of-scratch-in-On-join_vars c =
-    c.join_vars.auto.scratch
-
 pub returns-in-On-join_vars : goal.returns-in-On-join_vars
 returns-in-On-join_vars c =
     bare_yes _ _ c.requires.fact c.requires.arm c.add_end.ensures c.in-On.is c.join_vars.ensures c.in-On-join_vars.is c.join_value.ensures
-
-pub shape_of-program-in-Refused-join_vars : goal.shape_of-program-in-Refused-join_vars
-shape_of-program-in-Refused-join_vars c =
-    c.join_vars.auto.program ∙ c.add_end.auto.program
-
-pub shape_of-scratch-in-Refused-join_vars : goal.shape_of-scratch-in-Refused-join_vars
-shape_of-scratch-in-Refused-join_vars c =
-    c.join_vars.auto.scratch
 
 pub returns-in-Refused-join_vars : goal.returns-in-Refused-join_vars
 returns-in-Refused-join_vars c =

@@ -21,26 +21,10 @@ join_arms-requires-clause-arms c = joins-fit c.requires.fact c.requires.statemen
 pub join_arms-requires-clause-sorted : goal.join_arms-requires-clause-sorted
 join_arms-requires-clause-sorted c = c.requires.sorted
 
-pub shape_of-program-in-On : goal.shape_of-program-in-On
-shape_of-program-in-On c =
-    c.join_arms.auto.program
-
-pub shape_of-scratch-in-On : goal.shape_of-scratch-in-On
-shape_of-scratch-in-On c =
-    c.join_arms.auto.scratch
-
 pub returns-in-On : goal.returns-in-On
 returns-in-On c =
     vars-on c.requires.fact c.requires.statement_inside _ _ c.requires.at_lt_blocks c.join_arms.ensures c.in-On.is
     (placed c.requires.fact c.at_block.ensures c.with_vars.ensures c.counted.ensures)
-
-pub shape_of-program-in-Refused : goal.shape_of-program-in-Refused
-shape_of-program-in-Refused c =
-    c.join_arms.auto.program
-
-pub shape_of-scratch-in-Refused : goal.shape_of-scratch-in-Refused
-shape_of-scratch-in-Refused c =
-    c.join_arms.auto.scratch
 
 pub returns-in-Refused : goal.returns-in-Refused
 returns-in-Refused c =

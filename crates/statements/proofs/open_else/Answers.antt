@@ -1,6 +1,5 @@
 -- `statements::open_else` meets its contract. Assumes nothing.
 use native.Mathlib.Omega.{arith}
-use mathlib.Core.Path.{◌∙◌}
 use Rattle.statements.proofs.Paths.{open_no, open_in, open_before, open_no2, open_old, open_part, open_in2, open_yes, placed2}
 use Rattle.statements.proofs.open_else.Goals as goal
 
@@ -36,14 +35,6 @@ overflow_add-top c =
       c.set_aside-n.ensures.less,
     )
 
-pub shape_of-program-in-On-add_end : goal.shape_of-program-in-On-add_end
-shape_of-program-in-On-add_end c =
-    c.add_end.auto.program ∙ c.new_block.auto.program
-
-pub shape_of-scratch : goal.shape_of-scratch
-shape_of-scratch c =
-    c.set_aside-n.auto.scratch
-
 pub returns-in-On-add_end : goal.returns-in-On-add_end
 returns-in-On-add_end c =
     open_yes _ _ c.requires.fact c.requires.arm c.new_block.ensures c.in-On.is c.add_end.ensures c.in-On-add_end.is c.set_aside-n.ensures
@@ -51,10 +42,6 @@ returns-in-On-add_end c =
     (open_in2 _ _ c.requires.fact c.requires.arm c.new_block.ensures c.in-On.is c.add_end.ensures
     c.in-On-add_end.is)
     c.at_block.ensures c.with_vars.ensures)
-
-pub shape_of-program-in-Refused-add_end : goal.shape_of-program-in-Refused-add_end
-shape_of-program-in-Refused-add_end c =
-    c.add_end.auto.program ∙ c.new_block.auto.program
 
 pub returns-in-Refused-add_end : goal.returns-in-Refused-add_end
 returns-in-Refused-add_end c =

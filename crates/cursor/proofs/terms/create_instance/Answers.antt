@@ -1,5 +1,4 @@
 -- `cursor::terms::create_instance` meets its contract. Assumes nothing.
-use mathlib.Core.Path.{◌∙◌}
 use Rattle.cursor.proofs.terms.Terms.{open_of, new-here, new-args, create_no1, create_bare, create_no2, create_yes}
 use Rattle.cursor.proofs.terms.create_instance.Goals as goal
 
@@ -42,10 +41,6 @@ pub returns-in-Refused-push_call : goal.returns-in-Refused-push_call
 returns-in-Refused-push_call c =
     create_no2 _ _ _ _ c.args.cursor c.args.k c.args.n c.requires.fact c.push.ensures c.in-Done.is c.constructor_of.ensures
     c.in-At.is c.push_call.ensures c.in-Refused-push_call.is
-
-pub shape_of-program-in-Done-push_call : goal.shape_of-program-in-Done-push_call
-shape_of-program-in-Done-push_call c =
-    c.push_call.auto.program ∙ c.push.auto.program
 
 pub returns-in-Done-push_call : goal.returns-in-Done-push_call
 returns-in-Done-push_call c =

@@ -1,6 +1,5 @@
 -- `parser::classes::parse_class` meets its contract. Assumes nothing.
 use Rattle.parser.proofs.classes.Classes.{class_no, class_no2, class_rests, class-there, class_no3, class_tables2, class_twice, class-yes}
-use mathlib.Core.Path.{◌∙◌}
 use Rattle.functions.proofs.Laws.{ident_tables}
 use Rattle.parser.proofs.classes.parse_class.Goals as goal
 
@@ -36,27 +35,15 @@ pub returns-in-Refused-new_class : goal.returns-in-Refused-new_class
 returns-in-Refused-new_class c =
     class_no2 c.args.limits c.requires.rests c.expect_ident.ensures c.in-Found.is c.new_class.ensures c.in-Refused-new_class.is
 
-pub shape_of-program-in-Refused-parse_members : goal.shape_of-program-in-Refused-parse_members
-shape_of-program-in-Refused-parse_members c =
-    c.parse_members.auto.program ∙ c.new_class.auto.program
-
 pub returns-in-Refused-parse_members : goal.returns-in-Refused-parse_members
 returns-in-Refused-parse_members c =
     class_no3 c.args.limits c.requires.rests c.expect_ident.ensures c.in-Found.is c.new_class.ensures c.in-Added.is c.counted-c2.ensures
     c.classed-c3.ensures c.parse_members.ensures c.in-Refused-parse_members.is
 
-pub shape_of-program-in-At : goal.shape_of-program-in-At
-shape_of-program-in-At c =
-    c.parse_members.auto.program ∙ c.new_class.auto.program
-
 pub returns-in-At : goal.returns-in-At
 returns-in-At c =
     class_twice c.args.limits c.requires.rests c.expect_ident.ensures c.in-Found.is c.new_class.ensures c.in-Added.is
     c.counted-c2.ensures c.classed-c3.ensures c.parse_members.ensures c.in-On.is c.class_named.ensures c.in-At.is
-
-pub shape_of-program-in-Nothing : goal.shape_of-program-in-Nothing
-shape_of-program-in-Nothing c =
-    c.parse_members.auto.program ∙ c.new_class.auto.program
 
 pub returns-in-Nothing : goal.returns-in-Nothing
 returns-in-Nothing c =

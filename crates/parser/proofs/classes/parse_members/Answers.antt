@@ -1,7 +1,6 @@
 -- `parser::classes::parse_members` meets its contract. Assumes nothing.
 use Rattle.parser.proofs.classes.Loops.{going_start, going_no, going_ends, going_less, going_on}
 use native.Mathlib.Omega.{arith}
-use mathlib.Core.Path.{◌∙◌}
 use Rattle.parser.proofs.classes.parse_members.Goals as goal
 
 pub loop-e-init : goal.loop-e-init
@@ -17,25 +16,9 @@ parse_member-requires-clause-small c = c.requires.small
 pub parse_member-requires-clause-k_lt_classes : goal.parse_member-requires-clause-k_lt_classes
 parse_member-requires-clause-k_lt_classes c = omega (arith, c.loop-e.invariant.onto.classes, c.requires.k_lt_classes)
 
-pub shape_of-program-in-Refused : goal.shape_of-program-in-Refused
-shape_of-program-in-Refused c =
-    c.parse_member.auto.program ∙ c.loop-e.invariant.long_m
-
-pub shape_of-scratch-in-Refused : goal.shape_of-scratch-in-Refused
-shape_of-scratch-in-Refused c =
-    c.parse_member.auto.scratch ∙ c.loop-e.invariant.long_w
-
 pub returns-in-Refused : goal.returns-in-Refused
 returns-in-Refused c =
     going_no c.loop-e.invariant c.parse_member.ensures c.in-Refused.is
-
-pub shape_of-program-in-Ends : goal.shape_of-program-in-Ends
-shape_of-program-in-Ends c =
-    c.parse_member.auto.program ∙ c.loop-e.invariant.long_m
-
-pub shape_of-scratch-in-Ends : goal.shape_of-scratch-in-Ends
-shape_of-scratch-in-Ends c =
-    c.parse_member.auto.scratch ∙ c.loop-e.invariant.long_w
 
 pub returns-in-Ends : goal.returns-in-Ends
 returns-in-Ends c =
