@@ -18,7 +18,7 @@ use Rattle.state.specs.declared.Sizes.{Sizes}
 use Rattle.state.specs.View.{Attrs, kinds_of, called_of}
 use Rattle.state.specs.Changes.{marks_from}
 use Rattle.flows.specs.declared.Tally.{Tally as Told}
-use Rattle.flows.specs.declared.Tally.TheVariants.{Nothing as None, One as Single, Many as Several}
+use Rattle.flows.specs.declared.Tally.TheVariants.{Nothing as NothingYet, One as Single, Many as Several}
 use Rattle.flows.specs.declared.Pass.{Pass}
 use Rattle.flows.specs.declared.Words.{Words}
 use Rattle.flows.specs.declared.AsSet.{AsSet}
@@ -27,7 +27,7 @@ use Rattle.machine.specs.opnds.Reads.{kind_in}
 use Rattle.flows.specs.Tally.{Tally, Nothing, One, Many, add, least, taken_all, FitsAt}
 
 abbrev pub tally_of : Told → Tally
-tally_of None = Nothing
+tally_of NothingYet = Nothing
 tally_of (Single o k) = One (opnd_of o) k
 tally_of (Several j) = Many j
 
