@@ -7,7 +7,7 @@ use mathlib.Core.List.{List, ◌++◌}
 use Prim.Native.Nat.{ℕ, ◌≤◌, ◌<◌}
 use native.Mathlib.Omega.{arith}
 use lib.Dec.{leb}
-use lib.ListN.{length, get_or, take, drop, length-append, length-drop}
+use lib.ListN.{length, take, drop, length-append, length-drop}
 use lib.Seq.{take_at, drop_at}
 use borrow.Author.Tests.{leb-true}
 use Rattle.rules.specs.Actions.{Answer, answered, refused}
@@ -20,12 +20,12 @@ use Rattle.memory.specs.Memory.{zeros}
 use Rattle.memory.proofs.Laws.{zeros-length}
 use Rattle.answer.specs.Layout.{answer_length}
 use Rattle.answer.specs.Record.{answer_record}
-use Rattle.answer.specs.Image.{image_of, record_in, count_in, live_in}
+use Rattle.answer.specs.Image.{record_in, count_in, live_in}
 use Rattle.answer.proofs.Image.{image_length, record_back, count-is, live-is}
-use Rattle.answer.proofs.Answered.{Published, answer-published}
+use Rattle.answer.proofs.Answered.{answer-published}
 use Rattle.state.specs.Layout.{state_length}
 use Rattle.chains.specs.Layout.{program_length}
-use Rattle.call.specs.Call.{Lent, CallLeft, lent, left, answer_of, holding, ended, long_enough, after}
+use Rattle.call.specs.Call.{Lent, CallLeft, left, answer_of, holding, ended, long_enough, after}
 
 module _ (script : List ℕ) where
   answer-length : (a : Analysis) → analyze limits script ≡ answered a → length (answer_of a) ≡ answer_length

@@ -3,7 +3,7 @@ use mathlib.Core.Bool.{Bool as 𝔹, true, false}
 use mathlib.Core.Path.{◌≡◌, refl, sym, ap, ◌∙◌, subst}
 use mathlib.Core.Option.{some}
 use mathlib.Core.List.{List, ◌++◌}
-use Prim.Native.Nat.{ℕ, ◌+◌, ◌≤◌, ◌<◌}
+use Prim.Native.Nat.{ℕ, ◌≤◌, ◌<◌}
 use native.Mathlib.Omega.{arith}
 use lib.ListN.{length, get_or, take, drop}
 use lib.Seq.{take_at, length-take-le}
@@ -15,19 +15,15 @@ use Rattle.rules.specs.Program.{limits, Program}
 use Rattle.rules.specs.Reading.{parse_program}
 use Rattle.rules.specs.Machine.{State, state_of, start, run}
 use Rattle.rules.specs.Bound.{bound}
-use Rattle.rules.specs.Finished.{Finished}
 use Rattle.rules.specs.Frames.{Analysis, analyze}
 use Rattle.rules.proofs.Wellformed.Laws.{and_then}
 use Rattle.rules.proofs.Wellformed.Forward.{program_comes, too_long as too-long-refused}
-use Rattle.rules.proofs.Wellformed.Whole.{finished}
 use Rattle.rules.proofs.Questions.{start_fine, run_fine}
 use Rattle.rules.proofs.Exactness.Answers as Answers
-use Rattle.rules.proofs.Demand.{limits_usable, usable_sane}
 use Rattle.memory.specs.Memory.{zeros, Blank}
 use Rattle.memory.proofs.Laws.{zeros-at, blank}
-use Rattle.program.specs.View.{program_view, ProgramReady, Small, limits_of}
+use Rattle.program.specs.View.{program_view}
 use Rattle.program.specs.declared.Counts.{Counts}
-use Rattle.program.specs.declared.Limits.{Limits}
 use Rattle.state.specs.declared.Regs.{Regs}
 use Rattle.state.specs.declared.Acted.{Acted}
 use Rattle.state.specs.declared.Acted.TheVariants.{On, Refused as No}
@@ -38,7 +34,7 @@ use Rattle.answer.specs.Layout.{answer_length, callers_at}
 use Rattle.answer.specs.Record.{Legal, answer_record}
 use Rattle.answer.specs.Image.{image_of}
 use Rattle.answer.proofs.Answered.{run-published}
-use Rattle.machine.specs.Analysed.{Suited, sizes_of}
+use Rattle.machine.specs.Analysed.{sizes_of}
 use Rattle.machine.proofs.States.{attrs, attrs-fit}
 use Rattle.publish.specs.Final.{with_state}
 use Rattle.publish.proofs.Tables.{live-length}

@@ -2,7 +2,6 @@
 use Rattle.std.specs.Prelude.{◌≡◌, List, ◌++◌, ℕ, length, take, drop}
 use Rattle.rules.specs.Actions.{Answer, answered, refused, if_answered}
 use Rattle.rules.specs.Program.{limits, Program}
-use Rattle.rules.specs.Reading.{parse_program}
 use Rattle.rules.specs.Machine.{start, run}
 use Rattle.rules.specs.Bound.{bound}
 use Rattle.rules.specs.Frames.{Analysis, analyze}
@@ -13,8 +12,6 @@ use Rattle.answer.specs.Layout.{answer_length}
 use Rattle.answer.specs.Record.{answer_record}
 use Rattle.answer.specs.Image.{image_of}
 use Rattle.machine.specs.Analysed.{Suited}
-use Rattle.parser.specs.declared.ReadOutcome.{ReadOutcome}
-use Rattle.parser.specs.Outcomes.{answer_of as read_of, OutcomeReadyIf}
 use Rattle.program.specs.Layout.{program_size}
 use Rattle.state.specs.Layout.{state_length}
 use Rattle.chains.specs.Layout.{program_length}

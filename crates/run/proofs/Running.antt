@@ -2,7 +2,7 @@
 use mathlib.Core.Bool.{Bool as 𝔹, true, false, not}
 use mathlib.Core.Path.{◌≡◌, refl, sym, ap, ◌∙◌, subst}
 use mathlib.Core.List.{List}
-use Prim.Native.Nat.{ℕ, ◌+◌, ◌-◌, ◌^◌, ◌≤◌, ◌<◌}
+use Prim.Native.Nat.{ℕ, ◌+◌, ◌-◌, ◌^◌, ◌<◌}
 use native.Mathlib.Omega.{arith}
 use borrow.Author.Tests.{eqb-true}
 use lib.Dec.{eqb}
@@ -29,7 +29,7 @@ use Rattle.machine.specs.blocks.Blocks.{BlockStepped}
 use Rattle.machine.specs.Analysed.{Suited, Analysed, MachineFits, MachineReached, Steady}
 use Rattle.machine.proofs.States.{attrs, attrs-fit, at_of, steady-at, bound-fits}
 use Rattle.steps.specs.Steps.{block_next, RecordOf, Front}
-use Rattle.run.specs.Runs.{Reaching, RunRan, Ahead, Going, TurnOutcome, Under, left, Turned}
+use Rattle.run.specs.Runs.{RunRan, Ahead, Going, TurnOutcome, Under, left, Turned}
 use Rattle.run.specs.declared.Turn.{Turn}
 use Rattle.steps.specs.declared.Timed.{Timed}
 use Rattle.steps.specs.Stamps.{tables_of, Stamped, StampedIf, Timely}

@@ -1,13 +1,12 @@
 -- Parts of the lent memories that are cleared, laid or used as work memory. Assumes nothing.
-use mathlib.Core.Path.{◌≡◌, refl, sym, ap, ◌∙◌, subst}
+use mathlib.Core.Path.{◌≡◌, sym, ap, ◌∙◌, subst}
 use mathlib.Core.List.{List, [], ◌++◌, append-nil}
 use Prim.Native.Nat.{ℕ, ◌+◌, ◌-◌, ◌*◌, ◌≤◌, ◌<◌}
 use native.Mathlib.Nat.{zero-add}
 use native.Mathlib.Omega.{arith}
-use lib.ListN.{length, get_or, take, drop, length-append, length-drop, drop_of_length-le, get_or-append}
+use lib.ListN.{length, get_or, take, drop, length-drop, drop_of_length-le, get_or-append}
 use lib.Seq.{length-take-le, get_or-append-add, get_or-take, ext_get_or, take_at, take_all}
 use borrow.Rule.Slice.PartMut.{put_mid, post_of}
-use Rattle.program.specs.View as P
 use Rattle.program.specs.declared.Counts.{Counts}
 use Rattle.chains.specs.Chains.{Index, ChainsFilled, Carried}
 use Rattle.memory.specs.Memory.{zeros}

@@ -1,14 +1,14 @@
 -- The analysis from its parts, and demand 3 of what it answers. Assumes nothing.
 use mathlib.Core.Path.{◌≡◌, refl, sym, ap, ap₂, ◌∙◌, subst}
 use mathlib.Core.List.{List, ◌++◌}
-use Prim.Native.Nat.{ℕ, ◌+◌, ◌-◌, ◌≤◌, ◌<◌}
+use Prim.Native.Nat.{ℕ, ◌+◌, ◌-◌, ◌≤◌}
 use native.Mathlib.Omega.{arith}
 use lib.ListN.{length, get_or, take, drop, get_or-append}
 use lib.Seq.{get_or-take, ext_get_or}
 use Rattle.rules.specs.Actions.{Answer, answered, refused, if_answered}
 use Rattle.rules.specs.Program.{Limits}
 use Rattle.rules.specs.Bound.{bound}
-use Rattle.rules.specs.Machine.{State, state_of, start, run}
+use Rattle.rules.specs.Machine.{State, start, run}
 use Rattle.rules.specs.Steps.{Exact, Counted}
 use Rattle.rules.proofs.Exactness.Loop.{at-start}
 use Rattle.rules.proofs.Exactness.Theorem.{exact}
@@ -22,9 +22,8 @@ use Rattle.state.specs.declared.Regs.{Regs}
 use Rattle.state.specs.declared.Acted.{Acted}
 use Rattle.state.specs.declared.Acted.TheVariants.{On, Refused}
 use Rattle.state.specs.View.{Attrs, state_view, StateReady}
-use Rattle.state.specs.Changes.{went}
-use Rattle.answer.specs.Layout.{starts_at, users_at, callers_at, answer_length}
-use Rattle.machine.specs.Analysed.{sizes_of, MachineSized, Users, Suited, Indexed, Analysed, MachineFits, MachineReached}
+use Rattle.answer.specs.Layout.{starts_at, users_at, answer_length}
+use Rattle.machine.specs.Analysed.{sizes_of, MachineSized, Users, Suited, Analysed, MachineFits}
 use Rattle.machine.proofs.Storing.{start-few}
 use Rattle.memory.specs.Layout.{instructions_most}
 use Rattle.state.specs.Layout.{state_size, state_length}

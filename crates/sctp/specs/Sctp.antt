@@ -8,10 +8,8 @@ use Rattle.program.specs.View as P
 use Rattle.program.specs.declared.Counts.{Counts}
 use Rattle.chains.specs.Chains.{Index}
 use Rattle.state.specs.declared.Sizes.{Sizes}
-use Rattle.state.specs.declared.Regs.{Regs}
 use Rattle.state.specs.declared.Acted.{Acted}
-use Rattle.state.specs.declared.Acted.TheVariants.{On, Refused}
-use Rattle.state.specs.View.{Attrs, StateReady}
+use Rattle.state.specs.View.{Attrs}
 use Rattle.state.specs.Changes.{went}
 use Rattle.answer.specs.Layout.{starts_at, users_at, callers_at, answer_length}
 use Rattle.machine.specs.Analysed.{sizes_of, Users, Suited, MachineFits}

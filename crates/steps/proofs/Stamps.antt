@@ -28,7 +28,7 @@ use Rattle.state.specs.declared.Regs.{Regs}
 use Rattle.state.specs.declared.Acted.{Acted}
 use Rattle.state.specs.declared.Acted.TheVariants.{On, Refused}
 use Rattle.state.specs.View.{Attrs, kinds_of, insns_of, blocks_of, state_view, StateReady}
-use Rattle.state.specs.Changes.{went, TookInsn}
+use Rattle.state.specs.Changes.{TookInsn}
 use Rattle.state.proofs.Tables.{kind_at}
 use Rattle.state.proofs.Pushes.{insns-length, blocks-length}
 use Rattle.machine.specs.blocks.Blocks.{ReadyNext, BlockStepped}

@@ -8,14 +8,13 @@ use native.Mathlib.Omega.{arith}
 use borrow.Author.Tests.{eqb-true}
 use lib.Dec.{eqb}
 use lib.ListN.{length}
-use Rattle.rules.specs.Actions.{Answer}
 use Rattle.rules.specs.Program.{Limits, Program}
 use Rattle.rules.specs.Machine.{State, state_of, take_block, take_insn, drain_block, step, visit, taken}
 use Rattle.state.specs.declared.Sizes.{Sizes}
 use Rattle.state.specs.declared.Regs.{Regs}
 use Rattle.state.specs.declared.Acted.{Acted}
 use Rattle.state.specs.View.{Attrs, insns_of, blocks_of, state_view, StateReady}
-use Rattle.state.specs.Changes.{went, StateDid, TookInsn}
+use Rattle.state.specs.Changes.{StateDid, TookInsn}
 use Rattle.machine.specs.blocks.Blocks.{HasCode, CodeIs, blocks_in, BlockStepped}
 use Rattle.machine.proofs.blocks.Indexed.{has_code, code_is}
 use Rattle.program.specs.View.{ReadsInsn}

@@ -1,6 +1,5 @@
 -- `call::analyze_parts` meets its contract. Assumes nothing.
 use Rattle.call.proofs.Laws.{ran_is}
-use borrow.Author.Rules.{rules}
 use Rattle.call.proofs.analyze_parts.Goals as goal
 
 pub returns : goal.returns

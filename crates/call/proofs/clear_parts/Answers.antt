@@ -1,6 +1,5 @@
 -- `call::clear_parts` meets its contract. Assumes nothing.
 use Rattle.call.proofs.Laws.{cleared_is}
-use borrow.Author.Rules.{rules}
 use Rattle.call.proofs.clear_parts.Goals as goal
 
 pub returns-in-Refused : goal.returns-in-Refused

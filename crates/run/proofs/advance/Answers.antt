@@ -3,7 +3,6 @@ use native.Mathlib.Omega.{arith}
 use lib.Seq.{length-take-le}
 use mathlib.Core.Path.{sym}
 use Rattle.run.proofs.Running.{going_count, under_no, turn_ready, turn_steady, turn_small, turn_record, turn_front, turn_stamped, turn_on, turned_on, turned_no}
-use borrow.Author.Rules.{rules}
 use Rattle.state.specs.Layout.{stamps_at}
 use Rattle.run.proofs.advance.Goals as goal
 
@@ -55,13 +54,13 @@ slice_bounds-ahead-end-in-On-went c =
 
 pub ahead-requires-clause-state_ready : goal.ahead-requires-clause-state_ready
 ahead-requires-clause-state_ready c = (turn_on c.requires.under c.in-On.is c.requires.going_value c.requires.analysed c.step-next.ensures
-          c.in-On-went.is).ready
+    c.in-On-went.is).ready
 
 pub ahead-requires-clause-count_bound : goal.ahead-requires-clause-count_bound
 ahead-requires-clause-count_bound c = going_count
-          (turn_on c.requires.under c.in-On.is c.requires.going_value c.requires.analysed c.step-next.ensures
-          c.in-On-went.is)
-          c.requires.analysed
+    (turn_on c.requires.under c.in-On.is c.requires.going_value c.requires.analysed c.step-next.ensures
+    c.in-On-went.is)
+    c.requires.analysed
 
 pub returns-in-On-went : goal.returns-in-On-went
 returns-in-On-went c =

@@ -1,6 +1,5 @@
 -- `run::ahead` meets its contract. Assumes nothing.
 use Rattle.run.proofs.Running.{ahead_at}
-use borrow.Author.Rules.{rules}
 use Rattle.run.proofs.ahead.Goals as goal
 
 pub returns : goal.returns

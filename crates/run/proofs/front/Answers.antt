@@ -1,6 +1,5 @@
 -- `run::front` meets its contract. Assumes nothing.
 use Rattle.steps.proofs.Stepping.{some_insn, front-block, front_insn}
-use borrow.Author.Rules.{rules}
 use Rattle.run.proofs.front.Goals as goal
 
 pub returns-then-block_next : goal.returns-then-block_next

@@ -4,7 +4,6 @@ use Rattle.steps.proofs.Stamps.{back_long}
 use lib.Seq.{length-take-le}
 use mathlib.Core.Path.{sym}
 use native.Mathlib.Omega.{arith}
-use borrow.Author.Rules.{rules}
 use Rattle.state.specs.Layout.{state_size}
 use Rattle.sctp.proofs.analyse.Goals as goal
 
@@ -20,7 +19,7 @@ begin-b-requires-clause-users_len c = c.requires.users_len
 
 pub begin-b-requires-clause-state_len : goal.begin-b-requires-clause-state_len
 begin-b-requires-clause-state_len c = length-take-le state_size c.args.state.now
-        (omega (arith, c.requires.state_len))
+    (omega (arith, c.requires.state_len))
 
 pub fill-requires : goal.fill-requires
 fill-requires c =
@@ -35,20 +34,19 @@ fill-requires c =
     )
 
 pub run_lent-requires : goal.run_lent-requires
-run_lent-requires c =
-    (
-      record {
-        indexed = c.requires.analysed.indexed;
-        users = users-kept c.requires.analysed.indexed.ready.insns c.begin-b.auto.users c.begin-b.ensures.aside
-            c.requires.analysed.users;
-      },
-      begun_fresh c.args.state.now c.begin-b.new.state c.fill.new.scratch c.requires.state_len
-          c.begin-b.auto.state c.fill.ensures c.begin-b.ensures c.in-On.is,
-      started-reaching
-          (begun_tables c.args.state.now c.begin-b.new.state c.fill.new.scratch c.requires.state_len
-          c.begin-b.auto.state c.fill.ensures c.begin-b.ensures).started
-          c.in-On.is,
-    )
+run_lent-requires c = (
+  record {
+    indexed = c.requires.analysed.indexed;
+    users = users-kept c.requires.analysed.indexed.ready.insns c.begin-b.auto.users c.begin-b.ensures.aside
+        c.requires.analysed.users;
+  },
+  begun_fresh c.args.state.now c.begin-b.new.state c.fill.new.scratch c.requires.state_len
+      c.begin-b.auto.state c.fill.ensures c.begin-b.ensures c.in-On.is,
+  started-reaching
+      (begun_tables c.args.state.now c.begin-b.new.state c.fill.new.scratch c.requires.state_len
+      c.begin-b.auto.state c.fill.ensures c.begin-b.ensures).started
+      c.in-On.is,
+)
 
 pub returns-in-On : goal.returns-in-On
 returns-in-On c =

@@ -3,7 +3,6 @@ use Rattle.sctp.proofs.Parts.{chains_lent}
 use lib.Seq.{length-take-le}
 use mathlib.Core.Path.{sym}
 use native.Mathlib.Omega.{arith}
-use borrow.Author.Rules.{rules}
 use Rattle.program.specs.Layout.{program_size}
 use Rattle.sctp.proofs.analyse_parts.Goals as goal
 

@@ -1,6 +1,5 @@
 -- `sctp::begin` meets its contract. Assumes nothing.
 use Rattle.sctp.proofs.Parts.{begun_aside}
-use borrow.Author.Rules.{rules}
 use Rattle.sctp.proofs.begin.Goals as goal
 
 pub start_aside-r-requires-clause-indexed : goal.start_aside-r-requires-clause-indexed

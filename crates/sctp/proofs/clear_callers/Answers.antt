@@ -1,6 +1,5 @@
 -- `sctp::clear_callers` meets its contract. Assumes nothing.
 use Rattle.sctp.proofs.Parts.{callers_cleared}
-use borrow.Author.Rules.{rules}
 use Rattle.sctp.proofs.clear_callers.Goals as goal
 
 pub returns : goal.returns

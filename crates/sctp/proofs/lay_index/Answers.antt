@@ -3,7 +3,6 @@ use Rattle.sctp.proofs.Parts.{built_taken, index-laid}
 use lib.Seq.{length-take-le}
 use mathlib.Core.Path.{sym}
 use native.Mathlib.Omega.{arith}
-use borrow.Author.Rules.{rules}
 use Rattle.program.specs.Layout.{program_size}
 use Rattle.chains.specs.Layout.{chains_size}
 use Rattle.sctp.proofs.lay_index.Goals as goal
@@ -19,10 +18,10 @@ build_index-requires-clause-program_ready c = c.requires.program_ready
 
 pub build_index-requires-clause-chains_size_in_bounds : goal.build_index-requires-clause-chains_size_in_bounds
 build_index-requires-clause-chains_size_in_bounds c = omega (
-    arith,
-    length-take-le chains_size c.args.state.now
-        (omega (arith, c.requires.state_len)),
-  )
+  arith,
+  length-take-le chains_size c.args.state.now
+      (omega (arith, c.requires.state_len)),
+)
 
 pub slice_bounds-copy_index-end-2 : goal.slice_bounds-copy_index-end-2
 slice_bounds-copy_index-end-2 c =
@@ -30,15 +29,15 @@ slice_bounds-copy_index-end-2 c =
 
 pub copy_index-requires-clause-chains_size_in_bounds : goal.copy_index-requires-clause-chains_size_in_bounds
 copy_index-requires-clause-chains_size_in_bounds c = (
-    omega (
-      arith,
-      built_taken c.args.state.now
-          c.build_index.new.scratch
-          c.requires.state_len
-          c.build_index.auto.scratch,
-    ),
-    c.requires.program_ready.insns,
-  )
+  omega (
+    arith,
+    built_taken c.args.state.now
+        c.build_index.new.scratch
+        c.requires.state_len
+        c.build_index.auto.scratch,
+  ),
+  c.requires.program_ready.insns,
+)
 
 pub copy_index-requires-clause-chains_size_in_bounds_2 : goal.copy_index-requires-clause-chains_size_in_bounds_2
 copy_index-requires-clause-chains_size_in_bounds_2 c = omega (arith, c.requires.program_len)

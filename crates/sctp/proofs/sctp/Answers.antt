@@ -1,7 +1,7 @@
 -- `sctp::sctp` meets its contract. Assumes nothing.
 use Rattle.sctp.proofs.Whole.{tables-ready, all-analysed, analysed_whole}
 use lib.Seq.{length-take-le}
-use mathlib.Core.Path.{sym, ◌∙◌}
+use mathlib.Core.Path.{sym}
 use native.Mathlib.Omega.{arith}
 use borrow.Author.Rules.{rules}
 use Rattle.program.specs.Layout.{program_size}

@@ -1,6 +1,5 @@
 -- `sctp::start_aside` meets its contract. Assumes nothing.
 use Rattle.sctp.proofs.Parts.{callers_used, callers-room}
-use borrow.Author.Rules.{rules}
 use Rattle.sctp.proofs.start_aside.Goals as goal
 
 pub start-requires-clause-indexed : goal.start-requires-clause-indexed

@@ -1,8 +1,8 @@
 -- The ways through the start. Assumes nothing.
 use mathlib.Core.Bool.{Bool as 𝔹, true, false, cond}
-use mathlib.Core.Path.{◌≡◌, refl, sym, ap, ap₂, ◌∙◌, subst}
+use mathlib.Core.Path.{◌≡◌, refl, sym, ap, ap₂, ◌∙◌}
 use mathlib.Core.List.{List}
-use Prim.Native.Nat.{ℕ, ◌+◌, ◌≤◌, ◌<◌}
+use Prim.Native.Nat.{ℕ, ◌≤◌, ◌<◌}
 use native.Mathlib.Omega.{arith}
 use borrow.Author.Tests.{eq-eqb, ne_eqb}
 use lib.Dec.{eqb}
@@ -13,7 +13,6 @@ use Rattle.rules.specs.Program as R
 use Rattle.rules.specs.Program.{Limits, Program, entry, main_function}
 use Rattle.rules.specs.Machine.{State, state_of, start, first_kinds_from, go_live, blank}
 use Rattle.rules.proofs.Exactness.Promise.{main_in, entry_in}
-use Rattle.program.specs.Rows.{function_in}
 use Rattle.program.specs.View as P
 use Rattle.program.specs.View.{ReadsFun}
 use Rattle.program.specs.declared.Counts.{Counts}
@@ -25,14 +24,14 @@ use Rattle.state.specs.declared.Sizes.{Sizes}
 use Rattle.state.specs.declared.Regs.{Regs}
 use Rattle.state.specs.declared.Acted.{Acted}
 use Rattle.state.specs.declared.Acted.TheVariants.{On, Refused}
-use Rattle.state.specs.View.{Attrs, state_view, StateReady, StateCleared, no_entries}
-use Rattle.state.specs.Changes.{went, ReadyAfter, StateDid}
+use Rattle.state.specs.View.{StateReady, StateCleared, no_entries}
+use Rattle.state.specs.Changes.{ReadyAfter, StateDid}
 use Rattle.state.proofs.Blank.{blank-ready}
 use Rattle.machine.specs.blocks.Blocks.{HasCode, CodeIs}
 use Rattle.machine.proofs.blocks.Indexed.{has_code, code_is}
-use Rattle.constructors.specs.firsts.Firsts.{Entries, FirstsOnly, outcome, all_kinds_at, FirstsAre}
+use Rattle.constructors.specs.firsts.Firsts.{Entries, outcome, all_kinds_at, FirstsAre}
 use Rattle.constructors.proofs.firsts.Promise.{entries_of}
-use Rattle.machine.specs.Analysed.{Suited, Indexed, MachineFits}
+use Rattle.machine.specs.Analysed.{Indexed}
 use Rattle.memory.specs.Layout.{blocks_room}
 use Rattle.state.specs.Layout.{ivar_kinds_at, ivar_bits_at}
 use Rattle.sctp.specs.starts.Starts.{Mains, BegunIf, Started}

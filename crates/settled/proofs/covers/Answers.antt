@@ -1,7 +1,6 @@
 -- `settled::covers` meets its contract. Assumes nothing.
 use mathlib.Core.Bool.{false≢true}
 use Rattle.settled.proofs.Settling.{covers-plain}
-use borrow.Author.Rules.{rules}
 use Rattle.settled.proofs.covers.Goals as goal
 
 pub returns-then-k : goal.returns-then-k

@@ -1,7 +1,5 @@
 -- `settled::ivar_words` meets its contract. Assumes nothing.
-use mathlib.Core.Path.{refl}
 use Rattle.state.proofs.Puts.{ivar_read}
-use borrow.Author.Rules.{rules}
 use Rattle.settled.proofs.ivar_words.Goals as goal
 
 pub returns : goal.returns

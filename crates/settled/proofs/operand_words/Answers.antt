@@ -1,7 +1,6 @@
 -- `settled::operand_words` meets its contract. Assumes nothing.
 use Rattle.state.specs.View.{kinds_of}
 use Rattle.settled.proofs.Operands.{word-inside, stands_inside, operand_kind, operand_nil}
-use borrow.Author.Rules.{rules}
 use native.Mathlib.Omega.{arith}
 use Rattle.settled.proofs.operand_words.Goals as goal
 
@@ -22,5 +21,5 @@ returns-then-j-insn c =
     operand_kind c.args.insn c.args.j c.requires.program_ready c.requires.count_bound (kinds_of c.args.sizes c.args.state.now) (omega arith) c.opnd_words.ensures
 
 pub returns : goal.returns
-returns c =    operand_nil c.args.insn c.args.j c.requires.program_ready c.requires.count_bound (kinds_of c.args.sizes c.args.state.now)
+returns c = operand_nil c.args.insn c.args.j c.requires.program_ready c.requires.count_bound (kinds_of c.args.sizes c.args.state.now)
     c.if-j-insn.false

@@ -1,10 +1,7 @@
 -- `settled::settled` meets its contract. Assumes nothing.
 use mathlib.Core.Bool.{false≢true}
-use borrow.Author.Tests.{not-false}
-use borrow.Author.Rules.{rules}
 use Rattle.machine.proofs.receivers.Walk.{step, none_left, class-below}
-use Rattle.flows.specs.Flows.{words_of}
-use Rattle.settled.proofs.Settling.{Settling, settling_start, settling_more, settling_done}
+use Rattle.settled.proofs.Settling.{settling_start, settling_more, settling_done}
 use Rattle.settled.proofs.settled.Goals as goal
 
 pub loop-x-init : goal.loop-x-init

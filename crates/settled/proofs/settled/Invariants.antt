@@ -1,10 +1,6 @@
 -- What the loop of `settled::settled` keeps.
-use mathlib.Core.Bool.{false≢true}
-use borrow.Author.Tests.{not-false}
-use borrow.Author.Rules.{rules}
-use Rattle.machine.proofs.receivers.Walk.{step, none_left, class-below}
 use Rattle.flows.specs.Flows.{words_of}
-use Rattle.settled.proofs.Settling.{Settling, settling_start, settling_more, settling_done}
+use Rattle.settled.proofs.Settling.{Settling}
 use Rattle.settled.proofs.settled.Given as goal
 
 abbrev pub invariant-loop-x : goal.invariant-loop-x

@@ -2,7 +2,6 @@
 use mathlib.Core.Bool.{false≢true}
 use Rattle.attributes.proofs.Found.{at_low}
 use Rattle.settled.proofs.Settling.{settled_at}
-use borrow.Author.Rules.{rules}
 use Rattle.std.proofs.Common.{ap, not}
 use Rattle.settled.proofs.settled_in.Goals as goal
 
@@ -14,10 +13,10 @@ ivar_words-j-requires-clause-state_held c = c.requires.state_held
 
 pub ivar_words-j-requires-clause-x_lt_classes : goal.ivar_words-j-requires-clause-x_lt_classes
 ivar_words-j-requires-clause-x_lt_classes c = (
-        c.requires.x_lt_classes.0,
-        at_low c.args.script.now c.args.program.now c.args.counts c.args.x.0 c.args.n
-            c.ivar_named.ensures c.requires.state_matches c.requires.x_lt_classes.0 c.in-At.is,
-      )
+  c.requires.x_lt_classes.0,
+  at_low c.args.script.now c.args.program.now c.args.counts c.args.x.0 c.args.n
+      c.ivar_named.ensures c.requires.state_matches c.requires.x_lt_classes.0 c.in-At.is,
+)
 
 pub returns-in-At : goal.returns-in-At
 returns-in-At c =

@@ -1,10 +1,6 @@
 -- `settled::unsettle` meets its contract. Assumes nothing.
 use Rattle.settled.proofs.Stamps.{unsettled_start, unsettled_held, unsettled_keep, unsettled_put, unsettled_done}
-use Prim.Native.Nat.{◌-◌}
-use mathlib.Core.Logic.{⊎_elim}
 use native.Mathlib.Omega.{arith}
-use Rattle.flows.specs.Flows.{words_of}
-use Rattle.settled.specs.Reads.{Unsettled}
 use Rattle.settled.proofs.unsettle.Goals as goal
 use Rattle.settled.proofs.unsettle.Goals.{then-touched, else-touched}
 
@@ -27,7 +23,7 @@ pub offset_bounds-state-j : goal.offset_bounds-state-j
 offset_bounds-state-j c = omega (arith, c.requires.state_held.insns)
 
 pub bounds-state-j : goal.bounds-state-j
-bounds-state-j c =    omega (arith, c.requires.state_len, c.requires.state_held.insns, c.loop-j.invariant.long)
+bounds-state-j c = omega (arith, c.requires.state_len, c.requires.state_held.insns, c.loop-j.invariant.long)
 
 pub overflow_add-j : goal.overflow_add-j
 overflow_add-j c = omega (arith, c.requires.state_held.insns)

@@ -1,8 +1,5 @@
 -- What the loop of `settled::unsettle` keeps.
-use Rattle.settled.proofs.Stamps.{unsettled_start, unsettled_held, unsettled_keep, unsettled_put, unsettled_done}
 use Prim.Native.Nat.{◌-◌}
-use mathlib.Core.Logic.{⊎_elim}
-use native.Mathlib.Omega.{arith}
 use Rattle.flows.specs.Flows.{words_of}
 use Rattle.settled.specs.Reads.{Unsettled}
 use Rattle.settled.proofs.unsettle.Given as goal

@@ -2,7 +2,6 @@
 use Rattle.steps.proofs.Stamps.{few}
 use Rattle.steps.proofs.Kept.{its_operands, read_idles, other_idles}
 use native.Mathlib.Omega.{arith}
-use borrow.Author.Rules.{rules}
 use Rattle.steps.proofs.idle.Goals as goal
 
 pub operand_words-o-requires-clause-program_ready : goal.operand_words-o-requires-clause-program_ready

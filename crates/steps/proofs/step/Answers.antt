@@ -4,7 +4,6 @@ use Rattle.steps.proofs.Stepping.{code-held, code_fits, some_block}
 use Rattle.steps.proofs.Kept.{facing, timely_insn, timely_block}
 use native.Mathlib.Omega.{arith}
 use Rattle.steps.specs.Stamps.{tables_of}
-use borrow.Author.Rules.{rules}
 use Rattle.steps.proofs.step.Goals as goal
 
 pub step_block-w-requires-clause-state_ready : goal.step_block-w-requires-clause-state_ready
@@ -15,10 +14,10 @@ step_block-w-requires-clause-has_code c = code-held c.requires.analysed c.requir
 
 pub step_block-w-requires-clause-len_nonzero : goal.step_block-w-requires-clause-len_nonzero
 step_block-w-requires-clause-len_nonzero c = (
-          some_block c.args.sizes (tables_of c.args.state.now) c.args.regs c.block_next.ensures
-              c.if-block_next.true c.requires.len_nonzero.0,
-          c.requires.len_nonzero.1,
-        )
+  some_block c.args.sizes (tables_of c.args.state.now) c.args.regs c.block_next.ensures
+      c.if-block_next.true c.requires.len_nonzero.0,
+  c.requires.len_nonzero.1,
+)
 
 pub overflow_add-result : goal.overflow_add-result
 overflow_add-result c = omega (arith, c.requires.stamped.dated.slow, c.requires.len_nonzero.1)

@@ -1,6 +1,5 @@
 -- `steps::step_insn` meets its contract. Assumes nothing.
 use Rattle.steps.proofs.Stepping.{front-row, insn_stepped}
-use borrow.Author.Rules.{rules}
 use Rattle.steps.proofs.step_insn.Goals as goal
 
 pub visit-requires-clause-analysed : goal.visit-requires-clause-analysed

@@ -4,7 +4,6 @@ use Rattle.steps.proofs.Kept.{its_operands, stamp_asked, long-on, held_on, ring_
 use mathlib.Core.Path.{sym}
 use native.Mathlib.Omega.{arith}
 use lib.Seq.{length-take-le}
-use borrow.Author.Rules.{rules}
 use Rattle.state.specs.Layout.{stamps_at}
 use Rattle.steps.proofs.visit_insn.Goals as goal
 

@@ -1,7 +1,6 @@
 -- `steps::visit_timed` meets its contract. Assumes nothing.
 use native.Mathlib.Omega.{arith}
 use Rattle.steps.proofs.Stamps.{few, came_long, asked, ring_fits, visit_no, visit_changed, visit-kept, visit_stamped}
-use borrow.Author.Rules.{rules}
 use Rattle.steps.proofs.visit_timed.Goals as goal
 
 pub step_insn-w-requires-clause-analysed : goal.step_insn-w-requires-clause-analysed

@@ -1,6 +1,5 @@
 -- `sctp::starts::main_entry` meets its contract. Assumes nothing.
 use Rattle.sctp.proofs.starts.Starting.{main-below, main-entered}
-use borrow.Author.Rules.{rules}
 use Rattle.sctp.proofs.starts.main_entry.Goals as goal
 
 pub main_function-f-requires : goal.main_function-f-requires

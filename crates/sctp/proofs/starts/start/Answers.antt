@@ -1,7 +1,6 @@
 -- `sctp::starts::start` meets its contract. Assumes nothing.
 use Rattle.sctp.proofs.starts.Starting.{jumps_inside, entries-inside, code-held, main-live, filled-ready, start_none, start-refused, start-live}
 use native.Mathlib.Omega.{arith}
-use borrow.Author.Rules.{rules}
 use Rattle.sctp.proofs.starts.start.Goals as goal
 
 pub returns-then-counts-eq0 : goal.returns-then-counts-eq0
@@ -25,9 +24,9 @@ all_first_kinds-e-requires-clause-walk_size_in_bounds c = c.requires.walk_size_i
 
 pub all_first_kinds-e-requires-clause-ivars_most_bound : goal.all_first_kinds-e-requires-clause-ivars_most_bound
 all_first_kinds-e-requires-clause-ivars_most_bound c = (
-            omega arith,
-            omega (arith, c.requires.state_cleared.held.len),
-          )
+  omega arith,
+  omega (arith, c.requires.state_cleared.held.len),
+)
 
 pub returns-then-e-ne0 : goal.returns-then-e-ne0
 returns-then-e-ne0 c =
