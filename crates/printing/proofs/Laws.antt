@@ -18,7 +18,7 @@ use Rattle.answer.proofs.Answered.{answer-published}
 use Rattle.frames.proofs.Frames.{image_frames}
 use Rattle.call.specs.declared.Outcome.{Outcome}
 use Rattle.call.specs.declared.Outcome.TheVariants.{Answered as Yes, Refused as No}
-use Rattle.call.specs.Call.{number_of, Lent, CallLeft, lent, left, long_enough, after}
+use Rattle.call.specs.Call.{number_of, CallLeft, lent, left, long_enough, after}
 use Rattle.call.proofs.Facts as Facts
 use Rattle.call.proofs.Written.{refusal_frame_lem}
 use Rattle.state.specs.Layout.{state_length}
