@@ -16,7 +16,24 @@ use Rattle.memory.proofs.Laws.{filled-length, filled_at}
 use Rattle.memory.specs.Layout.{functions_most, blocks_most, instructions_most, uses_most, row_words}
 use Rattle.answer.specs.Layout.{live_at, tags_at, payloads_at, starts_at, users_at, callers_at, answer_length}
 use Rattle.answer.specs.Record.{Record, Legal}
-use Rattle.answer.specs.Image.{starts_from, words_of, tables_of, image_of, listed, functions_in, blocks_in, instructions_in, count_in, live_in, tag_in, payload_in, start_in, user_in, word_in, calls_in}
+use Rattle.answer.specs.Image.{
+  starts_from,
+  words_of,
+  tables_of,
+  image_of,
+  listed,
+  functions_in,
+  blocks_in,
+  instructions_in,
+  count_in,
+  live_in,
+  tag_in,
+  payload_in,
+  start_in,
+  user_in,
+  word_in,
+  calls_in,
+}
 use Rattle.answer.specs.Image.{users_in, record_in, WellFormed}
 use Rattle.answer.proofs.Laws.{in_table, listed-is, starts-length, starts-at, bit_back, words-length, words_bit, rows-length, map_at, front-most, front-more}
 

@@ -132,7 +132,8 @@ module _ {s pm : List ℕ} {pc : Counts} {z : Sizes} {n : Name} {c : ℕ} {m₀ 
 
     module _ {b : 𝔹} {w : List ℕ} {a : Acted} (t : b ≡ gets_name (Prog.program_view s pm pc) (name_in s n) i.0) (d : StateDid z Every (λ L p. push_if L p b i.0) m q w a) where
       turn : {x : Acted} → a ≡ x → (L : Limits) → L.worklist ≡ worklist_most → (p : Program) (v : Attrs) → ProgramIs s pm pc p v
-          → if_answered (went z v w x) (λ y. each (keep (gets_name p (name_in s n)) (marks_from (reads_of z m₀) c (i.0 + 1))) (push_insn L p) y.1) ≡ wake_reads L p c (name_in s n) (state_view z v m₀ q₀)
+          → if_answered (went z v w x) (λ y. each (keep (gets_name p (name_in s n)) (marks_from (reads_of z m₀) c (i.0 + 1))) (push_insn L p) y.1)
+          ≡ wake_reads L p c (name_in s n) (state_view z v m₀ q₀)
       turn k L f p v h =
           let d1 = rw k at d in
           ap (λ (y : Answer (Unit {0} × State)). if_answered y (λ j. each (keep (gets_name p (name_in s n)) (marks_from (reads_of z m₀) c (i.0 + 1))) (push_insn L p) j.1))

@@ -125,7 +125,8 @@ term_leaves s (O.GetIvar n) l = refl
 term_leaves s (O.SetIvar n) l = refl
 
 module _ {m x : List ℕ} {c : Counts} (ix : Index m c x) (b : ℕ) (h : b < blocks_room) where
-  end_is : (s : List ℕ) (l : List ℕ) → code (program_view s m c) b ≡ l → (y : ℕ) (k : List ℕ) → l ≡ y ∷ k → end_of (program_view s m c) b ≡ (about (op_of (program_view s m c) (final_or y k))).terminator
+  end_is : (s : List ℕ) (l : List ℕ) → code (program_view s m c) b ≡ l → (y : ℕ) (k : List ℕ) → l ≡ y ∷ k
+      → end_of (program_view s m c) b ≡ (about (op_of (program_view s m c) (final_or y k))).terminator
   unfolding end_of
   end_is s l e y k f = ap (λ (o : Option ℕ). elim o [ none ↦ none | some i ↦ (about (op_of (program_view s m c) i)).terminator ]) (ap final (e ∙ f) ∙ final_cons y k)
 

@@ -204,7 +204,8 @@ flow_cons : (p : Program) (nm : List ℕ) (b : ℕ) (l : List ℕ) (done : List 
 unfolding flow
 flow_cons p nm b l done = ap (λ t. flow p nm l ((b, (any (same nm) (sets_of p b) || t)) ∷ done)) (or_is (set_before p b done))
 
-declared_cons : (s m : List ℕ) (c : Counts) (k b : ℕ) (l : List ℕ) → declared (program_view s m c) k (b ∷ l) ≡ (all_declared s m c k (sets_of (program_view s m c) b) && declared (program_view s m c) k l)
+declared_cons : (s m : List ℕ) (c : Counts) (k b : ℕ) (l : List ℕ)
+    → declared (program_view s m c) k (b ∷ l) ≡ (all_declared s m c k (sets_of (program_view s m c) b) && declared (program_view s m c) k l)
 unfolding declared
 declared_cons s m c k b l = refl
 
@@ -232,7 +233,9 @@ module _ {s m : List ℕ} {c : Counts} {k n : ℕ} {w₀ w : List ℕ} {res i : 
         let e : i ≡ suc (i - 1) = omega arith in
         ap (out_of w₀) e ∙ (out_suc w₀ (i - 1) ∙ ap (λ y. y ∷ out_of w₀ (i - 1)) (sym (z.order (i - 1) (omega (arith, z.high)))))
 
-    asks : (all_declared s m c k (sets_of (program_view s m c) (get_or w (order_at + (i - 1)) 0)) && declared (program_view s m c) k (out_of w₀ (i - 1))) ≡ declared (program_view s m c) k (out_of w₀ n)
+    asks : (all_declared s m c k (sets_of (program_view s m c) (get_or w (order_at + (i - 1)) 0))
+        && declared (program_view s m c) k (out_of w₀ (i - 1)))
+        ≡ declared (program_view s m c) k (out_of w₀ n)
     asks = sym (declared_cons s m c k (get_or w (order_at + (i - 1)) 0) (out_of w₀ (i - 1))) ∙ (sym (ap (declared (program_view s m c) k) taken) ∙ z.asked)
 
     pub pass-stop : {t : Sets} → SetsIs s m c k (get_or w (order_at + (i - 1)) 0) t → t ≡ S.Undeclared → SureIs s m c k (out_of w₀ n) Q.Undeclared
@@ -284,7 +287,8 @@ module _ {s m : List ℕ} {c : Counts} {k n : ℕ} {w₀ w : List ℕ} {res i : 
       asked-on : declared (program_view s m c) k (out_of w₀ (i - 1)) ≡ declared (program_view s m c) k (out_of w₀ n)
       asked-on = sym (ap (λ x. x && declared (program_view s m c) k (out_of w₀ (i - 1))) (y.asked ∙ ap (λ x. has (sets_in x)) q)) ∙ asks
 
-      ends_on : (a : ℕ) → all (at_end (program_view s m c)) (done_from w' a (i - 1) (n - (i - 1))) ≡ ((not back || holds a (bit_or o ins)) && all (at_end (program_view s m c)) (done_from w a i (n - i)))
+      ends_on : (a : ℕ) → all (at_end (program_view s m c)) (done_from w' a (i - 1) (n - (i - 1)))
+          ≡ ((not back || holds a (bit_or o ins)) && all (at_end (program_view s m c)) (done_from w a i (n - i)))
       ends_on a =
           ap (all (at_end (program_view s m c))) (done_on a)
           ∙ ap (λ u. (not u || holds a (bit_or o ins)) && all (at_end (program_view s m c)) (done_from w a i (n - i))) (en.leaves s ∙ sym bk)

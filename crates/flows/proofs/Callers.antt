@@ -147,7 +147,8 @@ module _ (m : List ℕ) (c : Counts) (i n : ℕ) (r : ProgramReady m c) (below :
       ap (λ (y : P.Op). get_or (about y).listed n (P.Const Empty)) e
       ∙ ap (λ (y : List P.Opnd). get_or y n (P.Const Empty)) (listed-is s o given g)
       ∙ get_or-drop (skip_of o) given n (P.Const Empty)
-      ∙ ap (λ (y : ℕ). get_or given (y + n) (P.Const Empty)) (sym (skip-from (get_or m (insns_at + insn_words * i) 0) (get_or m (insns_at + insn_words * i + 2) 0) (get_or m (insns_at + insn_words * i + 3) 0)))
+      ∙ ap (λ (y : ℕ). get_or given (y + n) (P.Const Empty)) (sym (skip-from (get_or m (insns_at + insn_words * i) 0)
+      (get_or m (insns_at + insn_words * i + 2) 0) (get_or m (insns_at + insn_words * i + 3) 0)))
 
   pub argument-here : skip + n < count → ArguesAt m c i n (opnds_at + 2 * first + 2 * (skip + n))
   argument-here lt = record {

@@ -21,7 +21,24 @@ use Rattle.answer.specs.Image.{listed, functions_in, blocks_in, instructions_in,
 use Rattle.memory.specs.Layout.{functions_most, blocks_most, instructions_most, uses_most}
 use Rattle.frames.specs.declared.NextFrame.{NextFrame}
 use Rattle.frames.specs.declared.NextFrame.TheVariants.{Totals, Block, Instruction, Use, Caller, Done}
-use Rattle.frames.specs.Text.{line_of, totals_line, block_line, kind_line, use_line, caller_line, use_lines, caller_lines, from_caller, from_use, from_kind, from_block, rest_of, more_of, left_of, line_most}
+use Rattle.frames.specs.Text.{
+  line_of,
+  totals_line,
+  block_line,
+  kind_line,
+  use_line,
+  caller_line,
+  use_lines,
+  caller_lines,
+  from_caller,
+  from_use,
+  from_kind,
+  from_block,
+  rest_of,
+  more_of,
+  left_of,
+  line_most,
+}
 use Rattle.frames.specs.Text.{Wrote, Piece}
 
 -- ---- pieces

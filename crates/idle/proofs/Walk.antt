@@ -16,7 +16,26 @@ use Rattle.rules.specs.Lists.{has}
 use Rattle.rules.specs.Values.{to_answer, object, classes_in}
 use Rattle.rules.specs.Program.{Limits, Opnd, Terminator, Jump, IfTrue, Return, Static, Dynamic, Op, Ends, Send, Compute, Phi, Param, SelfParam, New, GetIvar, SetIvar, Program, function, function_of}
 use Rattle.rules.specs.Program.{method_named, parameters}
-use Rattle.rules.specs.Machine.{State, Acts, kind_of, join, join_all, classes_of, push_insn, push_block, wake_if_wider, callers_of, place_of, argument, add_call, pass_arguments, flows_back, flows_in, leave, rule}
+use Rattle.rules.specs.Machine.{
+  State,
+  Acts,
+  kind_of,
+  join,
+  join_all,
+  classes_of,
+  push_insn,
+  push_block,
+  wake_if_wider,
+  callers_of,
+  place_of,
+  argument,
+  add_call,
+  pass_arguments,
+  flows_back,
+  flows_in,
+  leave,
+  rule,
+}
 use Rattle.rules.proofs.Exactness.Grow.{kind_in, kind-is}
 
 -- what the rules look at, attribute reads and settings aside
@@ -105,7 +124,8 @@ module _ (L : Limits) (p : Program) where
 
     walk-join_all : (l : List Opnd) → K Kind (join_all l)
     unfolding join_all
-    walk-join_all l = C.two (the (λ s. map (kind_of s) l)) (λ ks. lift (to_answer (union_all Empty ks))) (C.looked (λ s. map (kind_of s) l) (kinds_seen l)) (λ ks. C.told (to_answer (union_all Empty ks)))
+    walk-join_all l = C.two (the (λ s. map (kind_of s) l)) (λ ks. lift (to_answer (union_all Empty ks)))
+        (C.looked (λ s. map (kind_of s) l) (kinds_seen l)) (λ ks. C.told (to_answer (union_all Empty ks)))
 
     pub walk-classes : (v : Opnd) → K (List ℕ) (classes_of v)
     unfolding classes_of

@@ -1,5 +1,34 @@
 -- The script that was read, and texts put one behind the other. Assumes nothing.
-use Rattle.std.proofs.Common.{◌≡◌, ℕ, ◌+◌, ◌≤◌, ◌<◌, List, ◌++◌, Option, None, Some, IfSome, ◌⊎◌, inl, inr, arith, length, take, set, refl, sym, ap, ◌∙◌, append_assoc, append-nil, length-set, length-append, length-take-le, take_all}
+use Rattle.std.proofs.Common.{
+  ◌≡◌,
+  ℕ,
+  ◌+◌,
+  ◌≤◌,
+  ◌<◌,
+  List,
+  ◌++◌,
+  Option,
+  None,
+  Some,
+  IfSome,
+  ◌⊎◌,
+  inl,
+  inr,
+  arith,
+  length,
+  take,
+  set,
+  refl,
+  sym,
+  ap,
+  ◌∙◌,
+  append_assoc,
+  append-nil,
+  length-set,
+  length-append,
+  length-take-le,
+  take_all,
+}
 use Rattle.std.proofs.Math.Option.{some}
 use Rattle.std.specs.Io.KnownBytes.{Appends, Consumes, IsAtEnd}
 use native.Mathlib.Numerals.{add-one}

@@ -37,11 +37,15 @@ use Rattle.lookups.proofs.Finds.{Latest, latest-none, latest_hit, First, first-f
 -- ---- tests
 
 module _ (s m : List ℕ) (n : Name) where
-  pub is_fun_lem : (i : ℕ) {r : Bool} → r ≡ same (name s (get_or m (functions_at + function_words * i) 0) (get_or m (functions_at + function_words * i + 1) 0)) (name_in s n) → r ≡ is_fun (name_in s n) (fun_row s m i)
+  pub is_fun_lem : (i : ℕ) {r : Bool}
+      → r ≡ same (name s (get_or m (functions_at + function_words * i) 0) (get_or m (functions_at + function_words * i + 1) 0)) (name_in s n)
+      → r ≡ is_fun (name_in s n) (fun_row s m i)
   unfolding is_fun fun_row fun_at
   is_fun_lem i e = e
 
-  pub is-class : (i : ℕ) {r : Bool} → r ≡ same (name s (get_or m (classes_at + class_words * i) 0) (get_or m (classes_at + class_words * i + 1) 0)) (name_in s n) → r ≡ is_class (name_in s n) (class_at s m i)
+  pub is-class : (i : ℕ) {r : Bool}
+      → r ≡ same (name s (get_or m (classes_at + class_words * i) 0) (get_or m (classes_at + class_words * i + 1) 0)) (name_in s n)
+      → r ≡ is_class (name_in s n) (class_at s m i)
   unfolding is_class class_at
   is-class i e = e
 
@@ -51,7 +55,9 @@ module _ (s m : List ℕ) (n : Name) where
   is_ivar_lem k j e = e
 
 module _ (s m : List ℕ) (i : ℕ) (n : List ℕ) (k : ℕ) {o : Bool} (e : o ≡ is_just (owner_in (owner_from (get_or m (functions_at + function_words * i + 2) 0))) k) where
-  pub method_here : {r : Bool} → o ≡ true → r ≡ same (name s (get_or m (functions_at + function_words * i) 0) (get_or m (functions_at + function_words * i + 1) 0)) n → r ≡ is_method k n (fun_row s m i)
+  pub method_here : {r : Bool} → o ≡ true
+      → r ≡ same (name s (get_or m (functions_at + function_words * i) 0) (get_or m (functions_at + function_words * i + 1) 0)) n
+      → r ≡ is_method k n (fun_row s m i)
   unfolding is_method fun_row fun_at
   method_here t w = rw (sym e ∙ t) w
 

@@ -287,7 +287,8 @@ empty_class s m k e f =
     (ap (tab (λ j. name_in s (ivar_at m k j))) f)
 
 -- the row of class k stays while those of later classes are stored
-row_stays : {k j : ℕ} {x : Name} {f : ℕ} {m m' : List ℕ} → PutsClass j x f m m' → k < j → (d : ℕ) → d < 4 → get_or m' (classes_at + class_words * k + d) 0 ≡ get_or m (classes_at + class_words * k + d) 0
+row_stays : {k j : ℕ} {x : Name} {f : ℕ} {m m' : List ℕ} → PutsClass j x f m m' → k < j → (d : ℕ) → d < 4
+    → get_or m' (classes_at + class_words * k + d) 0 ≡ get_or m (classes_at + class_words * k + d) 0
 row_stays {k = k} p h d g = p.only.below (classes_at + class_words * k + d) (omega arith)
 
 pub starts_is : {m m1 m2 m3 m4 : List ℕ} (x : Name) → x.len ≡ 0 → program_size ≤ length m → PutsClass 0 x 0 m m1 → PutsClass 1 x 0 m1 m2 → PutsClass 2 x 0 m2 m3 → PutsClass 3 x 0 m3 m4

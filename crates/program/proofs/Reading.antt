@@ -32,14 +32,20 @@ pub instruction-is : (s m : List ℕ) (c : Counts) (i : ℕ) → i < c.insns →
 unfolding instructions_of
 instruction-is s m c i h = tab-at (instruction_at s m) c.insns i (record { block = 0; op = P.New 0 }) h
 
-pub op-is : (s m : List ℕ) (c : Counts) (i : ℕ) → i < c.insns → P.op_of (program_view s m c) i ≡ op_in s (insn_at m i).op (map opnd_of (opnds_in m (opnds_at + 2 * (insn_at m i).first) (insn_at m i).count))
+pub op-is : (s m : List ℕ) (c : Counts) (i : ℕ) → i < c.insns
+    → P.op_of (program_view s m c) i ≡ op_in s (insn_at m i).op (map opnd_of (opnds_in m (opnds_at + 2 * (insn_at m i).first) (insn_at m i).count))
 unfolding instruction_at
 op-is s m c i h = ap (λ (x : P.Instruction). x.op) (instruction-is s m c i h)
 
 module _ {m : List ℕ} {c : Counts} (i : ℕ) (r : ProgramReady m c) where
   pub insn_read : {o : Op} → i < c.insns → o ≡ op_from (get_or m (insns_at + insn_words * i) 0) (get_or m (insns_at + insn_words * i + 2) 0) (get_or m (insns_at + insn_words * i + 3) 0)
       → ReadsInsn m c i
-      (record { block = record { 0 = get_or m (insns_at + insn_words * i + 1) 0 % 2 ^ 32 }; op = o; first = get_or m (insns_at + insn_words * i + 4) 0; count = get_or m (insns_at + insn_words * i + 5) 0 })
+      (record {
+        block = record { 0 = get_or m (insns_at + insn_words * i + 1) 0 % 2 ^ 32 };
+        op = o;
+        first = get_or m (insns_at + insn_words * i + 4) 0;
+        count = get_or m (insns_at + insn_words * i + 5) 0;
+      })
   unfolding instruction_at
   insn_read h e =
       rw (insn_is m i e) (record { row = refl; is = λ s. instruction-is s m c i h; range = r.ranges i h; inside = r.inside i h })

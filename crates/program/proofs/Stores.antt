@@ -122,7 +122,10 @@ module _ (m : List ℕ) (at v0 v1 v2 v3 v4 v5 : ℕ) (h : at + 5 < length m) whe
 pub row_put : (m : List ℕ) (n : ℕ) (x : Row) (t u v : ℕ) → op_from t u v ≡ x.op → Fits w32 x.block.0 → program_size ≤ length m → n < instructions_most
     → PutsRow n x m
     (set
-    (set (set (set (set (set m (insns_at + insn_words * n) t) (insns_at + insn_words * n + 1) x.block.0) (insns_at + insn_words * n + 2) u) (insns_at + insn_words * n + 3) v) (insns_at + insn_words * n + 4)
+    (set
+    (set (set (set (set m (insns_at + insn_words * n) t) (insns_at + insn_words * n + 1) x.block.0) (insns_at + insn_words * n + 2) u)
+    (insns_at + insn_words * n + 3) v)
+    (insns_at + insn_words * n + 4)
     x.first)
     (insns_at + insn_words * n + 5)
     x.count)

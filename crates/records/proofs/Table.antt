@@ -1,8 +1,7 @@
 -- The table once the first k instructions are appended. Assumes nothing.
-use mathlib.Core.Path.{◌≡◌, refl, sym, ap, ◌∙◌}
+use mathlib.Core.Path.{◌≡◌, refl, ◌∙◌}
 use mathlib.Core.List.{List}
-use Prim.Native.Nat.{ℕ, zero, suc, ◌+◌, ◌≤◌, ◌<◌}
-use native.Mathlib.Numerals.{unary_clauses}
+use Prim.Native.Nat.{ℕ, zero, suc, ◌≤◌, ◌<◌}
 use native.Mathlib.Decide.{ℕ_discrete}
 use native.Mathlib.Omega.{arith}
 use lib.ListN.{length, get_or, set, length-set}
@@ -18,16 +17,9 @@ committed t m zero = t
 committed t m (suc k) = set (committed t m k) k (record_at m k)
 
 module _ (t : List Record) (m : List ℕ) where
-  committed_next : (k : ℕ) → committed t m (k + 1) ≡ set (committed t m k) k (record_at m k)
-  committed_next k = simp unary_clauses refl
-
   pub committed_length : (k : ℕ) → length (committed t m k) ≡ length t
   committed_length zero = refl
   committed_length (suc k) = length-set (committed t m k) k (record_at m k) ∙ committed_length k
-
-  -- a turn of the loop
-  pub committed_turn : {t' : List Record} {x : Record} (k : ℕ) → x ≡ record_at m k → t' ≡ set (committed t m k) k x → t' ≡ committed t m (k + 1)
-  committed_turn k at new = new ∙ ap (set (committed t m k) k) at ∙ sym (committed_next k)
 
   committed_at : (k i : ℕ) → k ≤ length t → i < k → get_or (committed t m k) i none ≡ record_at m i
   committed_at zero i h l = absurd (omega arith)

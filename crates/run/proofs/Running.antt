@@ -202,15 +202,6 @@ module _ {s p : List ℕ} {c : Counts} {z : Sizes} {m : List ℕ} {a : Turn} whe
         less = subst (λ (y : Acted). 0 < left (bound (P.program_view s p c)) y) (sym e) (let l = going_below (under-on U e).0 A waiting refl in omega (arith, l));
       }
 
--- ---- the table
-
-module _ {t : List Record} {p : List ℕ} {c : Counts} (holds : Holds t p c) where
-  pub turn_place : {s : List ℕ} {z : Sizes} {m : List ℕ} {a : Turn} → Under s p c z m a → a.insn < length t
-  turn_place U = omega (arith, U.below, holds.len_table)
-
-  pub turn_read : {r : Record} (i : ℕ) → r ≡ get_or t i none → i < c.insns → r ≡ record_at p i
-  turn_read i e l = e ∙ holds.records i l
-
 -- ---- demand 3: what a run answers is exact, and its count is within the bound
 
 pub ran_exact : {s p : List ℕ} {c : Counts} {z : Sizes} {w : List ℕ} {r : Regs} → RunRan s p c z w (On r) → (L : Limits) → Suited s p c L → (v : Attrs) → MachineFits s p c (P.program_view s p c) v

@@ -110,7 +110,8 @@ users-kept {p} {c} {u} {u'} few len a g = record {
   part = λ s j h.
       let f = start-few p c u g (sizes_of c) (sized-self c) j h in
       ap₂ (λ (x y : ℕ). words u' (users_at + x) (y - x)) (at j (omega arith)) (at (j + 1) (omega arith))
-      ∙ tab_ext (λ q. get_or u' (users_at + get_or u (starts_at + j) 0 + q) 0) (λ q. get_or u (users_at + get_or u (starts_at + j) 0 + q) 0) (get_or u (starts_at + (j + 1)) 0 - get_or u (starts_at + j) 0)
+      ∙ tab_ext (λ q. get_or u' (users_at + get_or u (starts_at + j) 0 + q) 0) (λ q. get_or u (users_at + get_or u (starts_at + j) 0 + q) 0)
+      (get_or u (starts_at + (j + 1)) 0 - get_or u (starts_at + j) 0)
       (λ q l. a.same (users_at + get_or u (starts_at + j) 0 + q) (omega (arith, f.1)))
       ∙ g.part s j h;
 }

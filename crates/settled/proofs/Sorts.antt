@@ -148,4 +148,5 @@ pub read-passes : {s p : List ℕ} {c : Counts} {i : ℕ} {z : Sizes} {m : List 
     (tt, State.state_view z v m q)
 read-passes {s} {p} {c} {i} {z} {m} n r e o k t S L P v f q =
     let w = nth (operands_of p (row_of n)) 0 in
-    settled_idle L P i (name_in s (name_of n)) w o.bits (State.state_view z v m q) (read-op n r f e) (ap classes_in (kind_of_lem (State.state_view z v m q) w ∙ sym k) ∙ classes_of_lem o t) (S.is P v f)
+    settled_idle L P i (name_in s (name_of n)) w o.bits (State.state_view z v m q) (read-op n r f e)
+    (ap classes_in (kind_of_lem (State.state_view z v m q) w ∙ sym k) ∙ classes_of_lem o t) (S.is P v f)

@@ -122,7 +122,8 @@ module _ {s p : List ℕ} {c : Counts} {x u : List ℕ} {z : Sizes} {m : List �
     }
 
     -- a setting of a kind that the read's kind covers
-    covered_settled : 13 < (record_at p i).tag → {k : Kind} → k ≡ kind_in (kinds_of z m) (nth (operands_of p (row_of (record_at p i))) 1) → Covered (get_or (kinds_of z w) j Empty) k → SettledFor s p c z w a j b
+    covered_settled : 13 < (record_at p i).tag → {k : Kind} → k ≡ kind_in (kinds_of z m) (nth (operands_of p (row_of (record_at p i))) 1)
+        → Covered (get_or (kinds_of z w) j Empty) k → SettledFor s p c z w a j b
     covered_settled t {k} e h = record {
       is = λ P v f.
           let G = went_so P v f in
@@ -189,7 +190,8 @@ module _ {s p : List ℕ} {c : Counts} {x u : List ℕ} {z : Sizes} {m : List �
     }
 
     -- a stamp that was not touched
-    as_before : {j : ℕ} → (record_at p j).tag ≡ 13 → SettledFor s p c z (tables_of w) (name_of (record_at p j)) j (stamp_of m j) → SettledFor s p c z (tables_of w) (name_of (record_at p j)) j (stamp_of w j)
+    as_before : {j : ℕ} → (record_at p j).tag ≡ 13 → SettledFor s p c z (tables_of w) (name_of (record_at p j)) j (stamp_of m j)
+        → SettledFor s p c z (tables_of w) (name_of (record_at p j)) j (stamp_of w j)
     as_before {j} h = subst (SettledFor s p c z (tables_of w) (name_of (record_at p j)) j) (sym (G.others j (omega arith)))
 
     other-on : (record_at p i).tag < 13 → Comes w

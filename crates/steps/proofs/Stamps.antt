@@ -65,7 +65,8 @@ module _ (m w : List ℕ) (long : length m ≡ state_length) (same : length w �
 -- ---- a later epoch
 
 -- all stamps are of an earlier one
-pub stale : {s p : List ℕ} {c : Counts} {z : Sizes} {m w : List ℕ} {q r : Regs} {e : ℕ} → Dated s p c z m q e → length w ≡ state_length → ((k : ℕ) → stamp_of w k ≡ stamp_of m k) → r.count ≡ q.count + 1
+pub stale : {s p : List ℕ} {c : Counts} {z : Sizes} {m w : List ℕ} {q r : Regs} {e : ℕ} → Dated s p c z m q e → length w ≡ state_length
+    → ((k : ℕ) → stamp_of w k ≡ stamp_of m k) → r.count ≡ q.count + 1
     → Dated s p c z w r (e + 1)
 stale D l k n = record {
   long = l;
@@ -227,7 +228,8 @@ module _ {s p : List ℕ} {c : Counts} {z : Sizes} {m : List ℕ} {q : Regs} {e 
       ≡ false) where
     told : (eqb (get_or (w ++ drop stamps_at m) i 0) (get_or m i 0) ≡ true)
         × (eqb (get_or (w ++ drop stamps_at m) (kind_bits_at + i) 0) (get_or m (kind_bits_at + i) 0) ≡ true) × (eqb r.blocks.len q.blocks.len ≡ true)
-    told = all_same (eqb (get_or (w ++ drop stamps_at m) i 0) (get_or m i 0)) (eqb (get_or (w ++ drop stamps_at m) (kind_bits_at + i) 0) (get_or m (kind_bits_at + i) 0)) (eqb r.blocks.len q.blocks.len) h
+    told = all_same (eqb (get_or (w ++ drop stamps_at m) i 0) (get_or m i 0))
+        (eqb (get_or (w ++ drop stamps_at m) (kind_bits_at + i) 0) (get_or m (kind_bits_at + i) 0)) (eqb r.blocks.len q.blocks.len) h
 
     word : (k : ℕ) → k < stamps_at → eqb (get_or (w ++ drop stamps_at m) k 0) (get_or m k 0) ≡ true → get_or w k 0 ≡ get_or (tables_of m) k 0
     word k l t = sym (low k l) ∙ eqb-true (get_or (w ++ drop stamps_at m) k 0) (get_or m k 0) t ∙ sym (get_or-take stamps_at m k 0 l)

@@ -47,7 +47,9 @@ one_name : (j : ℕ) (l : List Opnd) → (P.same_opnd (P.Insn j) (get_or (map op
 one_name j [] = refl
 one_name j (o ∷ l) = rw (same_names j o)
 
-two_names : (j : ℕ) (l : List Opnd) → (P.same_opnd (P.Insn j) (get_or (map opnd_of l) 0 (P.Const Nil)) || (P.same_opnd (P.Insn j) (get_or (map opnd_of l) 1 (P.Const Nil)) || false)) ≡ any (names j) (take 2 l)
+two_names : (j : ℕ) (l : List Opnd) → (P.same_opnd (P.Insn j) (get_or (map opnd_of l) 0 (P.Const Nil))
+    || (P.same_opnd (P.Insn j) (get_or (map opnd_of l) 1 (P.Const Nil)) || false))
+    ≡ any (names j) (take 2 l)
 two_names j [] = refl
 two_names j (o ∷ []) = rw (same_names j o)
 two_names j (o ∷ p ∷ l) = rw (same_names j o, same_names j p)

@@ -20,7 +20,8 @@ module _ (L : Limits) (p : Program) where
   woken_called k x s t (inl e) = ap (λ (u : State). u.called_by) e.0
   woken_called k x s t (inr e) = ap (λ (u : State). u.called_by) e
 
-  each-called : (i : ℕ) (l : List ℕ) (s : State) {r : Unit {0} × State} → each l (λ x s. wake_if_wider L p (kind_of s (argument L p (place_of L p x) i)) x s) s ≡ answered r → r.1.called_by ≡ s.called_by
+  each-called : (i : ℕ) (l : List ℕ) (s : State) {r : Unit {0} × State}
+      → each l (λ x s. wake_if_wider L p (kind_of s (argument L p (place_of L p x) i)) x s) s ≡ answered r → r.1.called_by ≡ s.called_by
   each-called i [] s e = ap (λ (u : Unit {0} × State). u.1.called_by) (sym (answer e))
   each-called i (x ∷ l) s e =
       let k = kind_of s (argument L p (place_of L p x) i) in

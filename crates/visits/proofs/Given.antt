@@ -108,7 +108,8 @@ module _ {s p : List ℕ} {c : Counts} {x : List ℕ} {z : Sizes} {m : List ℕ}
     pub second_good : {v w : R.Opnd} {l : List R.Opnd} → (about o).operands ≡ v ∷ w ∷ l → good_opnd (P.program_view s p c) i w ≡ true
     second_good {v} {w} {l} f =
         and_left (good_opnd (P.program_view s p c) i w) (all (good_opnd (P.program_view s p c) i) l)
-        (and_right (good_opnd (P.program_view s p c) i v) (all (good_opnd (P.program_view s p c) i) (w ∷ l)) (subst (λ (y : List R.Opnd). all (good_opnd (P.program_view s p c) i) y ≡ true) f operands-good))
+        (and_right (good_opnd (P.program_view s p c) i v) (all (good_opnd (P.program_view s p c) i) (w ∷ l))
+        (subst (λ (y : List R.Opnd). all (good_opnd (P.program_view s p c) i) y ≡ true) f operands-good))
 
   pub opnd_inside : (o : Opnd) {v : R.Opnd} → opnd_of o ≡ v → good_opnd (P.program_view s p c) i v ≡ true → OperandInside z o
   opnd_inside o e h = inside-good (P.program_view s p c) z i o g.below (ap (good_opnd (P.program_view s p c) i) e ∙ h)

@@ -298,7 +298,8 @@ module _ {s p : List ℕ} {c : Counts} {x : List ℕ} {z : Sizes} {m : List ℕ}
 
     pub get_stop : {w : List ℕ} {a : Acted} {e : ℕ} → StateDid z Every (λ L P. mark_reads i (opnd_of o)) m q w a → a ≡ W.Refused e → Rules z (MachineFits s p c) (rule_of i) m q w (Refused e)
     get_stop d e =
-        stopped z (MachineFits s p c) (rule_of i) m q (λ L P. read_ivars L P (name_in s n) (opnd_of o)) (λ L P v f t. by_op get_op L P v f t ∙ get_rule L P i (name_in s n) (opnd_of o) t) (did-fits every d)
+        stopped z (MachineFits s p c) (rule_of i) m q (λ L P. read_ivars L P (name_in s n) (opnd_of o))
+        (λ L P v f t. by_op get_op L P v f t ∙ get_rule L P i (name_in s n) (opnd_of o) t) (did-fits every d)
         e
 
 -- ---- the visit

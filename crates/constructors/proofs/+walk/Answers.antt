@@ -1,4 +1,20 @@
-use Rattle.constructors.proofs.Walking.{mark-good, mark-falls, mark-room, next-falls, next-room, last-room, walk_return, walk_open, walk_jump, walk_choice, jump_inside, then_inside, else_inside, visit-new, visit-old}
+use Rattle.constructors.proofs.Walking.{
+  mark-good,
+  mark-falls,
+  mark-room,
+  next-falls,
+  next-room,
+  last-room,
+  walk_return,
+  walk_open,
+  walk_jump,
+  walk_choice,
+  jump_inside,
+  then_inside,
+  else_inside,
+  visit-new,
+  visit-old,
+}
 use mathlib.Core.List.{[]}
 use native.Mathlib.Omega.{arith}
 use borrow.Author.Rules.{rules}

@@ -132,7 +132,8 @@ module _ (s m : List ℕ) (c : Counts) (k : ℕ) (h : k < c.classes) where
   kinds_by : (g : List ℕ → 𝔹) (bits : ℕ) → ((a : ℕ) → a < ivars_of m k → holds a bits ≡ g (ivar_in s m k a))
       → tab (λ a. start_of (holds a bits)) (ivars_of m k) ≡ map (λ n. first_kind (program_view s m c) (g n)) (class (program_view s m c) k).ivars
   kinds_by g bits e =
-      tab_ext (λ a. start_of (holds a bits)) (λ a. first_kind (program_view s m c) (g (ivar_in s m k a))) (ivars_of m k) (λ a l. ap start_of (e a l) ∙ start_is (program_view s m c) (g (ivar_in s m k a)))
+      tab_ext (λ a. start_of (holds a bits)) (λ a. first_kind (program_view s m c) (g (ivar_in s m k a))) (ivars_of m k)
+      (λ a l. ap start_of (e a l) ∙ start_is (program_view s m c) (g (ivar_in s m k a)))
       ∙ (sym (map-tab (λ n. first_kind (program_view s m c) (g n)) (ivar_in s m k) (ivars_of m k)) ∙ sym (ap (map (λ n. first_kind (program_view s m c) (g n))) ivars_are))
 
   abbrev by : Option ℕ → Answer (List Kind)
@@ -140,7 +141,9 @@ module _ (s m : List ℕ) (c : Counts) (k : ℕ) (h : k < c.classes) where
     | none ↦ answered (map (λ n. Nil) (class (program_view s m c) k).ivars)
     | some f ↦
         let blocks = reverse_post_order (program_view s m c) (entry (program_view s m c) f) in
-        cond (declared (program_view s m c) k blocks) (answered (map (λ n. first_kind (program_view s m c) (initialized (program_view s m c) blocks n)) (class (program_view s m c) k).ivars)) (refused 13)
+        cond (declared (program_view s m c) k blocks)
+        (answered (map (λ n. first_kind (program_view s m c) (initialized (program_view s m c) blocks n)) (class (program_view s m c) k).ivars))
+        (refused 13)
   ]
 
   first_by : (o : Option ℕ) → constructor_of (program_view s m c) k ≡ o → first_kinds (program_view s m c) k ≡ by o

@@ -94,5 +94,6 @@ module _ (s p : List ℕ) (c : Counts) (z : Sizes) (e : MachineSized c z) where
         (λ k. listed (v.count k) (λ a. kind_from (get_or w (ivar_kinds_at + (k * ivars_most + a)) 0) (get_or w (ivar_bits_at + (k * ivars_most + a)) 0)))
         (λ k h. row_is v f k h)
 
-    pub filled_view : (L : Limits) (v : Attrs) → MachineFits s p c (P.program_view s p c) v → state_view z v w no_entries ≡ blank L (P.program_view s p c) (all_kinds_at p c ivar_kinds_at ivar_bits_at w)
+    pub filled_view : (L : Limits) (v : Attrs) → MachineFits s p c (P.program_view s p c) v
+        → state_view z v w no_entries ≡ blank L (P.program_view s p c) (all_kinds_at p c ivar_kinds_at ivar_bits_at w)
     filled_view L v f = blank_view z w cleared_still L (P.program_view s p c) v sizes_of_lem ∙ ap (blank L (P.program_view s p c)) (ivars_are v f)

@@ -28,10 +28,14 @@ returns-then-block_next c =
     c.step_block-w.auto.state c.step_block-w.ensures
 
 pub idle-requires-clause-facing : goal.idle-requires-clause-facing
-idle-requires-clause-facing c = let faces = facing c.requires.analysed c.requires.steady c.requires.state_ready c.requires.len_nonzero.1 c.requires.record_of c.requires.front c.block_next.ensures c.if-block_next.false in faces
+idle-requires-clause-facing c = let faces = facing c.requires.analysed c.requires.steady c.requires.state_ready c.requires.len_nonzero.1
+    c.requires.record_of c.requires.front c.block_next.ensures c.if-block_next.false in
+    faces
 
 pub idle-requires-clause-stamped : goal.idle-requires-clause-stamped
-idle-requires-clause-stamped c = let faces = facing c.requires.analysed c.requires.steady c.requires.state_ready c.requires.len_nonzero.1 c.requires.record_of c.requires.front c.block_next.ensures c.if-block_next.false in c.requires.stamped
+idle-requires-clause-stamped c = let faces = facing c.requires.analysed c.requires.steady c.requires.state_ready c.requires.len_nonzero.1
+    c.requires.record_of c.requires.front c.block_next.ensures c.if-block_next.false in
+    c.requires.stamped
 
 pub take_insn-t-requires-clause-state_ready : goal.take_insn-t-requires-clause-state_ready
 take_insn-t-requires-clause-state_ready c = let faces = facing c.requires.analysed c.requires.steady c.requires.state_ready c.requires.len_nonzero.1 c.requires.record_of c.requires.front

@@ -31,16 +31,20 @@ pub overflow_cast-i : goal.overflow_cast-i
 overflow_cast-i c = omega (arith, few c.requires.facing)
 
 pub stamp-requires-clause-state_held : goal.stamp-requires-clause-state_held
-stamp-requires-clause-state_held c = (stamp_asked c.requires.facing c.if-insn-eq13.true (held_on c.requires.facing c.requires.stamped c.visit_timed-t.ensures c.in-On.is) c.decisive_words-k.result c.decisive_words-k.ensures).0
+stamp-requires-clause-state_held c = (stamp_asked c.requires.facing c.if-insn-eq13.true
+    (held_on c.requires.facing c.requires.stamped c.visit_timed-t.ensures c.in-On.is) c.decisive_words-k.result c.decisive_words-k.ensures).0
 
 pub stamp-requires-clause-state_matches : goal.stamp-requires-clause-state_matches
-stamp-requires-clause-state_matches c = (stamp_asked c.requires.facing c.if-insn-eq13.true (held_on c.requires.facing c.requires.stamped c.visit_timed-t.ensures c.in-On.is) c.decisive_words-k.result c.decisive_words-k.ensures).1.0
+stamp-requires-clause-state_matches c = (stamp_asked c.requires.facing c.if-insn-eq13.true
+    (held_on c.requires.facing c.requires.stamped c.visit_timed-t.ensures c.in-On.is) c.decisive_words-k.result c.decisive_words-k.ensures).1.0
 
 pub stamp-requires-clause-classes_below : goal.stamp-requires-clause-classes_below
-stamp-requires-clause-classes_below c = (stamp_asked c.requires.facing c.if-insn-eq13.true (held_on c.requires.facing c.requires.stamped c.visit_timed-t.ensures c.in-On.is) c.decisive_words-k.result c.decisive_words-k.ensures).1.1.0
+stamp-requires-clause-classes_below c = (stamp_asked c.requires.facing c.if-insn-eq13.true
+    (held_on c.requires.facing c.requires.stamped c.visit_timed-t.ensures c.in-On.is) c.decisive_words-k.result c.decisive_words-k.ensures).1.1.0
 
 pub stamp-requires-clause-i_lt_insns : goal.stamp-requires-clause-i_lt_insns
-stamp-requires-clause-i_lt_insns c = (stamp_asked c.requires.facing c.if-insn-eq13.true (held_on c.requires.facing c.requires.stamped c.visit_timed-t.ensures c.in-On.is) c.decisive_words-k.result c.decisive_words-k.ensures).1.1.1
+stamp-requires-clause-i_lt_insns c = (stamp_asked c.requires.facing c.if-insn-eq13.true
+    (held_on c.requires.facing c.requires.stamped c.visit_timed-t.ensures c.in-On.is) c.decisive_words-k.result c.decisive_words-k.ensures).1.1.1
 
 pub overflow_add-state : goal.overflow_add-state
 overflow_add-state c = omega (arith, few c.requires.facing)

@@ -16,4 +16,5 @@ bounds-scratch-j-2 c = simp length-set (omega arith)
 
 pub returns : goal.returns
 returns c =
-    link_new _ _ _ _ c.first_of-x.ensures c.requires.i_lt_instructions_most.0 c.if-x-i.false c.requires.uses_size_in_bounds c.requires.e_nonzero.0 c.requires.e_nonzero.1 c.requires.i_lt_instructions_most.1
+    link_new _ _ _ _ c.first_of-x.ensures c.requires.i_lt_instructions_most.0 c.if-x-i.false c.requires.uses_size_in_bounds c.requires.e_nonzero.0
+    c.requires.e_nonzero.1 c.requires.i_lt_instructions_most.1
