@@ -5,11 +5,11 @@ use mathlib.Core.List.{List, []}
 use Prim.Native.Nat.{ℕ, ◌<◌}
 use native.Mathlib.Omega.{arith}
 use lib.ListN.{length, get_or}
+use Rattle.std.specs.Prelude.{Option, Some, None, Err}
+use Rattle.refusals.specs.declared.Refusal.TheVariants.{UnknownMember}
 use Rattle.kinds.specs.declared.Kind.{Kind}
 use Rattle.kinds.specs.declared.Kind.TheVariants.{Empty}
-use Rattle.kinds.specs.declared.Joined.{Joined}
-use Rattle.kinds.specs.declared.Joined.TheVariants.{Refused}
-use Rattle.kinds.specs.Union.{union_of}
+use Rattle.kinds.specs.Union.{Joined, union_of}
 use Rattle.rules.specs.Actions.{refused, lift}
 use Rattle.rules.specs.Values.{to_answer}
 use Rattle.rules.specs.Lists.{same}
@@ -24,8 +24,6 @@ use Rattle.program.specs.Rows.{name_in}
 use Rattle.program.specs.Rows as Rows
 use Rattle.program.specs.View as Prog
 use Rattle.program.proofs.Tables.{tab-length}
-use Rattle.lookups.specs.declared.FoundIvar.{FoundIvar}
-use Rattle.lookups.specs.declared.FoundIvar.TheVariants.{At, Nothing}
 use Rattle.lookups.specs.Look.{ivar_found, ivar_row}
 use Rattle.lookups.proofs.Rows.{ivars_are}
 use Rattle.state.specs.declared.Sizes.{Sizes}
@@ -38,15 +36,15 @@ use Rattle.attributes.specs.Attributes.{ProgramIs}
 pub program-is : {s p : List ℕ} {c : Counts} (P : Program) (v : Attrs) → MachineFits s p c P v → ProgramIs s p c P v
 program-is P v f = record { program = f.is; attrs = λ k _. f.attrs k }
 
-module _ (s m : List ℕ) (c : Counts) (x : ℕ) (n : Name) {r : FoundIvar} (f : ivar_found r ≡ ivar_named (Prog.program_view s m c) x (name_in s n)) where
-  placed : {a : ℕ} → r ≡ At a → ivar_named (Prog.program_view s m c) x (name_in s n) ≡ some a
+module _ (s m : List ℕ) (c : Counts) (x : ℕ) (n : Name) {r : Option ℕ} (f : ivar_found r ≡ ivar_named (Prog.program_view s m c) x (name_in s n)) where
+  placed : {a : ℕ} → r ≡ Some a → ivar_named (Prog.program_view s m c) x (name_in s n) ≡ some a
   placed e = sym f ∙ ap ivar_found e
 
-  inside : {a : ℕ} → r ≡ At a → a < length (class (Prog.program_view s m c) x).ivars
+  inside : {a : ℕ} → r ≡ Some a → a < length (class (Prog.program_view s m c) x).ivars
   unfolding ivar_named
   inside {a} e = (places-∈ [] (λ (y : P.Name). same y (name_in s n)) (class (Prog.program_view s m c) x).ivars a (first_in _ (placed e))).0
 
-  pub at_low : {z : Sizes} {a : ℕ} → StateMatches z m c → x < z.classes → r ≡ At a → a < 64
+  pub at_low : {z : Sizes} {a : ℕ} → StateMatches z m c → x < z.classes → r ≡ Some a → a < 64
   at_low {z} {a} y lt e =
       let k = y.classes in
       let g : x < c.classes = omega arith in
@@ -57,13 +55,13 @@ module _ (s m : List ℕ) (c : Counts) (x : ℕ) (n : Name) {r : FoundIvar} (f :
       omega arith
 
   module _ {p : Program} {v : Attrs} (h : ProgramIs s m c p v) where
-    pub at_place : {a : ℕ} → r ≡ At a → ivar_named p x (name_in s n) ≡ some a
+    pub at_place : {a : ℕ} → r ≡ Some a → ivar_named p x (name_in s n) ≡ some a
     at_place e = ap (λ (y : Program). ivar_named y x (name_in s n)) h.program ∙ placed e
 
-    pub at_counted : {z : Sizes} {a : ℕ} → StateMatches z m c → x < z.classes → r ≡ At a → a < v.count x
+    pub at_counted : {z : Sizes} {a : ℕ} → StateMatches z m c → x < z.classes → r ≡ Some a → a < v.count x
     at_counted y lt e = let k = y.classes in let t = h.attrs x (omega arith) in let l = inside e in omega arith
 
-    pub no_place : r ≡ Nothing → ivar_named p x (name_in s n) ≡ none
+    pub no_place : r ≡ None → ivar_named p x (name_in s n) ≡ none
     no_place e = ap (λ (y : Program). ivar_named y x (name_in s n)) h.program ∙ sym f ∙ ap ivar_found e
 
 -- ---- read_one
@@ -77,8 +75,8 @@ get_none : (L : Limits) (p : Program) (n : P.Name) (k : Kind) (x : ℕ) (s : Sta
 unfolding get_ivar
 get_none L p n k x s e = rw e
 
-module _ (z : Sizes) (w s m : List ℕ) (c : Counts) (n : Name) (k : Kind) (x : ℕ) {r : FoundIvar} (f : ivar_found r ≡ ivar_named (Prog.program_view s m c) x (name_in s n)) where
-  pub got : {a : ℕ} {j : Kind} {u : Joined} → StateMatches z m c → x < z.classes → r ≡ At a
+module _ (z : Sizes) (w s m : List ℕ) (c : Counts) (n : Name) (k : Kind) (x : ℕ) {r : Option ℕ} (f : ivar_found r ≡ ivar_named (Prog.program_view s m c) x (name_in s n)) where
+  pub got : {a : ℕ} {j : Kind} {u : Joined} → StateMatches z m c → x < z.classes → r ≡ Some a
       → ((v : Attrs) → a < v.count x → j ≡ get_or (get_or (ivars_of z v w) x []) a Empty) → u ≡ union_of k j
       → StateReads z (ProgramIs s m c) (λ L p. get_ivar L p (name_in s n) k x) w u
   got {a} y lt e ej eu = record {
@@ -87,5 +85,5 @@ module _ (z : Sizes) (w s m : List ℕ) (c : Counts) (n : Name) (k : Kind) (x : 
         ∙ sym (get_some L p (name_in s n) k x a (state_view z v w q) (at_place s m c x n f h e));
   }
 
-  pub got_none : r ≡ Nothing → StateReads z (ProgramIs s m c) (λ L p. get_ivar L p (name_in s n) k x) w (Refused 15)
+  pub got_none : r ≡ None → StateReads z (ProgramIs s m c) (λ L p. get_ivar L p (name_in s n) k x) w (Err UnknownMember)
   got_none e = record { is = λ L p v h q. sym (get_none L p (name_in s n) k x (state_view z v w q) (no_place s m c x n f h e)) }

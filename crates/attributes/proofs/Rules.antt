@@ -16,7 +16,7 @@ use Rattle.rules.specs.Program.{Limits, limits, Program, no_program, Name, GetIv
 use Rattle.rules.specs.Machine.{State, classes_of, add_read, rule}
 use Rattle.state.specs.declared.Sizes.{Sizes}
 use Rattle.state.specs.declared.Regs.{Regs}
-use Rattle.state.specs.declared.Acted.TheVariants.{On}
+use Rattle.state.specs.Acted.{On}
 use Rattle.state.specs.View.{kinds_of, state_view}
 use Rattle.state.specs.Changes.{StateDid, Every}
 use Rattle.state.proofs.Pushes.{no_attrs}

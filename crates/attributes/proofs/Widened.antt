@@ -5,12 +5,11 @@ use mathlib.Core.Path.{◌≡◌, refl, sym, ap, ◌∙◌}
 use mathlib.Core.List.{List, []}
 use Prim.Native.Nat.{ℕ, ◌<◌}
 use lib.ListN.{get_or}
+use Rattle.std.specs.Prelude.{Result, Ok, Err}
 use Rattle.kinds.specs.declared.Kind.{Kind}
 use Rattle.kinds.specs.declared.Kind.TheVariants.{Empty}
-use Rattle.kinds.specs.declared.Joined.{Joined}
-use Rattle.kinds.specs.declared.Joined.TheVariants.{Of, Refused}
 use Rattle.kinds.specs.Kinds.{same_kind}
-use Rattle.kinds.specs.Union.{union_of}
+use Rattle.kinds.specs.Union.{Joined, union_of}
 use Rattle.ids.specs.Sets.{members_of}
 use Rattle.rules.specs.Actions.{answered, refused, ◌>>=◌, the, each}
 use Rattle.rules.specs.Program as P
@@ -21,19 +20,17 @@ use Rattle.program.specs.declared.Name.{Name}
 use Rattle.program.specs.declared.Opnd.{Opnd}
 use Rattle.program.specs.Rows.{name_in, opnd_of}
 use Rattle.program.specs.View as Prog
-use Rattle.lookups.specs.declared.FoundIvar.{FoundIvar}
-use Rattle.lookups.specs.declared.FoundIvar.TheVariants.{At, Nothing}
+use Rattle.std.proofs.Common.{Option, Some, None}
 use Rattle.lookups.specs.Look.{ivar_found}
-use Rattle.state.specs.declared.Sizes.{Sizes}
-use Rattle.state.specs.declared.Regs.{Regs}
-use Rattle.state.specs.declared.Acted.{Acted}
-use Rattle.state.specs.declared.Acted.TheVariants.{On, Refused as No}
-use Rattle.state.specs.View.{Attrs, kinds_of, ivars_of, state_view, StateReady}
-use Rattle.state.specs.Changes.{StatePut, StateDid}
+use Rattle.state.specs.declared.State as S
+use Rattle.state.specs.View.{Attrs, kinds_of, ivars_of}
+use Rattle.state.specs.Methods.{view, Put, Did}
+use Rattle.state.proofs.Methods.{along_start, along_put, along_last, along_end, along_refused}
+use Rattle.refusals.specs.declared.Refusal.TheVariants.{UnknownMember}
 use Rattle.machine.specs.opnds.Reads.{kind_in}
 use Rattle.machine.proofs.opnds.Given.{kind_of_lem}
-use Rattle.machine.specs.declared.receivers.ReceiverClasses.{ReceiverClasses}
-use Rattle.machine.specs.declared.receivers.ReceiverClasses.TheVariants as R
+use Rattle.refusals.specs.declared.Refusal.{Refusal}
+use Rattle.refusals.specs.Refusals.{number_of as question_of}
 use Rattle.machine.specs.receivers.Receivers.{StateMatches, Receives}
 use Rattle.machine.proofs.receivers.Walk.{did-met, did_unmet}
 use Rattle.attributes.specs.Attributes.{ProgramIs, set_ivars, wake_reads}
@@ -47,70 +44,64 @@ module _ (L : Limits) (p : Program) (n : P.Name) (k : Kind) (c a : ℕ) (s : Sta
   abbrev old : Kind
   old = get_or (get_or s.ivar_kinds c []) a Empty
 
-  set_no : (x : ℕ) → union_of old k ≡ Refused x → set_ivar L p n k c s ≡ refused x
+  set_no : (x : Refusal) → union_of old k ≡ Err x → set_ivar L p n k c s ≡ refused (question_of x)
   unfolding set_ivar
   set_no x e = rw (f, e)
 
-  set-old : (u : Kind) → union_of old k ≡ Of u → same_kind u old ≡ true → set_ivar L p n k c s ≡ answered (tt, s)
+  set-old : (u : Kind) → union_of old k ≡ Ok u → same_kind u old ≡ true → set_ivar L p n k c s ≡ answered (tt, s)
   unfolding set_ivar
   set-old u e t = rw (f, e, t)
 
-  set_new : (u : Kind) → union_of old k ≡ Of u → same_kind u old ≡ false → set_ivar L p n k c s ≡ wake_reads L p c n (set_ivar_kind c a u s)
+  set_new : (u : Kind) → union_of old k ≡ Ok u → same_kind u old ≡ false → set_ivar L p n k c s ≡ wake_reads L p c n (set_ivar_kind c a u s)
   unfolding set_ivar wake_reads
   set_new u e t = rw (f, e, t)
 
-module _ (s pm : List ℕ) (pc : Counts) (m : List ℕ) (z : Sizes) (q : Regs) (n : Name) (k : Kind) (x : ℕ) {r : FoundIvar}
+module _ (s pm : List ℕ) (pc : Counts) (st : S.State) (n : Name) (k : Kind) (x : ℕ) {r : Option ℕ}
     (f : ivar_found r ≡ ivar_named (Prog.program_view s pm pc) x (name_in s n)) where
-  pub widen_none : r ≡ Nothing → StateDid z (ProgramIs s pm pc) (λ L p. set_ivar L p (name_in s n) k x) m q m (No 15)
-  widen_none e = record { is = λ L room p v h. sym (set-none L p (name_in s n) k x (state_view z v m q) (no_place s pm pc x n f h e)); ok = tt }
+  pub widen_none : r ≡ None → Did (ProgramIs s pm pc) (λ L p. set_ivar L p (name_in s n) k x) st st (Err UnknownMember)
+  widen_none e = along_refused (along_start st) UnknownMember (λ L room p v h. set-none L p (name_in s n) k x (view v st) (no_place s pm pc x n f h e))
 
   -- o: the old kind as it was read; j: its union with k, as it was answered
-  module _ (y : StateMatches z pm pc) (lt : x < z.classes) {a : ℕ} (e : r ≡ At a) {o : Kind} {j : Joined}
-      (g : (v : Attrs) → a < v.count x → o ≡ get_or (get_or (ivars_of z v m) x []) a Empty) (u : j ≡ union_of o k) where
+  module _ (y : StateMatches st.sizes pm pc) (lt : x < st.sizes.classes) {a : ℕ} (e : r ≡ Some a) {o : Kind} {j : Joined}
+      (g : (v : Attrs) → a < v.count x → o ≡ get_or (get_or (ivars_of st.sizes v st.words.now) x []) a Empty) (u : j ≡ union_of o k) where
     module _ {p : Program} {v : Attrs} (h : ProgramIs s pm pc p v) where
-      was : o ≡ get_or (get_or (ivars_of z v m) x []) a Empty
+      was : o ≡ get_or (get_or (ivars_of st.sizes v st.words.now) x []) a Empty
       was = g v (at_counted s pm pc x n f h y lt e)
 
-      joined : {i : Joined} → j ≡ i → union_of (get_or (get_or (ivars_of z v m) x []) a Empty) k ≡ i
+      joined : {i : Joined} → j ≡ i → union_of (get_or (get_or (ivars_of st.sizes v st.words.now) x []) a Empty) k ≡ i
       joined i = ap (λ (b : Kind). union_of b k) (sym was) ∙ sym u ∙ i
 
-      told : (w : Kind) {b t : 𝔹} → b ≡ same_kind w o → b ≡ t → same_kind w (get_or (get_or (ivars_of z v m) x []) a Empty) ≡ t
-      told w i t = ap (same_kind w) (sym was) ∙ sym i ∙ t
+      told : (w : Kind) {t : 𝔹} → same_kind w o ≡ t → same_kind w (get_or (get_or (ivars_of st.sizes v st.words.now) x []) a Empty) ≡ t
+      told w t = ap (same_kind w) (sym was) ∙ t
 
-    pub widen_refused : {i : ℕ} → j ≡ Refused i → StateDid z (ProgramIs s pm pc) (λ L p. set_ivar L p (name_in s n) k x) m q m (No i)
-    widen_refused {i} i1 = record { is = λ L room p v h. sym (set_no L p (name_in s n) k x a (state_view z v m q) (at_place s pm pc x n f h e) i (joined h i1)); ok = tt }
+    pub widen_refused : {t : Refusal} → j ≡ Err t → Did (ProgramIs s pm pc) (λ L p. set_ivar L p (name_in s n) k x) st st (Err t)
+    widen_refused {t} i = along_refused (along_start st) t (λ L room p v h. set_no L p (name_in s n) k x a (view v st) (at_place s pm pc x n f h e) t (joined h i))
 
-    module _ {w : Kind} {b : 𝔹} (i : j ≡ Of w) (b1 : b ≡ same_kind w o) where
-      pub widen_same : StateReady z m q → b ≡ true → StateDid z (ProgramIs s pm pc) (λ L p. set_ivar L p (name_in s n) k x) m q m (On q)
-      widen_same rd t = record {
-        is = λ L room p v h. sym (set-old L p (name_in s n) k x a (state_view z v m q) (at_place s pm pc x n f h e) w (joined h i) (told h w b1 t));
-        ok = record { ready = rd; count = refl };
-      }
+    module _ {w : Kind} (i : j ≡ Ok w) where
+      pub widen_same : same_kind w o ≡ true → Did (ProgramIs s pm pc) (λ L p. set_ivar L p (name_in s n) k x) st st (Ok tt)
+      widen_same t = along_end (along_start st) (λ L room p v h. set-old L p (name_in s n) k x a (view v st) (at_place s pm pc x n f h e) w (joined h i) (told h w t))
 
-      pub widen_new : {m' m'' : List ℕ} {d : Acted} → b ≡ false → StatePut z (set_ivar_kind x a w) m m'
-          → StateDid z (ProgramIs s pm pc) (λ L p. wake_reads L p x (name_in s n)) m' q m'' d → StateDid z (ProgramIs s pm pc) (λ L p. set_ivar L p (name_in s n) k x) m q m'' d
-      widen_new t put d = record {
-        is = λ L room p v h.
-            d.is L room p v h ∙ ap (wake_reads L p x (name_in s n)) (put.is v q)
-            ∙ sym (set_new L p (name_in s n) k x a (state_view z v m q) (at_place s pm pc x n f h e) w (joined h i) (told h w b1 t));
-        ok = d.ok;
-      }
+      pub widen_new : {st' su : S.State} (d : Result (Unit {0}) Refusal) → same_kind w o ≡ false → Put (set_ivar_kind x a w) st st'
+          → Did (ProgramIs s pm pc) (λ L p. wake_reads L p x (name_in s n)) st' su d → Did (ProgramIs s pm pc) (λ L p. set_ivar L p (name_in s n) k x) st su d
+      widen_new d t put did =
+          along_last
+          (along_put (along_start st) (λ L p. wake_reads L p x (name_in s n)) put
+          (λ L room p v h. set_new L p (name_in s n) k x a (view v st) (at_place s pm pc x n f h e) w (joined h i) (told h w t)))
+          d did (λ p v h. h) (λ L room p v h. refl)
 
 -- ---- set_ivar
 
-module _ (s pm : List ℕ) (pc : Counts) (m : List ℕ) (z : Sizes) (q : Regs) (n : Name) (o v : Opnd) {r : ReceiverClasses} (d : Receives z m o r) where
+module _ (s pm : List ℕ) (pc : Counts) (st : S.State) (n : Name) (o v : Opnd) {r : Result ℕ Refusal} (d : Receives st.sizes st.words.now o r) where
   abbrev widens : Limits → Program → List ℕ → Acts (Unit {0})
   widens L p cs = the (λ s. kind_of s (opnd_of v)) >>= λ k. each cs (set_ivar L p (name_in s n) k)
 
-  pub set-met : {k : Kind} {c : ℕ} {w : List ℕ} {a : Acted} → k ≡ kind_in (kinds_of z m) (opnd_of v) → r ≡ R.Classes c
-      → StateDid z (ProgramIs s pm pc) (λ L p. each (members_of c) (set_ivar L p (name_in s n) k)) m q w a
-      → StateDid z (ProgramIs s pm pc) (λ L p. set_ivars L p (name_in s n) (opnd_of o) (opnd_of v)) m q w a
-  set-met {k} {c} ek e g = did-met z m o d (ProgramIs s pm pc) widens e (record {
-    is = λ L room p u h.
-        g.is L room p u h
-        ∙ ap (λ (y : Kind). each (members_of c) (set_ivar L p (name_in s n) y) (state_view z u m q)) (ek ∙ sym (kind_of_lem (state_view z u m q) (opnd_of v)));
-    ok = g.ok;
-  })
+  pub set-met : {k : Kind} {c : ℕ} {su : S.State} (a : Result (Unit {0}) Refusal) → k ≡ kind_in (kinds_of st.sizes st.words.now) (opnd_of v) → r ≡ Ok c
+      → Did (ProgramIs s pm pc) (λ L p. each (members_of c) (set_ivar L p (name_in s n) k)) st su a
+      → Did (ProgramIs s pm pc) (λ L p. set_ivars L p (name_in s n) (opnd_of o) (opnd_of v)) st su a
+  set-met {k} {c} a ek e g =
+      did-met st o d (ProgramIs s pm pc) widens a e
+      (along_last (along_start st) a g (λ p u h. h)
+      (λ L room p u h. ap (λ (y : Kind). each (members_of c) (set_ivar L p (name_in s n) y) (view u st)) (kind_of_lem (view u st) (opnd_of v) ∙ sym ek)))
 
-  pub set_unmet : {e : ℕ} → r ≡ R.Refused e → StateDid z (ProgramIs s pm pc) (λ L p. set_ivars L p (name_in s n) (opnd_of o) (opnd_of v)) m q m (No e)
-  set_unmet e = did_unmet z m o d (ProgramIs s pm pc) widens e
+  pub set_unmet : {x : Refusal} → r ≡ Err x → Did (ProgramIs s pm pc) (λ L p. set_ivars L p (name_in s n) (opnd_of o) (opnd_of v)) st st (Err x)
+  set_unmet e = did_unmet st o d (ProgramIs s pm pc) widens e

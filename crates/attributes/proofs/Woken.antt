@@ -5,15 +5,12 @@ use mathlib.Core.List.{List, ◌∷◌, map}
 use Prim.Native.Nat.{ℕ, ◌+◌, ◌-◌, ◌*◌, ◌<◌}
 use native.Mathlib.Numerals.{add-one}
 use native.Mathlib.Omega.{arith}
-use mir.Syntax.{w32}
-use mir.Val.{Fits}
-use lib.ListN.{length}
 use Rattle.ids.specs.declared.InsnId.{InsnId}
-use Rattle.rules.specs.Actions.{Answer, if_answered, answered, each}
+use Rattle.rules.specs.Actions.{if_answered, answered, each}
 use Rattle.rules.specs.Lists.{keep, cons_if, is_just_name}
 use Rattle.rules.specs.Program as P
 use Rattle.rules.specs.Program.{Limits, limits, Program, no_program, about, op_of}
-use Rattle.rules.specs.Machine.{State, push_insn}
+use Rattle.rules.specs.Machine.{State, Acts, push_insn}
 use Rattle.program.specs.declared.Counts.{Counts}
 use Rattle.program.specs.declared.Name.{Name}
 use Rattle.program.specs.declared.Row.{Row}
@@ -22,15 +19,14 @@ use Rattle.program.specs.declared.Op.TheVariants.{Jump, IfTrue, Return, SendStat
 use Rattle.program.specs.Rows.{name_in, op_in, opnds_in, opnd_of}
 use Rattle.program.specs.View as Prog
 use Rattle.program.specs.View.{ReadsInsn}
-use Rattle.state.specs.declared.Sizes.{Sizes}
-use Rattle.state.specs.declared.Regs.{Regs}
-use Rattle.state.specs.declared.Acted.{Acted}
-use Rattle.state.specs.declared.Acted.TheVariants.{On, Refused}
-use Rattle.state.specs.declared.NextInsn.{NextInsn}
-use Rattle.state.specs.declared.NextInsn.TheVariants.{Place, Done}
-use Rattle.state.specs.View.{Attrs, reads_of, state_view, StateReady}
-use Rattle.state.specs.Changes.{marks_from, Following, went, StateAfter, StateDid, Every}
+use Rattle.state.specs.declared.State as S
+use Rattle.state.specs.View.{Attrs, reads_of}
+use Rattle.state.specs.Changes.{marks_from, Following, Every}
+use Rattle.state.specs.Methods.{view, Did}
 use Rattle.state.proofs.Pushes.{value_in, push_keeps, no_attrs}
+use Rattle.state.proofs.Methods.{Along, along_start, along_step, along_stop, along_last, along_end, lent_same, came}
+use Rattle.std.specs.Prelude.{Option, Some, None, Result, Ok, Err}
+use Rattle.refusals.specs.declared.Refusal.{Refusal}
 use Rattle.machine.specs.receivers.Receivers.{StateMatches}
 use Rattle.memory.specs.Layout.{worklist_most}
 use Rattle.program.specs.Layout.{opnds_at}
@@ -73,12 +69,12 @@ if_no : (L : Limits) (p : Program) (i : ℕ) (s : State) → push_if L p false i
 unfolding push_if
 if_no L p i s = refl
 
-module _ (z : Sizes) (m : List ℕ) (q : Regs) (b : 𝔹) (i : ℕ) where
-  pub if_pushed : {m' : List ℕ} {r : Acted} → b ≡ true → StateDid z Every (λ L p. push_insn L p i) m q m' r → StateDid z Every (λ L p. push_if L p b i) m q m' r
-  if_pushed e d = rw e (record { is = λ L f p v a. d.is L f p v a ∙ sym (if_yes L p i (state_view z v m q)); ok = d.ok })
+module _ (s : S.State) (b : 𝔹) (i : ℕ) where
+  pub if_pushed : {t : S.State} (r : Result (Unit {0}) Refusal) → b ≡ true → Did Every (λ L p. push_insn L p i) s t r → Did Every (λ L p. push_if L p b i) s t r
+  if_pushed r e d = rw e (along_last (along_start s) r d (λ p v h. h) (λ L room p v h. if_yes L p i (view v s)))
 
-  pub if_passed : StateReady z m q → b ≡ false → StateDid z Every (λ L p. push_if L p b i) m q m (On q)
-  if_passed r e = rw e (record { is = λ L f p v a. sym (if_no L p i (state_view z v m q)); ok = record { ready = r; count = refl } })
+  pub if_passed : b ≡ false → Did Every (λ L p. push_if L p b i) s s (Ok tt)
+  if_passed e = rw e (along_end (along_start s) (λ L room p v h. if_no L p i (view v s)))
 
 if_keeps : (L : Limits) → L.worklist ≡ worklist_most → (p : Program) (b : 𝔹) (i : ℕ) (s t : State) → answered (tt, t) ≡ push_if L p b i s → t.ivar_reads ≡ s.ivar_reads
 unfolding value_in
@@ -97,66 +93,52 @@ kept-first L p t i l s = go (t i)
 
 -- ---- at the loop's head: what is left from here comes to what the whole comes to
 
-pub record Waking (s pm : List ℕ) (pc : Counts) (z : Sizes) (n : Name) (c : ℕ) (m₀ : List ℕ) (q₀ : Regs) (m : List ℕ) (q : Regs) (from : ℕ) : Type 0 where
-  pub after : StateAfter z q₀ m q
-  pub long : length m ≡ length m₀
-  pub reads : reads_of z m ≡ reads_of z m₀
-  pub same : (L : Limits) → L.worklist ≡ worklist_most → (p : Program) (v : Attrs) → ProgramIs s pm pc p v
-      → each (keep (gets_name p (name_in s n)) (marks_from (reads_of z m₀) c from)) (push_insn L p) (state_view z v m q) ≡ wake_reads L p c (name_in s n) (state_view z v m₀ q₀)
+abbrev from_read : (s : List ℕ) (n : Name) (t : List (List 𝔹)) (c from : ℕ) → Limits → Program → Acts (Unit {0})
+from_read s n t c from L p = each (keep (gets_name p (name_in s n)) (marks_from t c from)) (push_insn L p)
 
-reads_all : (z : Sizes) (c : ℕ) (m : List ℕ) (q : Regs) (L : Limits) (p : Program) (v : Attrs) (n : P.Name)
-    → each (keep (gets_name p n) (marks_from (reads_of z m) c 0)) (push_insn L p) (state_view z v m q) ≡ wake_reads L p c n (state_view z v m q)
+pub record Waking (s pm : List ℕ) (pc : Counts) (n : Name) (c : ℕ) (s₀ st : S.State) (from : ℕ) : Type 0 where
+  pub reads : reads_of st.sizes st.words.now ≡ reads_of s₀.sizes s₀.words.now
+  pub along : Along (ProgramIs s pm pc) (from_read s n (reads_of s₀.sizes s₀.words.now) c from) (λ L p. wake_reads L p c (name_in s n)) s₀ st
+
+reads_all : (c : ℕ) (st : S.State) (L : Limits) (p : Program) (v : Attrs) (n : P.Name)
+    → each (keep (gets_name p n) (marks_from (reads_of st.sizes st.words.now) c 0)) (push_insn L p) (view v st) ≡ wake_reads L p c n (view v st)
 unfolding wake_reads marks_from
-reads_all z c m q L p v n = refl
+reads_all c st L p v n = refl
 
-pub waking_start : (s pm : List ℕ) (pc : Counts) (z : Sizes) (n : Name) (c : ℕ) (m : List ℕ) (q : Regs) → StateReady z m q → Waking s pm pc z n c m q m q 0
-waking_start s pm pc z n c m q r = record { after = record { ready = r; count = refl }; long = refl; reads = refl; same = λ L f p v h. reads_all z c m q L p v (name_in s n) }
+pub waking_start : (s pm : List ℕ) (pc : Counts) (n : Name) (c : ℕ) (st : S.State) → Waking s pm pc n c st st 0
+waking_start s pm pc n c st = record { reads = refl; along = record { lent = lent_same st; count = refl; same = λ L room p v h. reads_all c st L p v (name_in s n) } }
 
-module _ {s pm : List ℕ} {pc : Counts} {z : Sizes} {n : Name} {c : ℕ} {m₀ : List ℕ} {q₀ : Regs} {m : List ℕ} {q : Regs} {from : ℕ}
-    (g : Waking s pm pc z n c m₀ q₀ m q from) {r : NextInsn} (u : Following (reads_of z m) c z.insns from r) where
-  left : {t : NextInsn} → r ≡ t → Following (reads_of z m₀) c z.insns from t
-  left e = rw g.reads at (rw e at u)
+module _ {s pm : List ℕ} {pc : Counts} {n : Name} {c : ℕ} {s₀ st : S.State} {from : ℕ} (g : Waking s pm pc n c s₀ st from)
+    {r : Option InsnId} (u : Following (reads_of st.sizes st.words.now) c st.sizes.insns from r) where
+  left : {t : Option InsnId} → r ≡ t → Following (reads_of s₀.sizes s₀.words.now) c s₀.sizes.insns from t
+  left e = rw (g.reads, g.along.lent.sizes) at (rw e at u)
 
-  module _ {i : InsnId} (e : r ≡ Place i) where
-    pub read_below : i.0 < z.insns
-    read_below = (left e).ok.1
+  module _ {i : InsnId} (e : r ≡ Some i) where
+    pub read-there : StateMatches s₀.sizes pm pc → i.0 < pc.insns
+    read-there y = let b = (left e).ok.1 in let k = y.insns in omega arith
 
-    pub read-there : StateMatches z pm pc → i.0 < pc.insns
-    read-there y = let b = read_below in let k = y.insns in omega arith
-
-    pub read_fits : Fits w32 (i.0 + 1)
-    read_fits = let b = read_below in let h = g.after.ready.held in record { fits = omega arith }
-
-    pub read-falls : z.insns - (i.0 + 1) < z.insns - from
+    pub read-falls : s₀.sizes.insns - (i.0 + 1) < s₀.sizes.insns - from
     read-falls = let b = (left e).ok in omega (arith, b.0, b.1)
 
-    module _ {b : 𝔹} {w : List ℕ} {a : Acted} (t : b ≡ gets_name (Prog.program_view s pm pc) (name_in s n) i.0) (d : StateDid z Every (λ L p. push_if L p b i.0) m q w a) where
-      turn : {x : Acted} → a ≡ x → (L : Limits) → L.worklist ≡ worklist_most → (p : Program) (v : Attrs) → ProgramIs s pm pc p v
-          → if_answered (went z v w x) (λ y. each (keep (gets_name p (name_in s n)) (marks_from (reads_of z m₀) c (i.0 + 1))) (push_insn L p) y.1)
-          ≡ wake_reads L p c (name_in s n) (state_view z v m₀ q₀)
-      turn k L f p v h =
-          let d1 = rw k at d in
-          ap (λ (y : Answer (Unit {0} × State)). if_answered y (λ j. each (keep (gets_name p (name_in s n)) (marks_from (reads_of z m₀) c (i.0 + 1))) (push_insn L p) j.1))
-          (d1.is L f p v tt ∙ ap (λ (j : 𝔹). push_if L p j i.0 (state_view z v m q)) (t ∙ ap (λ (j : Program). gets_name j (name_in s n) i.0) (sym h.program)))
-          ∙ sym (kept-first L p (gets_name p (name_in s n)) i.0 (marks_from (reads_of z m₀) c (i.0 + 1)) (state_view z v m q))
-          ∙ ap (λ (y : ℕ). each (keep (gets_name p (name_in s n)) (i.0 ∷ marks_from (reads_of z m₀) c y)) (push_insn L p) (state_view z v m q)) (add-one i.0)
-          ∙ ap (λ (y : List ℕ). each (keep (gets_name p (name_in s n)) y) (push_insn L p) (state_view z v m q)) (sym (left e).is) ∙ g.same L f p v h
+    module _ {b : 𝔹} {w : S.State} {a : Result (Unit {0}) Refusal} (t : b ≡ gets_name (Prog.program_view s pm pc) (name_in s n) i.0) (d : Did Every (λ L p. push_if L p b i.0) st w a) where
+      turn : (L : Limits) → L.worklist ≡ worklist_most → (p : Program) (v : Attrs) → ProgramIs s pm pc p v
+          → from_read s n (reads_of s₀.sizes s₀.words.now) c from L p (view v st)
+          ≡ if_answered (push_if L p b i.0 (view v st)) (λ y. from_read s n (reads_of s₀.sizes s₀.words.now) c (i.0 + 1) L p y.1)
+      turn L f p v h =
+          ap (λ (y : List ℕ). each (keep (gets_name p (name_in s n)) y) (push_insn L p) (view v st)) (left e).is
+          ∙ sym (ap (λ (y : ℕ). each (keep (gets_name p (name_in s n)) (i.0 ∷ marks_from (reads_of s₀.sizes s₀.words.now) c y)) (push_insn L p) (view v st)) (add-one i.0))
+          ∙ kept-first L p (gets_name p (name_in s n)) i.0 (marks_from (reads_of s₀.sizes s₀.words.now) c (i.0 + 1)) (view v st)
+          ∙ ap (λ (j : 𝔹). if_answered (push_if L p j i.0 (view v st)) (λ y. from_read s n (reads_of s₀.sizes s₀.words.now) c (i.0 + 1) L p y.1))
+          (ap (λ (j : Program). gets_name j (name_in s n) i.0) h.program ∙ sym t)
 
-      pub waking_more : {q' : Regs} → length w ≡ length m → a ≡ On q' → Waking s pm pc z n c m₀ q₀ w q' (i.0 + 1)
-      waking_more {q'} len y =
-          let d1 = rw y at d in
-          record {
-            after = record { ready = d1.ok.ready; count = d1.ok.count ∙ g.after.count };
-            long = len ∙ g.long;
-            reads = if_keeps limits refl no_program b i.0 (state_view z no_attrs m q) (state_view z no_attrs w q') (d1.is limits refl no_program no_attrs tt) ∙ g.reads;
-            same = turn y;
-          }
+      pub waking_more : {y : Unit {0}} → a ≡ Ok y → Waking s pm pc n c s₀ w (i.0 + 1)
+      waking_more y = record {
+        reads = if_keeps limits refl no_program b i.0 (view no_attrs st) (view no_attrs w) (came d y limits refl no_program no_attrs tt) ∙ g.reads;
+        along = along_step g.along d y (λ p v h. tt) turn;
+      }
 
-      pub waking_stop : {k : ℕ} → a ≡ Refused k → StateDid z (ProgramIs s pm pc) (λ L p. wake_reads L p c (name_in s n)) m₀ q₀ w (Refused k)
-      waking_stop y = record { is = turn y; ok = tt }
+      pub waking_stop : {k : Refusal} → a ≡ Err k → Did (ProgramIs s pm pc) (λ L p. wake_reads L p c (name_in s n)) s₀ w (Err k)
+      waking_stop y = along_stop g.along (from_read s n (reads_of s₀.sizes s₀.words.now) c (i.0 + 1)) d y (λ p v h. tt) turn
 
-  pub waking_done : r ≡ Done → StateDid z (ProgramIs s pm pc) (λ L p. wake_reads L p c (name_in s n)) m₀ q₀ m (On q)
-  waking_done e = record {
-    is = λ L f p v h. ap (λ (y : List ℕ). each (keep (gets_name p (name_in s n)) y) (push_insn L p) (state_view z v m q)) (sym (left e).is) ∙ g.same L f p v h;
-    ok = g.after;
-  }
+  pub waking_done : r ≡ None → Did (ProgramIs s pm pc) (λ L p. wake_reads L p c (name_in s n)) s₀ st (Ok tt)
+  waking_done e = along_end g.along (λ L f p v h. ap (λ (y : List ℕ). each (keep (gets_name p (name_in s n)) y) (push_insn L p) (view v st)) (left e).is)

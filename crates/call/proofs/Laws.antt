@@ -16,19 +16,18 @@ use Rattle.rules.specs.Reading.{parse_program}
 use Rattle.rules.specs.Machine.{State, state_of, start, run}
 use Rattle.rules.specs.Bound.{bound}
 use Rattle.rules.specs.Frames.{Analysis, analyze}
-use Rattle.rules.proofs.Wellformed.Laws.{and_then}
-use Rattle.rules.proofs.Wellformed.Forward.{program_comes, too_long as too-long-refused}
-use Rattle.rules.proofs.Questions.{start_fine, run_fine}
 use Rattle.rules.proofs.Exactness.Answers as Answers
 use Rattle.memory.specs.Memory.{zeros, Blank}
 use Rattle.memory.proofs.Laws.{zeros-at, blank}
 use Rattle.program.specs.View.{program_view}
 use Rattle.program.specs.declared.Counts.{Counts}
 use Rattle.state.specs.declared.Regs.{Regs}
-use Rattle.state.specs.declared.Acted.{Acted}
-use Rattle.state.specs.declared.Acted.TheVariants.{On, Refused as No}
+use Rattle.state.specs.Acted.{Acted, On, Refused as No}
+use Rattle.std.specs.Prelude.{Result, Ok, Err}
+use Rattle.refusals.specs.declared.Refusal.{Refusal}
+use Rattle.refusals.specs.Refusals.{number_of as number}
 use Rattle.state.specs.declared.Sizes.{Sizes}
-use Rattle.state.specs.View.{Attrs, state_view, StateHeld}
+use Rattle.state.specs.View.{Attrs, state_view}
 use Rattle.state.specs.Changes.{went}
 use Rattle.answer.specs.Layout.{answer_length, callers_at}
 use Rattle.answer.specs.Record.{Legal, answer_record}
@@ -40,42 +39,22 @@ use Rattle.publish.specs.Final.{with_state}
 use Rattle.publish.proofs.Tables.{live-length}
 use Rattle.publish.proofs.Uses.{Outside}
 use Rattle.publish.proofs.Whole.{image_written}
-use Rattle.run.specs.Runs.{tables_of as words_of, Rested}
+use Rattle.run.specs.Runs.{Rested}
 use Rattle.sctp.specs.Sctp.{tables_of, Given, Analyses}
 use Rattle.parser.specs.Outcomes.{ReadsScript}
 use Rattle.parser.proofs.Laws.{read-ready, read-finished}
-use Rattle.parser.specs.declared.ReadOutcome.{ReadOutcome}
-use Rattle.parser.specs.declared.ReadOutcome.TheVariants as R
-use Rattle.memory.specs.Layout.{script_most, blocks_most}
+use Rattle.memory.specs.Layout.{script_most, blocks_most, instructions_most}
 use Rattle.program.specs.Layout.{program_size}
 use Rattle.state.specs.Layout.{state_size, state_length}
 use Rattle.chains.specs.Layout.{program_length}
-use Rattle.call.specs.declared.Outcome.{Outcome}
-use Rattle.call.specs.declared.Outcome.TheVariants.{Answered, Refused}
 use Rattle.call.specs.Call.{number_of, Lent, lent, left, answer_of, ended, after}
 use Rattle.call.specs.Parts.{front_of, imaged, analyzed, found, Parsed, PartsSized, PartsFresh, PartsAnalyzed, kept_of, PartsCleared, PartsRan}
 
--- ---- publish_state
-
--- the state's tables
-pub words-length : {z : Sizes} (m : List ℕ) → StateHeld z (words_of m) → state_size ≡ length (take state_size m)
-words-length m h = sym h.len
-
-module _ (c : Counts) (m a : List ℕ) {z : Sizes} (e : z ≡ sizes_of c) where
-  pub sizes-held : StateHeld (sizes_of c) m → StateHeld z m
-  sizes-held h = rw e h
-
-  pub sizes-blocks : c.blocks ≤ blocks_most → z.blocks ≤ blocks_most
-  sizes-blocks h = rw e h
-
-  pub sizes_written : (count : ℕ) {a' : List ℕ} → a' ≡ with_state z m count a → a' ≡ with_state (sizes_of c) m count a
-  sizes_written count h = h ∙ ap (λ (x : Sizes). with_state x m count a) e
-
 -- ---- analyze_program
 
-pub given : (s p : List ℕ) (c : Counts) (u m : List ℕ) → Parsed s (front_of p) c → PartsFresh u p m → Given s p c u m
+pub given : (s p : List ℕ) (c : Counts) (u m t : List ℕ) {z : Sizes} → Parsed s (front_of p) c → PartsFresh u p m → z ≡ sizes_of c → length t ≡ instructions_most → Given s p c z u t
 unfolding front_of
-given s p c u m h z = record { limits = limits; suited = h.suited; ready = h.ready; program = z.program; answer = z.answer.len; state = z.state }
+given s p c u m t h f e l = record { limits = limits; suited = h.suited; ready = h.ready; program = f.program; sizes = e; answer = f.answer.len; stamps = l }
 
 front-tables : (p : List ℕ) → tables_of p ≡ front_of p
 unfolding front_of
@@ -101,13 +80,9 @@ module _ (s p : List ℕ) (c : Counts) (u u₁ m : List ℕ) {r : Acted} (h : Pa
   image : Answer State → Answer (List ℕ)
   image y = if_answered y (λ e. answered (image_of (answer_record P e)))
 
-  -- the number of a refusal is a question's
-  pub program-number : {n : ℕ} → r ≡ No n → n < 256
-  program-number {n} e = omega (arith, ((and_then (start_fine limits P) (λ x q. run_fine limits P (bound P) x)).refuses n (sym (rw e at ends))).1)
-
-  pub program-refused : {n : ℕ} (a : List ℕ) → r ≡ No n → found (Refused n) a ≡ analyzed P
+  pub program-refused : (x : Refusal) (a : List ℕ) → r ≡ No (number x) → found (Err x) a ≡ analyzed P
   unfolding analyzed image
-  program-refused {n} a e = ap image (rw e at ends)
+  program-refused x a e = ap image (rw e at ends)
 
   module _ {q : Regs} (e : r ≡ On q) where
     rested : Rested s t c (sizes_of c) m q
@@ -119,9 +94,6 @@ module _ (s p : List ℕ) (c : Counts) (u u₁ m : List ℕ) {r : Acted} (h : Pa
     legal : Legal (answer_record P (state_view (sizes_of c) v m q))
     legal = let y = Answers.after (start limits P) _ (sym ends_in) in (run-published P h.suited.finished y.0 _ y.1 y.2).legal
 
-    pub held_after : StateHeld (sizes_of c) m
-    held_after = rested.ready.held
-
     pub blocks-few : c.blocks ≤ blocks_most
     blocks-few = omega (arith, live-length (sizes_of c) m, legal.blocks)
 
@@ -130,9 +102,10 @@ module _ (s p : List ℕ) (c : Counts) (u u₁ m : List ℕ) {r : Acted} (h : Pa
     others k b o (yes lt) = g.left.others k lt o.0 o.1
     others k b o (no ge) = g.left.clear k (omega arith) ∙ sym (ap (λ (d : List ℕ). get_or d k 0) b.is ∙ zeros-at answer_length k)
 
-    pub program-answered : {a p' w : List ℕ} → PartsFresh u p' w → length u₁ ≡ length u → a ≡ with_state (sizes_of c) m q.count u₁ → found Answered a ≡ analyzed P
+    pub program-answered : {a p' w : List ℕ} {z : Sizes} (x : Unit {0}) → PartsFresh u p' w → length u₁ ≡ length u → z ≡ sizes_of c → a ≡ with_state z m q.count u₁ → found (Ok x) a ≡ analyzed P
     unfolding analyzed image
-    program-answered {a} f l ea =
+    program-answered {a} {z = z} x f l ez ew =
+        let ea : a ≡ with_state (sizes_of c) m q.count u₁ = ew ∙ ap (λ (y : Sizes). with_state y m q.count u₁) ez in
         ap answered (image_written s t c (sizes_of c) v m q h.ready refl legal f.answer l g.left.users (λ k o. others k f.answer o (dec_lt k callers_at)) ea)
         ∙ ap image ends_in
 
@@ -163,25 +136,15 @@ unfolding analyze
 imaged_no s n e = rw e
 
 -- the tables that were lent and came back
-pub reads-tables : (s t p : List ℕ) {r : ReadOutcome} → ReadsScript s t r → length t ≡ length (take program_size p) → program_size ≤ length p → ReadsScript s (front_of (t ++ drop program_size p)) r
+pub reads-tables : (s t p : List ℕ) {r : Result Counts Refusal} → ReadsScript s t r → length t ≡ length (take program_size p)
+    → program_size ≤ length p → ReadsScript s (front_of (t ++ drop program_size p)) r
 reads-tables s t p {r} g e h = subst (λ x. ReadsScript s x r) (sym (tables_back t (drop program_size p) (e ∙ length-take-le program_size p h))) g
 
--- the number of a refusal is a question's
-number_of_lem : (s : List ℕ) (n : ℕ) → parse_program limits s ≡ refused n → n ≤ 20
-number_of_lem s n e = go (leb (length s) limits.script) refl
-  where
-    go : (b : 𝔹) → leb (length s) limits.script ≡ b → n ≤ 20
-    go true h = let q = (program_comes limits s h).refuses n e in omega (arith, q.most)
-    go false h = let z : refused n ≡ refused 1 = sym e ∙ too-long-refused limits s h in let i : n ≡ 1 = cc in omega arith
+module _ (s t : List ℕ) {r : Result Counts Refusal} (g : ReadsScript s t r) where
+  pub reading_refused : (x : Refusal) (a : List ℕ) → r ≡ Err x → found (Err x) a ≡ imaged (analyze limits s)
+  reading_refused x a e = sym (imaged_no s (number x) (sym (rw e at g).is))
 
-module _ (s t : List ℕ) {r : ReadOutcome} (g : ReadsScript s t r) where
-  pub reading_number : {n : ℕ} → r ≡ R.Refused n → n < 256
-  reading_number {n} e = omega (arith, number_of_lem s n (sym (rw e at g).is))
-
-  pub reading_refused : {n : ℕ} (a : List ℕ) → r ≡ R.Refused n → found (Refused n) a ≡ imaged (analyze limits s)
-  reading_refused {n} a e = sym (imaged_no s n (sym (rw e at g).is))
-
-  module _ {c : Counts} (e : r ≡ R.Finished c) where
+  module _ {c : Counts} (e : r ≡ Ok c) where
     pub parsed : Parsed s t c
     parsed =
         record {
@@ -192,33 +155,23 @@ module _ (s t : List ℕ) {r : ReadOutcome} (g : ReadsScript s t r) where
           ready = read-ready g e;
         }
 
-    pub reading_finished : (o : Outcome) (a : List ℕ) → found o a ≡ analyzed (program_view s t c) → found o a ≡ imaged (analyze limits s)
+    pub reading_finished : (o : Result (Unit {0}) Refusal) (a : List ℕ) → found o a ≡ analyzed (program_view s t c) → found o a ≡ imaged (analyze limits s)
     reading_finished o a f = f ∙ sym (imaged-on s (program_view s t c) (sym (rw e at g).is))
-
-pub answer-kept : (u u₁ : List ℕ) {p w : List ℕ} → PartsFresh u p w → length u₁ ≡ length u → length u₁ ≡ answer_length
-answer-kept u u₁ f l = l ∙ f.answer.len
-
--- lengths are kept
-pub fresh : {a a' p p' w w' : List ℕ} → PartsSized a p w → a' ≡ zeros (length a) → length p' ≡ length p → length w' ≡ length w → PartsFresh a' p' w'
-fresh {a} {a'} z e k l = record { answer = blank a' (length a) answer_length e z.answer; program = k ∙ z.program; state = l ∙ z.state }
 
 pub sized-kept : {a p p' w w' : List ℕ} → PartsSized a p w → length p' ≡ length p → length w' ≡ length w → PartsSized a p' w'
 sized-kept f k l = record { answer = f.answer; program = k ∙ f.program; state = l ∙ f.state }
 
 -- ---- analyze_parts
 
-pub cleared_is : (n : ℕ) (a p w : List ℕ) {r : Outcome} {a' p' w' : List ℕ} → r ≡ Refused n → a' ≡ zeros (length a) → p' ≡ zeros (length p) → w' ≡ zeros (length w) → PartsCleared r a p w a' p' w'
-cleared_is n a p w e ea ep ew = record { answer = rw e ea; program = ep; state = ew }
-
 -- what stands in the parts is what the call leaves
-left_of_lem : (x : Answer Analysis) (r : Outcome) (a p w : List ℕ) (l : Lent) → found r a ≡ imaged x → length a ≡ answer_length
+left_of_lem : (x : Answer Analysis) (r : Result (Unit {0}) Refusal) (a p w : List ℕ) (l : Lent) → found r a ≡ imaged x → length a ≡ answer_length
     → ended x l ≡ left (number_of r) (lent (kept_of r a ++ drop answer_length l.answer) (zeros program_length ++ drop program_length l.program) (zeros state_length ++ drop state_length l.state))
-left_of_lem (answered y) Answered a p w l e h = rw (Answers.answer e)
-left_of_lem (answered y) (Refused n) a p w l e h = let z : ◌≡◌ {A = ℕ} 0 1 = cc in absurd (omega arith)
-left_of_lem (refused m) Answered a p w l e h = let z : ◌≡◌ {A = ℕ} 0 1 = cc in absurd (omega arith)
-left_of_lem (refused m) (Refused n) a p w l e h = let z : n ≡ m = cc in rw (z, h)
+left_of_lem (answered y) (Ok u) a p w l e h = rw (Answers.answer e)
+left_of_lem (answered y) (Err n) a p w l e h = let z : ◌≡◌ {A = ℕ} 0 1 = cc in absurd (omega arith)
+left_of_lem (refused m) (Ok u) a p w l e h = let z : ◌≡◌ {A = ℕ} 0 1 = cc in absurd (omega arith)
+left_of_lem (refused m) (Err n) a p w l e h = let z : number n ≡ m = cc in rw (z, h)
 
-pub ran_is : (s a₁ p₁ w₁ : List ℕ) {a p w : List ℕ} {r : Outcome} → PartsAnalyzed s r a₁ p₁ w₁ → PartsCleared r a₁ p₁ w₁ a p w → PartsRan s r a p w
+pub ran_is : (s a₁ p₁ w₁ : List ℕ) {a p w : List ℕ} {r : Result (Unit {0}) Refusal} → PartsAnalyzed s r a₁ p₁ w₁ → PartsCleared r a₁ p₁ w₁ a p w → PartsRan s r a p w
 ran_is s a₁ p₁ w₁ {a} {p} {w} {r} d t =
     record { is = λ l. left_of_lem (analyze limits s) r a₁ p₁ w₁ l d.is d.sized.answer ∙ rw (t.answer, t.program, t.state, d.sized.program, d.sized.state) }
 
@@ -241,7 +194,8 @@ module _ (s a p w : List ℕ) where
   unfolding after
   short-state h i j k = rw (le-leb (length s) script_most h, le-leb answer_length (length a) i, le-leb program_length (length p) j, lt-leb state_length (length w) k)
 
-  pub ran_through : {r : Outcome} {a' p' w' : List ℕ} → length s ≤ script_most → answer_length ≤ length a → program_length ≤ length p → state_length ≤ length w → PartsRan s r a' p' w'
+  pub ran_through : {r : Result (Unit {0}) Refusal} {a' p' w' : List ℕ} → length s ≤ script_most → answer_length ≤ length a
+      → program_length ≤ length p → state_length ≤ length w → PartsRan s r a' p' w'
       → after s (lent a p w) ≡ left (number_of r) (lent (a' ++ drop answer_length a) (p' ++ drop program_length p) (w' ++ drop state_length w))
   unfolding after
   ran_through h i j k x =

@@ -6,6 +6,7 @@ use mathlib.Core.List.{List}
 use Prim.Native.Nat.{ℕ}
 use native.Mathlib.Omega.{arith}
 use lib.ListN.{take}
+use Rattle.std.specs.Prelude.{Some}
 use Rattle.rules.specs.Actions.{Answer, answered, refused}
 use Rattle.rules.specs.Lists.{concat}
 use Rattle.rules.specs.Program.{limits}
@@ -13,16 +14,16 @@ use Rattle.rules.specs.Frames.{Analysis, analyze, refusal_frame, live}
 use Rattle.answer.specs.Layout.{answer_length}
 use Rattle.frames.specs.declared.NextFrame.TheVariants.{Totals}
 use Rattle.frames.specs.Text.{Run}
-use Rattle.frames.proofs.Frames.{live_written, live-refused}
+use Rattle.frames.proofs.Written.{live_written, live-refused}
 use Rattle.call.specs.Call.{Lent, long_enough, after}
 use Rattle.call.proofs.Facts.{number_in, number_is, answered_exactly}
 
 module _ (script : List ℕ) (l : Lent) where
-  -- the pieces that `frames::write_from` writes from the answer part, joined
-  pub answer-frames : (after script l).number ≡ none → {ts : List (List ℕ)} → Run (take answer_length (after script l).lent.answer) Totals ts → concat ts ≡ live script
+  -- the pieces that `frames::Frames::fill` writes from the answer part, joined
+  pub answer-frames : (after script l).number ≡ none → {ts : List (List ℕ)} → Run (take answer_length (after script l).lent.answer) (Some Totals) ts → concat ts ≡ live script
   answer-frames e {ts} w =
       let x = answered_exactly script l e in
-      live_written script x.0 x.1.is (subst (λ (a : List ℕ). Run a Totals ts) x.1.held w)
+      live_written script x.0 x.1.is (subst (λ (a : List ℕ). Run a (Some Totals) ts) x.1.held w)
 
   -- the frame of a refusal, for parts that are long enough
   pub refusal_frame_lem : (n : ℕ) → long_enough l ≡ true → (after script l).number ≡ some n → refusal_frame n ≡ live script

@@ -1,5 +1,5 @@
 -- The call: what it gives and what it leaves in the lent memory (01, "The call"; "Questions on the way", 1 and 2 and the last paragraph). Assumes nothing.
-use Rattle.std.specs.Prelude.{Bool as 𝔹, ◌&&◌, List, ◌++◌, ℕ, leb, length, drop}
+use Rattle.std.specs.Prelude.{Bool as 𝔹, ◌&&◌, List, ◌++◌, ℕ, leb, length, drop, Result, Ok, Err}
 use Rattle.std.proofs.Math.Option.{Option, none, some}
 use Rattle.rules.specs.Actions.{Answer, answered, refused, choose}
 use Rattle.rules.specs.Program.{limits}
@@ -10,13 +10,13 @@ use Rattle.answer.specs.Record.{answer_record}
 use Rattle.answer.specs.Image.{image_of}
 use Rattle.state.specs.Layout.{state_length}
 use Rattle.chains.specs.Layout.{program_length}
-use Rattle.call.specs.declared.Outcome.{Outcome}
-use Rattle.call.specs.declared.Outcome.TheVariants.{Answered, Refused}
+use Rattle.refusals.specs.declared.Refusal.{Refusal}
+use Rattle.refusals.specs.Refusals as Q
 
 -- 01's number of what the call gives; "answered" has none
-abbrev pub number_of : Outcome → Option ℕ
-number_of Answered = none
-number_of (Refused n) = some n
+abbrev pub number_of : Result (Unit {0}) Refusal → Option ℕ
+number_of (Ok x) = none
+number_of (Err e) = some (Q.number_of e)
 
 -- the lent memory
 pub record Lent : Type 0 where

@@ -2,80 +2,64 @@
 use mathlib.Core.Bool.{Bool as 𝔹, true, false}
 use mathlib.Core.Path.{◌≡◌, refl, sym, ap, ◌∙◌}
 use mathlib.Core.List.{List, ◌∷◌}
-use Prim.Native.Nat.{ℕ, suc, ◌+◌, ◌-◌, ◌*◌, ◌%◌, ◌≤◌, ◌<◌}
+use Prim.Native.Nat.{ℕ, suc, ◌+◌, ◌-◌, ◌*◌, ◌≤◌, ◌<◌}
 use native.Mathlib.Decide.{ℕ_discrete}
 use native.Mathlib.Omega.{arith}
 use borrow.Author.Tests.{eq-eqb, ne_eqb}
-use lib.Dec.{eqb}
 use lib.ListN.{length, get_or, set, length-set}
 use lib.Seq.{get_or-set_same, get_or-set_other}
+use Rattle.std.specs.Prelude.{Option, Some, None, cond, []}
+use Rattle.std.specs.Bool.{then_some}
 use Rattle.rules.specs.Lists.{cons_if}
+use Rattle.chains.specs.declared.Sort.{Sort}
+use Rattle.chains.specs.declared.Sort.TheVariants.{Code, Params, Returns}
 use Rattle.program.specs.Rows.{insn_at, block_at}
-use Rattle.program.specs.View.{ProgramReady}
+use Rattle.program.specs.View.{program_view, blocks_of, ReadsBlock}
+use Rattle.program.proofs.Tables.{tab-at}
+use Rattle.rules.specs.Program as P
 use Rattle.program.specs.declared.Counts.{Counts}
 use Rattle.program.specs.declared.Row.{Row}
 use Rattle.memory.specs.Layout.{instructions_most, blocks_room}
-use Rattle.program.specs.Layout.{blocks_at}
 use Rattle.chains.specs.Layout.{sort_words, chains_size}
-use Rattle.chains.specs.Chains.{is_param, is_return, key_of, pick, ChainsChained, at, self, ChainsOnly, ChainsFilled, ChainsHeld, Chains}
+use Rattle.chains.specs.Chains.{is_param, is_return, key_of, is_key, belongs, place_of, pick, ChainsChained, at, self, ChainsOnly, ChainsFilled, ChainsHeld, Chains}
 use Rattle.chains.proofs.Lists.{pick_down, pick_end, chained_below, chained_end, chained_more, chained_same}
-
--- ---- words filled
-
-pub record Filling (a n v : ℕ) (w₀ w : List ℕ) (i : ℕ) : Type 0 where
-  pub high : i ≤ n
-  pub only : ChainsOnly a n w₀ w
-  pub here : (k : ℕ) → k < i → get_or w (a + k) 0 ≡ v
-
-pub fill_start : (a n v : ℕ) (w : List ℕ) → Filling a n v w w 0
-fill_start a n v w = record { high = omega arith; only = record { len_same = refl; others = λ k h. refl }; here = λ k h. absurd (omega arith) }
-
-module _ {a n v : ℕ} {w₀ w : List ℕ} {i : ℕ} (z : Filling a n v w₀ w i) where
-  pub fill_more : a + n ≤ length w₀ → i < n → Filling a n v w₀ (set w (a + i) v) (i + 1)
-  fill_more r h =
-      record {
-        high = omega arith;
-        only = record {
-          len_same = length-set w (a + i) v ∙ z.only.len_same;
-          others = λ k g. get_or-set_other w (a + i) k v 0 (λ q. g (omega arith) (omega arith)) ∙ z.only.others k g;
-        };
-        here = λ k g.
-            elim (ℕ_discrete k i) [
-              | yes q ↦ rw q (get_or-set_same w (a + i) v 0 (omega (arith, z.only.len_same)))
-              | no q ↦ get_or-set_other w (a + i) (a + k) v 0 (λ x. q (omega arith)) ∙ z.here k (omega arith)
-            ];
-      }
-
-  pub fill_done : n ≤ i → ChainsFilled a n v w₀ w
-  fill_done h = record { only = z.only; here = λ k g. z.here k (omega arith) }
 
 -- ---- keys
 
-module _ (m : List ℕ) (sort i : ℕ) {r : Row} (e : r ≡ insn_at m i) where
-  pub key_code : sort ≡ 0 → r.block.0 ≡ key_of m sort i
+pub block-is : (s m : List ℕ) (c : Counts) (b : ℕ) → b < c.blocks → P.function_at (program_view s m c) b ≡ block_at m b
+unfolding blocks_of
+block-is s m c b h = tab-at (block_at m) c.blocks b 0 h
+
+module _ (m : List ℕ) (i : ℕ) {r : Row} (e : r ≡ insn_at m i) {sort : Sort} where
+  pub key_code : sort ≡ Code → Some r.block.0 ≡ key_of m (place_of sort) i
   unfolding key_of
-  key_code h = rw (eq-eqb sort 0 h) (ap (λ (x : Row). x.block.0) e)
+  key_code h = rw h (ap (λ (x : Row). Some x.block.0) e)
 
-  pub key_param : {t : 𝔹} → t ≡ is_param r.op → t ≡ true → (sort ≡ 0 → ⊥) → sort ≡ 1 → r.block.0 ≡ key_of m sort i
+  pub key_params : sort ≡ Params → {t : 𝔹} → t ≡ is_param r.op → then_some t r.block.0 ≡ key_of m (place_of sort) i
   unfolding key_of
-  key_param q y g h = rw (ne_eqb sort 0 g, eq-eqb sort 1 h, sym (ap (λ (x : Row). is_param x.op) e), sym q, y) (ap (λ (x : Row). x.block.0) e)
+  key_params h {t} q = rw (h, sym (ap (λ (x : Row). is_param x.op) e), sym q, sym (ap (λ (x : Row). x.block.0) e)) (some_if t)
+    where
+      some_if : (t : 𝔹) → then_some t r.block.0 ≡ cond t (Some r.block.0) None
+      some_if true = refl
+      some_if false = refl
 
-  pub key_no_param : {t : 𝔹} → t ≡ is_param r.op → t ≡ false → (sort ≡ 0 → ⊥) → sort ≡ 1 → blocks_room ≡ key_of m sort i
+  pub key_return : {c : Counts} {f : ℕ} → sort ≡ Returns → ReadsBlock m c r.block.0 f → r.block.0 < c.blocks → {t : 𝔹} → t ≡ is_return r.op → t ≡ true
+      → Some f ≡ key_of m (place_of sort) i
   unfolding key_of
-  key_no_param q y g h = rw (ne_eqb sort 0 g, eq-eqb sort 1 h, sym (ap (λ (x : Row). is_param x.op) e), sym q, y)
+  key_return {c} h d g q y =
+      rw (h, sym (ap (λ (x : Row). is_return x.op) e), sym q, y)
+      (ap Some (sym (d.is []) ∙ block-is [] m c r.block.0 g) ∙ ap (λ (x : Row). Some (block_at m x.block.0)) e)
 
-  pub key_return : {t : 𝔹} → t ≡ is_return r.op → t ≡ true → (sort ≡ 0 → ⊥) → (sort ≡ 1 → ⊥) → get_or m (blocks_at + 2 * r.block.0) 0 % 4294967296 ≡ key_of m sort i
-  unfolding key_of block_at
-  key_return q y g h = rw (ne_eqb sort 0 g, ne_eqb sort 1 h, sym (ap (λ (x : Row). is_return x.op) e), sym q, y) (ap (λ (x : Row). get_or m (blocks_at + 2 * x.block.0) 0 % 4294967296) e)
-
-  pub key_no_return : {t : 𝔹} → t ≡ is_return r.op → t ≡ false → (sort ≡ 0 → ⊥) → (sort ≡ 1 → ⊥) → blocks_room ≡ key_of m sort i
+  pub key_no_return : sort ≡ Returns → {t : 𝔹} → t ≡ is_return r.op → t ≡ false → None ≡ key_of m (place_of sort) i
   unfolding key_of
-  key_no_return q y g h = rw (ne_eqb sort 0 g, ne_eqb sort 1 h, sym (ap (λ (x : Row). is_return x.op) e), sym q, y)
-
-  pub key_inside : {c : Counts} → ProgramReady m c → i < c.insns → blocks_at + 2 * r.block.0 < length m
-  key_inside ok h = let q : r.block.0 ≡ (insn_at m i).block.0 = ap (λ (x : Row). x.block.0) e in omega (arith, ok.inside i h, ok.blocks, ok.len_mem)
+  key_no_return h q y = rw (h, sym (ap (λ (x : Row). is_return x.op) e), sym q, y) refl
 
 -- ---- chains
+
+pub place_low : (s : Sort) → place_of s < 3
+place_low Code = omega arith
+place_low Params = omega arith
+place_low Returns = omega arith
 
 pub record Chaining (m : List ℕ) (n sort : ℕ) (w₀ w : List ℕ) (i : ℕ) : Type 0 where
   pub high : i ≤ n
@@ -87,7 +71,7 @@ chain_start m n sort v w f =
     record {
       high = omega arith;
       only = record { len_same = refl; others = λ k g. refl };
-      held = λ b h. rw (f.here b h, pick_end (λ j. eqb (key_of m sort j) b) n) (chained_end self (at w (sort_words * sort + blocks_room)) n n);
+      held = λ b h. rw (f.here b h, pick_end (belongs m sort b) n) (chained_end self (at w (sort_words * sort + blocks_room)) n n);
     }
 
 module _ {m : List ℕ} {n sort : ℕ} {w₀ w : List ℕ} {i : ℕ} (z : Chaining m n sort w₀ w i) where
@@ -103,18 +87,26 @@ module _ {m : List ℕ} {n sort : ℕ} {w₀ w : List ℕ} {i : ℕ} (z : Chaini
         held = λ b l. rw f at ((rw e at z.held) b l);
       }
 
-  module _ (h : 0 < i) (k : ℕ) (key : k ≡ key_of m sort (i - 1)) where
-    picked : (b : ℕ) → pick (λ j. eqb (key_of m sort j) b) (i - 1) (n - (i - 1)) ≡ cons_if (eqb k b) (i - 1) (pick (λ j. eqb (key_of m sort j) b) i (n - i))
-    picked b = rw key (pick_down (λ j. eqb (key_of m sort j) b) i n h z.high)
+  module _ (h : 0 < i) where
+    picked : (o : Option ℕ) → o ≡ key_of m sort (i - 1) → (b : ℕ)
+        → pick (belongs m sort b) (i - 1) (n - (i - 1)) ≡ cons_if (is_key o b) (i - 1) (pick (belongs m sort b) i (n - i))
+    picked o key b = rw key (pick_down (belongs m sort b) i n h z.high)
 
-    pub chain_skip : blocks_room ≤ k → Chaining m n sort w₀ w (i - 1)
-    chain_skip g =
+    skip : (o : Option ℕ) → o ≡ key_of m sort (i - 1) → ((b : ℕ) → b < blocks_room → is_key o b ≡ false) → Chaining m n sort w₀ w (i - 1)
+    skip o key other =
         record {
           high = omega (arith, z.high);
           only = z.only;
-          held = λ b l. rw (picked b, ne_eqb k b (λ q. omega arith)) (chained_below self (at w (sort_words * sort + blocks_room)) n i (i - 1) _ _ (omega arith) (z.held b l));
+          held = λ b l. rw (picked o key b, other b l) (chained_below self (at w (sort_words * sort + blocks_room)) n i (i - 1) _ _ (omega arith) (z.held b l));
         }
 
+    pub chain_none : None ≡ key_of m sort (i - 1) → Chaining m n sort w₀ w (i - 1)
+    chain_none key = skip None key (λ b l. refl)
+
+    pub chain_skip : (k : ℕ) → Some k ≡ key_of m sort (i - 1) → blocks_room ≤ k → Chaining m n sort w₀ w (i - 1)
+    chain_skip k key g = skip (Some k) key (λ b l. ne_eqb k b (λ q. omega arith))
+
+  module _ (h : 0 < i) (k : ℕ) (key : Some k ≡ key_of m sort (i - 1)) where
     module _ (room : chains_size ≤ length w₀) (few : n ≤ instructions_most) (good : sort < 3) (g : k < blocks_room) where
       abbrev w1 : List ℕ
       w1 = set w (sort_words * sort + blocks_room + (i - 1)) (get_or w (sort_words * sort + k) 0)
@@ -138,7 +130,7 @@ module _ {m : List ℕ} {n sort : ℕ} {w₀ w : List ℕ} {i : ℕ} (z : Chaini
       inside : length w1 ≡ length w₀
       inside = length-set w (sort_words * sort + blocks_room + (i - 1)) (get_or w (sort_words * sort + k) 0) ∙ z.only.len_same
 
-      own : ChainsChained self (at w2 (sort_words * sort + blocks_room)) n (i - 1) (get_or w2 (sort_words * sort + k) 0) ((i - 1) ∷ pick (λ j. eqb (key_of m sort j) k) i (n - i))
+      own : ChainsChained self (at w2 (sort_words * sort + blocks_room)) n (i - 1) (get_or w2 (sort_words * sort + k) 0) ((i - 1) ∷ pick (belongs m sort k) i (n - i))
       own =
           let p : suc (i - 1) ≡ i = omega arith in
           rw (get_or-set_same w1 (sort_words * sort + k) (i - 1) 0 (omega (arith, inside)))
@@ -147,7 +139,7 @@ module _ {m : List ℕ} {n sort : ℕ} {w₀ w : List ℕ} {i : ℕ} (z : Chaini
           (stays _ _ (z.held k g))))
 
       other : (b : ℕ) → b < blocks_room → (k ≡ b → ⊥) → ChainsChained self (at w2 (sort_words * sort + blocks_room)) n (i - 1)
-          (get_or w2 (sort_words * sort + b) 0) (pick (λ j. eqb (key_of m sort j) b) i (n - i))
+          (get_or w2 (sort_words * sort + b) 0) (pick (belongs m sort b) i (n - i))
       other b l ne =
           rw (
             get_or-set_other w1 (sort_words * sort + k) (sort_words * sort + b) (i - 1) 0 (λ q. ne (omega arith)),
@@ -167,7 +159,7 @@ module _ {m : List ℕ} {n sort : ℕ} {w₀ w : List ℕ} {i : ℕ} (z : Chaini
             };
             held = λ b l.
                 elim (ℕ_discrete k b) [
-                  | yes q ↦ rw (picked b, eq-eqb k b q, ← q) own
-                  | no q ↦ rw (picked b, ne_eqb k b q) (other b l q)
+                  | yes q ↦ rw (picked h (Some k) key b, eq-eqb k b q, ← q) own
+                  | no q ↦ rw (picked h (Some k) key b, ne_eqb k b q) (other b l q)
                 ];
           }

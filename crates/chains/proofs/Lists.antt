@@ -1,13 +1,14 @@
 -- Laws on picked numbers and chains. Assumes nothing.
 use mathlib.Core.Bool.{Bool as 𝔹, true, false, ◌&&◌}
-use mathlib.Core.Path.{◌≡◌, refl, sym, ap, ap₂, ◌∙◌}
+use mathlib.Core.Path.{◌≡◌, refl, sym, ap, ap₂, ◌∙◌, subst}
 use mathlib.Core.List.{List, [], ◌∷◌}
 use Prim.Native.Nat.{ℕ, zero, suc, ◌+◌, ◌-◌, ◌≤◌, ◌<◌}
 use native.Mathlib.Omega.{arith}
+use borrow.Author.Tests.{lt-ltb, le-ltb}
 use Rattle.rules.specs.Lists.{cons_if, keep, places_from, places}
 use Rattle.program.specs.Tab.{tab}
 use Rattle.program.proofs.Tables.{tab_ext, tab-add}
-use Rattle.chains.specs.Chains.{pick, ChainsChained}
+use Rattle.chains.specs.Chains.{pick, ChainsChained, cells_from, self}
 
 -- ---- picked numbers
 
@@ -120,3 +121,37 @@ chained_same item link item' link' n a k h (x ∷ l) g e d =
       d.2 ∙ sym s.0,
       rw s.1 (chained_same item link item' link' n a (suc h) (link h) l (omega (arith, d.0)) e d.3),
     )
+
+-- from its first cell on
+pub chained_here : (item link : ℕ → ℕ) (n k h : ℕ) (l : List ℕ) → ChainsChained item link n k h l → ChainsChained item link n h h l
+unfolding ChainsChained
+chained_here item link n k h [] d = d
+chained_here item link n k h (x ∷ l) d = (omega arith, d.1, d.2, d.3)
+
+-- a chain of numbers is what its links lead to
+pub cells_is : (link : ℕ → ℕ) (n f k h : ℕ) (l : List ℕ) → ChainsChained self link n k h l → n - k ≤ f → cells_from link n f h ≡ l
+unfolding ChainsChained cells_from
+cells_is link n zero k h [] d g = refl
+cells_is link n (suc f) k h [] d g = rw (le-ltb h n (omega arith)) refl
+cells_is link n zero k h (x ∷ l) d g = absurd (omega (arith, d.0, d.1))
+cells_is link n (suc f) k h (x ∷ l) d g =
+    rw (lt-ltb h n d.1) (ap₂ {C = List ℕ} (λ y z. y ∷ z) (sym d.2) (cells_is link n f (suc h) (link h) l d.3 (omega (arith, d.0, d.1))))
+
+-- what is left at a cell: it, and what is left from its link on
+pub cells_none : (link : ℕ → ℕ) (n f h : ℕ) → n ≤ h → cells_from link n f h ≡ []
+unfolding cells_from
+cells_none link n zero h g = refl
+cells_none link n (suc f) h g = rw (le-ltb h n g) refl
+
+module _ (link : ℕ → ℕ) (n h : ℕ) (g : h < n) (d : ChainsChained self link n h h (cells_from link n (n - h) h)) where
+  onward : ChainsChained self link n (link h) (link h) (chained_some self link n h h _ d g).rest
+  onward = chained_here self link n (suc h) (link h) _ (chained_some self link n h h _ d g).onward
+
+  rest_is : cells_from link n (n - link h) (link h) ≡ (chained_some self link n h h _ d g).rest
+  rest_is = cells_is link n (n - link h) (link h) (link h) _ onward (omega arith)
+
+  pub cells_more : cells_from link n (n - h) h ≡ h ∷ cells_from link n (n - link h) (link h)
+  cells_more = (chained_some self link n h h _ d g).is ∙ ap (λ l. h ∷ l) (sym rest_is)
+
+  pub cells_held : ChainsChained self link n (link h) (link h) (cells_from link n (n - link h) (link h))
+  cells_held = subst (λ l. ChainsChained self link n (link h) (link h) l) (sym rest_is) onward

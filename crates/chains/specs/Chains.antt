@@ -1,5 +1,5 @@
 -- Lists held as chains in a memory, and the chains of code, Params and Returns. Assumes nothing.
-use Rattle.std.specs.Prelude.{Bool as 𝔹, true, false, cond, ◌&&◌, ◌≡◌, List, [], ◌∷◌, ℕ, zero, suc, ◌+◌, ◌-◌, ◌*◌, ◌≤◌, ◌<◌, eqb, length, get_or, drop}
+use Rattle.std.specs.Prelude.{Bool as 𝔹, true, false, cond, ◌&&◌, ◌≡◌, Option, Some, None, List, [], ◌∷◌, ℕ, zero, suc, ◌+◌, ◌-◌, ◌*◌, ◌≤◌, ◌<◌, eqb, ltb, length, get_or, drop}
 use Rattle.rules.specs.Lists.{cons_if, places, has}
 use Rattle.rules.specs.Program as P
 use Rattle.rules.specs.Program.{code, parameters, returns, entry}
@@ -9,6 +9,8 @@ use Rattle.program.specs.declared.Op.{Op}
 use Rattle.program.specs.declared.Op.TheVariants.{Jump, IfTrue, Return, SendStatic, SendDynamic, Compute, Phi, Param, SelfParam, New, GetIvar, SetIvar}
 use Rattle.program.specs.declared.Counts.{Counts}
 use Rattle.memory.specs.Layout.{blocks_room}
+use Rattle.chains.specs.declared.Sort.{Sort}
+use Rattle.chains.specs.declared.Sort.TheVariants.{Code, Params, Returns}
 use Rattle.chains.specs.Layout.{sort_words, chains_size}
 
 abbrev pub is_param : Op → 𝔹
@@ -39,12 +41,26 @@ is_return (New c) = false
 is_return (GetIvar m) = false
 is_return (SetIvar m) = false
 
--- the chain of a sort that instruction i belongs to; blocks_room stands for none
-unfoldable pub key_of : List ℕ → ℕ → ℕ → ℕ
+-- a sort's place among the three
+abbrev pub place_of : Sort → ℕ
+place_of Code = 0
+place_of Params = 1
+place_of Returns = 2
+
+-- the chain of a sort that instruction i belongs to
+unfoldable pub key_of : List ℕ → ℕ → ℕ → Option ℕ
 key_of m sort i =
-    cond (eqb sort 0) (insn_at m i).block.0
-    (cond (eqb sort 1) (cond (is_param (insn_at m i).op) (insn_at m i).block.0 blocks_room)
-    (cond (is_return (insn_at m i).op) (block_at m (insn_at m i).block.0) blocks_room))
+    cond (eqb sort 0) (Some (insn_at m i).block.0)
+    (cond (eqb sort 1) (cond (is_param (insn_at m i).op) (Some (insn_at m i).block.0) None)
+    (cond (is_return (insn_at m i).op) (Some (block_at m (insn_at m i).block.0)) None))
+
+abbrev pub is_key : Option ℕ → ℕ → 𝔹
+is_key None b = false
+is_key (Some k) b = eqb k b
+
+-- whether instruction i belongs to the chain of number b
+abbrev pub belongs : List ℕ → ℕ → ℕ → ℕ → 𝔹
+belongs m sort b i = is_key (key_of m sort i) b
 
 -- the numbers from k on, f of them, that pass
 unfoldable pub pick : (ℕ → 𝔹) → ℕ → ℕ → List ℕ
@@ -56,6 +72,21 @@ unfoldable pub ChainsChained : (item link : ℕ → ℕ) → ℕ → ℕ → ℕ
 ChainsChained item link n k h [] = h ≡ n
 ChainsChained item link n k h (x ∷ l) = (k ≤ h) × (h < n) × (x ≡ item h) × ChainsChained item link n (suc h) (link h) l
 
+-- the numbers that links lead to from h on, at most f of them; one that is not below n ends them
+unfoldable pub cells_from : (ℕ → ℕ) → ℕ → ℕ → ℕ → List ℕ
+cells_from link n zero h = []
+cells_from link n (suc f) h = cond (ltb h n) (h ∷ cells_from link n f (link h)) []
+
+abbrev pub self : ℕ → ℕ
+self i = i
+
+abbrev pub link_in : List ℕ → ℕ → ℕ
+link_in w i = get_or w i 0
+
+-- h is a chain's cell, or its end
+abbrev pub Chained : List ℕ → ℕ → ℕ → Type 0
+Chained w n h = ChainsChained self (link_in w) n h h (cells_from (link_in w) n (n - h) h)
+
 -- the words of a memory from a place on
 abbrev pub at : List ℕ → ℕ → ℕ → ℕ
 at w a i = get_or w (a + i) 0
@@ -63,9 +94,6 @@ at w a i = get_or w (a + i) 0
 -- the word at a place fits an InsnId
 abbrev pub FitsId : List ℕ → ℕ → Type 0
 FitsId w a = get_or w a 0 < 4294967296
-
-abbrev pub self : ℕ → ℕ
-self i = i
 
 -- only the n words from a on may have changed
 pub record ChainsOnly (a n : ℕ) (w w' : List ℕ) : Type 0 where
@@ -84,14 +112,18 @@ pub record Copied (base a n : ℕ) (w t t' : List ℕ) : Type 0 where
 -- the chains of a sort, of the instructions from i on
 abbrev pub ChainsHeld : List ℕ → ℕ → ℕ → ℕ → List ℕ → Type 0
 ChainsHeld m n sort i w =
-    (b : ℕ) → b < blocks_room → ChainsChained self (at w (sort_words * sort + blocks_room)) n i (get_or w (sort_words * sort + b) 0) (pick (λ j. eqb (key_of m sort j) b) i (n - i))
+    (b : ℕ) → b < blocks_room → ChainsChained self (at w (sort_words * sort + blocks_room)) n i (get_or w (sort_words * sort + b) 0) (pick (belongs m sort b) i (n - i))
 
 -- a sort's chain of a number
 abbrev pub ChainIs : List ℕ → ℕ → ℕ → ℕ → List ℕ → Type 0
 ChainIs w n sort b l = ChainsChained self (at w (sort_words * sort + blocks_room)) n 0 (get_or w (sort_words * sort + b) 0) l
 
+-- there is such a chain
+abbrev pub ChainStands : List ℕ → ℕ → ℕ → ℕ → Type 0
+ChainStands w n sort b = (l : List ℕ) × ChainIs w n sort b l
+
 abbrev pub All : List ℕ → ℕ → ℕ → List ℕ → Type 0
-All m n sort w = (b : ℕ) → b < blocks_room → ChainIs w n sort b (pick (λ j. eqb (key_of m sort j) b) 0 n)
+All m n sort w = (b : ℕ) → b < blocks_room → ChainIs w n sort b (pick (belongs m sort b) 0 n)
 
 pub record Chains (m : List ℕ) (n sort : ℕ) (w w' : List ℕ) : Type 0 where
   pub only : ChainsOnly (sort_words * sort) sort_words w w'

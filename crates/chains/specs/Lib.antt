@@ -1,2 +1,4 @@
 pub mod Layout
 pub mod Chains
+pub mod Once
+pub mod Left

@@ -1,14 +1,18 @@
 // For each block its instructions and its Params, and for each function its Returns: chains through the instructions, in lent memory.
 #![tactic(auto)]
 
-ghost use Rattle.std.specs.Prelude.{◌≡◌, ℕ, ◌+◌, ◌*◌, ◌≤◌, ◌<◌, length, get_or};
-ghost use Rattle.program.specs.View.{ProgramReady};
-ghost use Rattle.memory.specs.Layout.{instructions_most, blocks_room};
-ghost use Rattle.chains.specs.Layout.{code_links_at, params_at, param_links_at, returns_at, return_links_at, chains_size};
-ghost use Rattle.chains.specs.Chains.{is_param, is_return, key_of, FitsId, ChainsFilled, Copied, Chains, Index, Carried};
+pub mod cells;
+pub mod view;
 
+ghost use Rattle.std.specs.Prelude.{◌≡◌, ℕ, ◌+◌, ◌*◌, ◌≤◌, ◌<◌, length, get_or};
+ghost use Rattle.memory.specs.Layout.{instructions_most, blocks_room};
+ghost use Rattle.chains.specs.Layout.{sort_words, code_links_at, params_at, param_links_at, returns_at, return_links_at, chains_size};
+ghost use Rattle.chains.specs.Chains.{is_param, is_return, key_of, place_of, FitsId, ChainsFilled, Copied, Chains, Index, Carried};
+
+pub use cells::Chain;
 use ids::{BlockId, FunId, InsnId};
-use program::{Counts, Op};
+use program::{Counts, Op, Program};
+pub use view::Indexed;
 
 // A sort's heads, the words of a sort, and of all three: the code, the Params and the Returns.
 const HEADS: usize = memory::BLOCKS_ROOM;
@@ -20,67 +24,51 @@ pub const SIZE: usize = 3 * SORT;
 // The published length of the program part: its tables, and the chains behind them.
 pub const PROGRAM_LEN: usize = program::SIZE + SIZE;
 
+// The sorts of chains, in the order in which they stand.
+#[derive(Clone, Copy)]
+pub enum Sort {
+    Code,
+    Params,
+    Returns,
+}
+
+impl Sort {
+    fn place(self) -> usize
+        ensures { result ≡ place_of self }
+    {
+        self as usize
+    }
+}
+
 fn is_param(op: Op) -> bool
     ensures { result ≡ is_param op }
 {
-    match op {
-        Op::Jump(_) => false,
-        Op::IfTrue(_, _) => false,
-        Op::Return => false,
-        Op::SendStatic(_) => false,
-        Op::SendDynamic(_) => false,
-        Op::Compute(_) => false,
-        Op::Phi(_, _) => false,
-        Op::Param(_) => true,
-        Op::SelfParam(_) => false,
-        Op::New(_) => false,
-        Op::GetIvar(_) => false,
-        Op::SetIvar(_) => false,
-    }
+    matches!(op, Op::Param(_))
 }
 
 fn is_return(op: Op) -> bool
     ensures { result ≡ is_return op }
 {
-    match op {
-        Op::Jump(_) => false,
-        Op::IfTrue(_, _) => false,
-        Op::Return => true,
-        Op::SendStatic(_) => false,
-        Op::SendDynamic(_) => false,
-        Op::Compute(_) => false,
-        Op::Phi(_, _) => false,
-        Op::Param(_) => false,
-        Op::SelfParam(_) => false,
-        Op::New(_) => false,
-        Op::GetIvar(_) => false,
-        Op::SetIvar(_) => false,
-    }
+    matches!(op, Op::Return)
 }
 
-// The chain of a sort that an instruction belongs to: its block, its block if it is a Param, its function if it is a Return; else 1024.
-fn key_of(program: &[usize], counts: Counts, sort: usize, i: InsnId) -> usize
-    requires program_ready { ProgramReady program.now counts }
-    requires i_lt_insns { i.0 < counts.insns }
-    ensures { result ≡ key_of program.now sort i.0 }
+// The chain of a sort that an instruction belongs to: its block, its block if it is a Param, its function if it is a Return.
+fn key_of(program: &Program, sort: Sort, i: InsnId) -> Option<usize>
+    requires { i.0 < program.now.counts.insns }
+    ensures { result ≡ key_of program.now.words.now (place_of sort) i.0 }
 {
-    let row = program::read_insn(program, counts, i);
-    let b = row.block;
-    let at = b.0 as usize;
-    let op = row.op;
-    if sort == 0 {
-        return at;
-    }
-    if sort == 1 {
-        if is_param(op) {
-            return at;
+    let row = program.insn(i);
+    match sort {
+        Sort::Code => Some(row.block.0 as usize),
+        Sort::Params => is_param(row.op).then_some(row.block.0 as usize),
+        Sort::Returns => {
+            if is_return(row.op) {
+                Some(program.function_of(row.block).0 as usize)
+            } else {
+                None
+            }
         }
-        return HEADS;
     }
-    if is_return(op) {
-        return program[program::BLOCKS + 2 * at] % 4294967296;
-    }
-    HEADS
 }
 
 // n words from a place on.
@@ -88,42 +76,34 @@ pub fn fill(scratch: &mut [usize], at: usize, n: usize, v: usize)
     requires { at + n ≤ length scratch.old }
     ensures { ChainsFilled at n v scratch.old scratch.new }
 {
-    let mut i = 0;
-    while i < n {
-        scratch[at + i] = v;
-        i += 1;
-    }
+    scratch[at..at + n].fill(v);
 }
 
 // The chains of a sort, from the last instruction down: each instruction goes in front.
-fn chain(program: &[usize], counts: Counts, scratch: &mut [usize], sort: usize)
-    requires program_ready { ProgramReady program.now counts }
-    requires chains_size_in_bounds { (chains_size ≤ length scratch.old) × (sort < 3) }
-    ensures { Chains program.now counts.insns sort scratch.old scratch.new }
+fn chain(program: &Program, scratch: &mut [usize], sort: Sort)
+    requires { chains_size ≤ length scratch.old }
+    ensures { Chains program.now.words.now program.now.counts.insns (place_of sort) scratch.old scratch.new }
 {
-    let n = counts.insns;
-    let base = SORT * sort;
-    fill(scratch, base, HEADS, n);
-    let mut i = n;
-    while 0 < i {
-        i -= 1;
-        let k = key_of(program, counts, sort, InsnId(i as u32));
-        if k < HEADS {
-            let h = scratch[base + k];
-            scratch[base + HEADS + i] = h;
-            scratch[base + k] = i;
+    let n = program.counts.insns;
+    let heads = SORT * sort.place();
+    fill(scratch, heads, HEADS, n);
+    for i in (0..n).rev() {
+        if let Some(k) = key_of(program, sort, InsnId(i as u32)) {
+            if k < HEADS {
+                scratch[heads + HEADS + i] = scratch[heads + k];
+                scratch[heads + k] = i;
+            }
         }
     }
 }
 
-pub fn build_index(program: &[usize], counts: Counts, scratch: &mut [usize])
-    requires program_ready { ProgramReady program.now counts }
-    requires chains_size_in_bounds { chains_size ≤ length scratch.old }
-    ensures { Index program.now counts scratch.new }
+pub fn build_index(program: &Program, scratch: &mut [usize])
+    requires { chains_size ≤ length scratch.old }
+    ensures { Index program.now.words.now program.now.counts scratch.new }
 {
-    chain(program, counts, scratch, 0);
-    chain(program, counts, scratch, 1);
-    chain(program, counts, scratch, 2);
+    chain(program, scratch, Sort::Code);
+    chain(program, scratch, Sort::Params);
+    chain(program, scratch, Sort::Returns);
 }
 
 // n words from a place on go to another memory, to a part of it that starts at `base`.
@@ -131,11 +111,7 @@ fn copy(scratch: &[usize], t: &mut [usize], base: usize, at: usize, n: usize)
     requires { (at + n ≤ length scratch.now) × (base + (at + n) ≤ length t.old) }
     ensures { Copied base at n scratch.now t.old t.new }
 {
-    let mut i = 0;
-    while i < n {
-        t[base + (at + i)] = scratch[at + i];
-        i += 1;
-    }
+    t[base + at..base + at + n].copy_from_slice(&scratch[at..at + n]);
 }
 
 // What is in use of an index goes to another memory, from `base` on.
@@ -150,22 +126,30 @@ pub fn copy_index(scratch: &[usize], counts: Counts, t: &mut [usize], base: usiz
     copy(scratch, t, base, SORT + SORT, n);
 }
 
-// A word of the index as the number of an instruction.
-fn insn_at(scratch: &[usize], at: usize) -> InsnId
-    requires { (at < length scratch.now) × (FitsId scratch.now at) }
-    ensures { result.0 ≡ get_or scratch.now at 0 }
+// The first instruction of the chain of number k, and the one after an instruction. Where there is none it is the number of instructions: an InsnId that is
+// not below the count, and so stands for no instruction.
+fn first(chains: &[usize], sort: Sort, k: usize) -> InsnId
+    requires room { (chains_size ≤ length chains.now) × (k < blocks_room) }
+    requires fits_id { FitsId chains.now (sort_words * place_of sort + k) }
+    ensures { result.0 ≡ get_or chains.now (sort_words * place_of sort + k) 0 }
 {
-    InsnId(scratch[at] as u32)
+    InsnId(chains[SORT * sort.place() + k] as u32)
 }
 
-// The first of a block's instructions, and the one after an instruction. Where there is none it is the number of instructions: an InsnId that is not below the count, and so stands for no instruction.
+fn next(chains: &[usize], sort: Sort, i: InsnId) -> InsnId
+    requires room { (chains_size ≤ length chains.now) × (i.0 < instructions_most) }
+    requires fits_id { FitsId chains.now (sort_words * place_of sort + blocks_room + i.0) }
+    ensures { result.0 ≡ get_or chains.now (sort_words * place_of sort + blocks_room + i.0) 0 }
+{
+    InsnId(chains[SORT * sort.place() + HEADS + i.0 as usize] as u32)
+}
+
 pub fn first_insn(scratch: &[usize], b: BlockId) -> InsnId
     requires chains_size_in_bounds { (chains_size ≤ length scratch.now) × (b.0 < blocks_room) }
     requires fits_id { FitsId scratch.now b.0 }
     ensures { result.0 ≡ get_or scratch.now b.0 0 }
 {
-    let at = b.0 as usize;
-    insn_at(scratch, at)
+    first(scratch, Sort::Code, b.0 as usize)
 }
 
 pub fn next_insn(scratch: &[usize], i: InsnId) -> InsnId
@@ -173,8 +157,7 @@ pub fn next_insn(scratch: &[usize], i: InsnId) -> InsnId
     requires fits_id { FitsId scratch.now (code_links_at + i.0) }
     ensures { result.0 ≡ get_or scratch.now (code_links_at + i.0) 0 }
 {
-    let at = i.0 as usize;
-    insn_at(scratch, HEADS + at)
+    next(scratch, Sort::Code, i)
 }
 
 pub fn first_param(scratch: &[usize], b: BlockId) -> InsnId
@@ -182,8 +165,7 @@ pub fn first_param(scratch: &[usize], b: BlockId) -> InsnId
     requires fits_id { FitsId scratch.now (params_at + b.0) }
     ensures { result.0 ≡ get_or scratch.now (params_at + b.0) 0 }
 {
-    let at = b.0 as usize;
-    insn_at(scratch, SORT + at)
+    first(scratch, Sort::Params, b.0 as usize)
 }
 
 pub fn next_param(scratch: &[usize], i: InsnId) -> InsnId
@@ -191,8 +173,7 @@ pub fn next_param(scratch: &[usize], i: InsnId) -> InsnId
     requires fits_id { FitsId scratch.now (param_links_at + i.0) }
     ensures { result.0 ≡ get_or scratch.now (param_links_at + i.0) 0 }
 {
-    let at = i.0 as usize;
-    insn_at(scratch, SORT + HEADS + at)
+    next(scratch, Sort::Params, i)
 }
 
 pub fn first_return(scratch: &[usize], f: FunId) -> InsnId
@@ -200,8 +181,7 @@ pub fn first_return(scratch: &[usize], f: FunId) -> InsnId
     requires fits_id { FitsId scratch.now (returns_at + f.0) }
     ensures { result.0 ≡ get_or scratch.now (returns_at + f.0) 0 }
 {
-    let at = f.0 as usize;
-    insn_at(scratch, SORT + SORT + at)
+    first(scratch, Sort::Returns, f.0 as usize)
 }
 
 pub fn next_return(scratch: &[usize], i: InsnId) -> InsnId
@@ -209,6 +189,5 @@ pub fn next_return(scratch: &[usize], i: InsnId) -> InsnId
     requires fits_id { FitsId scratch.now (return_links_at + i.0) }
     ensures { result.0 ≡ get_or scratch.now (return_links_at + i.0) 0 }
 {
-    let at = i.0 as usize;
-    insn_at(scratch, SORT + SORT + HEADS + at)
+    next(scratch, Sort::Returns, i)
 }

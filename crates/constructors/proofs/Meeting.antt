@@ -1,5 +1,5 @@
 -- What is set before a block: the meet over the blocks done that lead to it. Assumes nothing.
-use mathlib.Core.Bool.{Bool as 𝔹, true, false, ◌&&◌, ◌||◌, or-false}
+use mathlib.Core.Bool.{Bool as 𝔹, true, false, ◌&&◌, ◌||◌}
 use mathlib.Core.Option.{Option, none, some}
 use mathlib.Core.Path.{◌≡◌, refl, sym, ap, ap₂, ◌∙◌}
 use mathlib.Core.List.{List, ◌∷◌}
@@ -11,16 +11,15 @@ use lib.Bits.{bit_and, bit_or, and_shr, and_step, and_mask}
 use lib.Pow.{pow_pos, pow-lt}
 use lib.Dec.{eqb}
 use lib.ListN.{get_or}
+use Rattle.std.specs.Prelude as R
 use Rattle.rules.specs.Lists.{any}
 use Rattle.rules.specs.Program.{Program, successors}
 use Rattle.rules.specs.Constructors.{end_of, set_before}
 use Rattle.program.specs.View.{program_view}
 use Rattle.program.specs.declared.Counts.{Counts}
-use Rattle.ids.specs.declared.BlockId.{BlockId}
 use Rattle.memory.proofs.tables.Bit.{or_bit}
 use Rattle.constructors.specs.Layout.{order_at, outs_at}
 use Rattle.constructors.specs.declared.Ends.{Ends}
-use Rattle.constructors.specs.declared.Ends.TheVariants.{Jump, IfTrue}
 use Rattle.constructors.specs.Walks.{targets, Ended}
 use Rattle.constructors.specs.Flows.{holds, done_from, or_false, Before}
 
@@ -72,14 +71,6 @@ holds-full a h =
     let m : bit_and (2 ^ a) full ≡ 2 ^ a = and_mask (2 ^ a) 64 ∙ mod-eq_of_lt (pow-lt h) in
     eq-eqb (full / 2 ^ a % 2) 1 (omega (arith, sym (ap (λ x. x / 2 ^ a % 2) m) ∙ bit_and_lem a (2 ^ a) full))
 
--- ---- where a block leads
-
-pub leads_jump : {e : Ends} {a : BlockId} (t : ℕ) → e ≡ Jump a → eqb t a.0 ≡ any (eqb t) (targets e)
-leads_jump {e} {a} t q = rw q (sym (or-false (eqb t a.0)))
-
-pub leads_if : {e : Ends} {a b : BlockId} (t : ℕ) → e ≡ IfTrue a b → (eqb t a.0 || eqb t b.0) ≡ any (eqb t) (targets e)
-leads_if {e} {a} {b} t q = rw q (ap (λ z. eqb t a.0 || z) (sym (or-false (eqb t b.0))))
-
 -- ---- the loop
 
 abbrev step : 𝔹 → 𝔹 → Option 𝔹 → Option 𝔹
@@ -93,25 +84,23 @@ before_cons p b d o l = go (any (eqb b) (successors (end_of p d)))
     go true = refl
     go false = refl
 
-abbrev pub met_as : ℕ → 𝔹 → Option 𝔹
-met_as zero t = none
-met_as (suc k) t = some t
+abbrev pub met_as : R.Option ℕ → ℕ → Option 𝔹
+met_as R.None a = none
+met_as (R.Some x) a = some (holds a x)
 
-pub record Meeting (m : List ℕ) (c : Counts) (w : List ℕ) (n b q bits met : ℕ) : Type 0 where
+pub record Meeting (m : List ℕ) (c : Counts) (w : List ℕ) (n b q : ℕ) (bits : R.Option ℕ) : Type 0 where
   pub high : q ≤ n
-  pub is : (s : List ℕ) (a : ℕ) → a < 64 → set_before (program_view s m c) b (done_from w a q (n - q)) ≡ met_as met (holds a bits)
-  pub start : met ≡ 0 → bits ≡ full
+  pub is : (s : List ℕ) (a : ℕ) → a < 64 → set_before (program_view s m c) b (done_from w a q (n - q)) ≡ met_as bits a
 
-pub meet_start : (m : List ℕ) (c : Counts) (w : List ℕ) (n b : ℕ) → Meeting m c w n b n full 0
+pub meet_start : (m : List ℕ) (c : Counts) (w : List ℕ) (n b : ℕ) → Meeting m c w n b n R.None
 unfolding done_from
 meet_start m c w n b =
     record {
       high = omega arith;
       is = λ s a h. let e : n - n ≡ 0 = omega arith in ap (λ f. set_before (program_view s m c) b (done_from w a n f)) e;
-      start = λ e. refl;
     }
 
-module _ {m : List ℕ} {c : Counts} {w : List ℕ} {n b q bits met : ℕ} (z : Meeting m c w n b q bits met) where
+module _ {m : List ℕ} {c : Counts} {w : List ℕ} {n b q : ℕ} {bits : R.Option ℕ} (z : Meeting m c w n b q bits) where
   module _ (h : 0 < q) where
     down : (a : ℕ) → done_from w a (q - 1) (n - (q - 1)) ≡ (get_or w (order_at + (q - 1)) 0, holds a (get_or w (outs_at + (q - 1)) 0)) ∷ done_from w a q (n - q)
     unfolding done_from
@@ -122,47 +111,42 @@ module _ {m : List ℕ} {c : Counts} {w : List ℕ} {n b q bits met : ℕ} (z : 
 
     module _ {r : Ends} {t : 𝔹} (en : Ended m c (get_or w (order_at + (q - 1)) 0) r) (le : t ≡ any (eqb b) (targets r)) where
       stepped : (s : List ℕ) (a : ℕ) → a < 64
-          → set_before (program_view s m c) b (done_from w a (q - 1) (n - (q - 1))) ≡ step t (holds a (get_or w (outs_at + (q - 1)) 0)) (met_as met (holds a bits))
+          → set_before (program_view s m c) b (done_from w a (q - 1) (n - (q - 1))) ≡ step t (holds a (get_or w (outs_at + (q - 1)) 0)) (met_as bits a)
       stepped s a l =
           ap (set_before (program_view s m c) b) (down a)
           ∙ (before_cons (program_view s m c) b (get_or w (order_at + (q - 1)) 0) (holds a (get_or w (outs_at + (q - 1)) 0)) (done_from w a q (n - q))
           ∙ ap₂ {C = Option 𝔹} (λ x y. step x (holds a (get_or w (outs_at + (q - 1)) 0)) y) (ap (any (eqb b)) (en.onward s) ∙ sym le) (z.is s a l))
 
-      pub meet_skip : t ≡ false → Meeting m c w n b (q - 1) bits met
+      pub meet_skip : t ≡ false → Meeting m c w n b (q - 1) bits
       meet_skip e =
           record {
             high = omega (arith, z.high);
-            is = λ s a l. stepped s a l ∙ ap (λ x. step x (holds a (get_or w (outs_at + (q - 1)) 0)) (met_as met (holds a bits))) e;
-            start = z.start;
+            is = λ s a l. stepped s a l ∙ ap (λ x. step x (holds a (get_or w (outs_at + (q - 1)) 0)) (met_as bits a)) e;
           }
 
-      rest : (k : ℕ) (a : ℕ) → a < 64 → (k ≡ 0 → bits ≡ full) → (elim (met_as k (holds a bits)) [ none ↦ true | some t ↦ t ]) ≡ holds a bits
-      rest zero a l f = sym (ap (holds a) (f refl) ∙ holds-full a l)
-      rest (suc k) a l f = refl
+      rest : (o : R.Option ℕ) (a : ℕ) → a < 64 → (elim (met_as o a) [ none ↦ true | some t ↦ t ]) ≡ holds a (R.unwrap_or o full)
+      rest R.None a l = sym (holds-full a l)
+      rest (R.Some x) a l = refl
 
-      pub meet_more : t ≡ true → Meeting m c w n b (q - 1) (bit_and (get_or w (outs_at + (q - 1)) 0) bits) 1
-      meet_more e =
+      pub meet_more : t ≡ true → {x : ℕ} → x ≡ R.unwrap_or bits full → Meeting m c w n b (q - 1) (R.Some (bit_and (get_or w (outs_at + (q - 1)) 0) x))
+      meet_more e {x} f =
           record {
             high = omega (arith, z.high);
             is = λ s a l.
                 stepped s a l
-                ∙ (ap (λ x. step x (holds a (get_or w (outs_at + (q - 1)) 0)) (met_as met (holds a bits))) e
-                ∙ (ap (λ x. some (holds a (get_or w (outs_at + (q - 1)) 0) && x)) (rest met a l z.start)
-                ∙ ap some (sym (holds-and a (get_or w (outs_at + (q - 1)) 0) bits))));
-            start = λ x. absurd (omega arith);
+                ∙ (ap (λ y. step y (holds a (get_or w (outs_at + (q - 1)) 0)) (met_as bits a)) e
+                ∙ (ap (λ y. some (holds a (get_or w (outs_at + (q - 1)) 0) && y)) (rest bits a l ∙ ap (holds a) (sym f))
+                ∙ ap some (sym (holds-and a (get_or w (outs_at + (q - 1)) 0) x))));
           }
 
-  pub meet_none : {i : ℕ} → q ≡ i → met ≡ 0 → Before m c w n i b 0
-  meet_none {i} e f =
+  told : (o : R.Option ℕ) (a : ℕ) → holds a (R.unwrap_or o 0) ≡ or_false (met_as o a)
+  told R.None a = holds-none a
+  told (R.Some x) a = refl
+
+  pub meet_done : {i r : ℕ} → q ≡ i → r ≡ R.unwrap_or bits 0 → Before m c w n i b r
+  meet_done {i} {r} e f =
       record {
         is = λ s a l.
-            holds-none a
-            ∙ sym (ap or_false ((sym (ap (λ k. set_before (program_view s m c) b (done_from w a k (n - k))) e) ∙ z.is s a l) ∙ ap (λ k. met_as k (holds a bits)) f));
-      }
-
-  pub meet_some : {i : ℕ} → q ≡ i → (met ≡ 0 → ⊥) → Before m c w n i b bits
-  meet_some {i} e f =
-      let g : met ≡ suc (met - 1) = omega (arith, f) in
-      record {
-        is = λ s a l. sym (ap or_false ((sym (ap (λ k. set_before (program_view s m c) b (done_from w a k (n - k))) e) ∙ z.is s a l) ∙ ap (λ k. met_as k (holds a bits)) g));
+            ap (holds a) f
+            ∙ (told bits a ∙ sym (ap or_false (sym (ap (λ k. set_before (program_view s m c) b (done_from w a k (n - k))) e) ∙ z.is s a l)));
       }

@@ -1,5 +1,5 @@
 -- The attribute places that bear a name. Assumes nothing.
-use mathlib.Core.Bool.{Bool as 𝔹, true, false, not, ◌&&◌, ◌||◌, or-true, or-false}
+use mathlib.Core.Bool.{Bool as 𝔹, true, false, not, ◌&&◌, ◌||◌, or-true, or-false, false≢true}
 use mathlib.Core.Path.{◌≡◌, refl, sym, ap, ap₂, ◌∙◌}
 use mathlib.Core.List.{List, [], ◌∷◌}
 use Prim.Native.Nat.{ℕ, suc, ◌+◌, ◌-◌, ◌*◌, ◌/◌, ◌%◌, ◌^◌, ◌≤◌, ◌<◌}
@@ -11,6 +11,7 @@ use lib.Bits.{bit_or, shifted_even}
 use lib.Pow.{pow_pos, pow-lt, pow-add, shl-shr}
 use lib.Dec.{eqb, ltb}
 use lib.ListN.{length}
+use Rattle.std.specs.Prelude as R
 use Rattle.lexer.specs.Names.{name}
 use Rattle.rules.specs.Lists.{any, same, has, first, places_from, places}
 use Rattle.rules.specs.Program as P
@@ -22,7 +23,7 @@ use Rattle.program.specs.declared.Counts.{Counts}
 use Rattle.program.specs.declared.Name.{Name}
 use Rattle.program.proofs.Tables.{tab-at, tab-more}
 use Rattle.program.proofs.Committing.{any_snoc}
-use Rattle.program.specs.Layout.{classes_at, ivars_at, class_words, ivar_row_words}
+use Rattle.program.specs.Layout.{ivars_at, ivar_row_words}
 use Rattle.constructors.specs.Flows.{holds, ivar_in, NamedIs}
 use Rattle.constructors.proofs.Meeting.{holds_or, holds-none}
 
@@ -66,12 +67,12 @@ module _ (s m : List ℕ) (c : Counts) (k : ℕ) (h : k < c.classes) (n : List �
 
 -- ---- the loop
 
-pub record Naming (s m : List ℕ) (k start len bits found a : ℕ) : Type 0 where
+pub record Naming (s m : List ℕ) (k start len bits a : ℕ) : Type 0 where
   pub high : a ≤ ivars_of m k
   pub places : (x : ℕ) → x < 64 → holds x bits ≡ (ltb x a && same (ivar_in s m k x) (name s start len))
-  pub some : any (λ x. same x (name s start len)) (tab (ivar_in s m k) a) ≡ not (eqb found 0)
+  pub some : any (λ x. same x (name s start len)) (tab (ivar_in s m k) a) ≡ not (eqb bits 0)
 
-pub name-start : (s m : List ℕ) (k start len : ℕ) → Naming s m k start len 0 0 0
+pub name-start : (s m : List ℕ) (k start len : ℕ) → Naming s m k start len 0 0
 unfolding tab
 name-start s m k start len =
     record {
@@ -80,14 +81,14 @@ name-start s m k start len =
       some = refl;
     }
 
-module _ {s m : List ℕ} {k start len bits found a : ℕ} (z : Naming s m k start len bits found a) (g : a < ivars_of m k) {t : 𝔹} (e : t ≡ same (ivar_in s m k a) (name s start len)) where
+module _ {s m : List ℕ} {k start len bits a : ℕ} (z : Naming s m k start len bits a) (g : a < ivars_of m k) {t : 𝔹} (e : t ≡ same (ivar_in s m k a) (name s start len)) where
   more-some : any (λ x. same x (name s start len)) (tab (ivar_in s m k) (a + 1)) ≡ (any (λ x. same x (name s start len)) (tab (ivar_in s m k) a) || t)
   more-some =
       ap (any (λ x. same x (name s start len)))
       (tab-more (ivar_in s m k) a) ∙ (any_snoc (λ x. same x (name s start len)) (tab (ivar_in s m k) a) (ivar_in s m k a)
       ∙ ap (λ y. any (λ x. same x (name s start len)) (tab (ivar_in s m k) a) || y) (sym e))
 
-  pub name-skip : t ≡ false → Naming s m k start len bits found (a + 1)
+  pub name-skip : t ≡ false → Naming s m k start len bits (a + 1)
   name-skip f =
       record {
         high = omega arith;
@@ -111,14 +112,21 @@ module _ {s m : List ℕ} {k start len bits found a : ℕ} (z : Naming s m k sta
           same_side x q = elim (native.Mathlib.Decide.dec_le a x)
               [ yes l ↦ le-ltb x a l ∙ sym (le-ltb x (a + 1) (omega arith)) | no l ↦ lt-ltb x a (omega arith) ∙ sym (lt-ltb x (a + 1) (omega arith)) ]
 
-  pub name-more : {bit : ℕ} → bit ≡ 2 ^ a → t ≡ true → Naming s m k start len (bit_or bits bit) 1 (a + 1)
+  pub name-more : {bit : ℕ} → bit ≡ 2 ^ a → t ≡ true → Naming s m k start len (bit_or bits bit) (a + 1)
   name-more {bit} l f =
       record {
         high = omega arith;
         places = λ x h. holds_or x bits bit ∙ (ap₂ {C = 𝔹} (λ y w. y || w) (z.places x h) (ap (holds x) l ∙ holds_one x a) ∙ up x);
-        some = more-some ∙ (ap (λ y. any (λ x. same x (name s start len)) (tab (ivar_in s m k) a) || y) f ∙ or-true (any (λ x. same x (name s start len)) (tab (ivar_in s m k) a)));
+        some = more-some ∙ (ap (λ y. any (λ x. same x (name s start len)) (tab (ivar_in s m k) a) || y) f ∙ (or-true (any (λ x. same x (name s start len)) (tab (ivar_in s m k) a))
+            ∙ sym (ap not (ne_eqb (bit_or bits bit) 0 there))));
       }
     where
+      there : bit_or bits bit ≡ 0 → ⊥
+      there q =
+          false≢true
+          (sym (holds-none a) ∙ (sym (ap (holds a) q)
+          ∙ (holds_or a bits bit ∙ (ap (λ y. holds a bits || y) (ap (holds a) l ∙ (holds_one a a ∙ eq-eqb a a refl)) ∙ or-true (holds a bits)))))
+
       up : (x : ℕ) → ((ltb x a && same (ivar_in s m k x) (name s start len)) || eqb x a) ≡ (ltb x (a + 1) && same (ivar_in s m k x) (name s start len))
       up x = elim (ℕ_discrete x a) [
         | yes q ↦
@@ -133,20 +141,21 @@ module _ {s m : List ℕ} {k start len bits found a : ℕ} (z : Naming s m k sta
           same_side x q = elim (native.Mathlib.Decide.dec_le a x)
               [ yes l ↦ le-ltb x a l ∙ sym (le-ltb x (a + 1) (omega arith)) | no l ↦ lt-ltb x a (omega arith) ∙ sym (lt-ltb x (a + 1) (omega arith)) ]
 
-pub name_done : {s m : List ℕ} {k bits found a : ℕ} {n : Name} {c : Counts} → Naming s m k n.start n.len bits found a → ivars_of m k ≤ a
-    → k < c.classes → NamedIs s m c k n (record { bits = bits; found = found })
-name_done {s} {m} {k} {bits} {found} {a} {n} {c} z g h =
-    let e : a ≡ ivars_of m k = omega (arith, z.high) in
-    record {
-      places = λ x l. z.places x l ∙ ap (λ y. ltb x y && same (ivar_in s m k x) (name_in s n)) e;
-      declared = named-any s m c k h (name_in s n) ∙ (sym (ap (λ y. any (λ x. same x (name_in s n)) (tab (ivar_in s m k) y)) e) ∙ z.some);
-    }
+module _ {s m : List ℕ} {k bits a : ℕ} {n : Name} (c : Counts) (z : Naming s m k n.start n.len bits a) (e : a ≡ ivars_of m k) (h : k < c.classes) where
+  asked : has (ivar_named (program_view s m c) k (name_in s n)) ≡ not (eqb bits 0)
+  asked = named-any s m c k h (name_in s n) ∙ (sym (ap (λ y. any (λ x. same x (name_in s n)) (tab (ivar_in s m k) y)) e) ∙ z.some)
+
+  here : (x : ℕ) → x < 64 → holds x bits ≡ (ltb x (ivars_of m k) && same (ivar_in s m k x) (name_in s n))
+  here x l = z.places x l ∙ ap (λ y. ltb x y && same (ivar_in s m k x) (name_in s n)) e
+
+  pub name_none : bits ≡ 0 → NamedIs s m c k n R.None
+  name_none f = record { places = λ x l. sym (ap (holds x) f) ∙ here x l; declared = asked ∙ ap not (eq-eqb bits 0 f) }
+
+  pub name_some : (bits ≡ 0 → ⊥) → NamedIs s m c k n (R.Some bits)
+  name_some f = record { places = here; declared = asked ∙ ap not (ne_eqb bits 0 f) }
 
 -- ---- rooms
 
 module _ {m : List ℕ} {c : Counts} {k : ℕ} (ok : ProgramReady m c) (h : k < c.classes) where
-  pub class-room : classes_at + class_words * k + 2 < length m
-  class-room = omega (arith, ok.classes, ok.len_mem)
-
   pub ivar_room : (a : ℕ) → a < ivars_of m k → (ivars_at + ivar_row_words * k + 2 * a + 1 < length m) × (a < 64)
   ivar_room a g = (omega (arith, ok.classes, ok.len_mem, ok.ivars k h), omega (arith, ok.ivars k h))

@@ -1,12 +1,12 @@
 -- A finished reading gives what the walk asks: the blocks that terminators name are there. Assumes nothing.
-use mathlib.Core.Bool.{Bool as 𝔹, true, false, false≢true}
+use mathlib.Core.Bool.{true, false≢true}
 use mathlib.Core.Option.{Option, none, some}
-use mathlib.Core.Path.{◌≡◌, refl, sym, ap, ◌∙◌, subst}
+use mathlib.Core.Path.{◌≡◌, refl, sym, ap, ◌∙◌}
 use mathlib.Core.List.{List, [], ◌∷◌}
-use Prim.Native.Nat.{ℕ, zero, suc, ◌+◌, ◌<◌}
+use Prim.Native.Nat.{ℕ, ◌+◌, ◌<◌}
 use native.Mathlib.Omega.{arith}
 use lib.Dec.{eqb}
-use Rattle.rules.specs.Lists.{any, cons_if, final}
+use Rattle.rules.specs.Lists.{any, final}
 use Rattle.rules.specs.Program as P
 use Rattle.rules.specs.Program.{about, op_of, successors}
 use Rattle.rules.specs.Constructors.{end_of}
@@ -17,28 +17,9 @@ use Rattle.program.specs.View.{program_view, blocks_of}
 use Rattle.program.specs.declared.Counts.{Counts}
 use Rattle.program.proofs.Tables.{tab-length}
 use Rattle.program.proofs.Reading.{op-is}
-use Rattle.chains.specs.Chains.{pick}
 use Rattle.chains.proofs.Whole.{code_is}
 use Rattle.constructors.specs.Walks.{ends_from, targets, WalkInside}
-use Rattle.constructors.proofs.Endings.{codes_of, final_or, final_cons, term_onward}
-
--- ---- a block's last instruction
-
-last-below : (t : ℕ → 𝔹) (k f y : ℕ) (l : List ℕ) → pick t k f ≡ y ∷ l → final_or y l < k + f
-unfolding pick
-last-below t k zero y l e = absurd (let z : ◌≡◌ {A = ℕ} 0 1 = cc in omega arith)
-last-below t k (suc f) y l e = go (t k) e (last-below t (suc k) f)
-  where
-    end : (r : List ℕ) → ((y : ℕ) (l : List ℕ) → r ≡ y ∷ l → final_or y l < suc k + f) → final_or k r < k + suc f
-    end [] ih = omega arith
-    end (x ∷ r) ih = omega (arith, ih x r refl)
-
-    go : (a : 𝔹) → cons_if a k (pick t (suc k) f) ≡ y ∷ l → ((y : ℕ) (l : List ℕ) → pick t (suc k) f ≡ y ∷ l → final_or y l < suc k + f) → final_or y l < k + suc f
-    go true e ih =
-        let a : k ≡ y = cc in
-        let b : pick t (suc k) f ≡ l = cc in
-        subst (λ (r : List ℕ). final_or y r < k + suc f) b (subst (λ (x : ℕ). final_or x (pick t (suc k) f) < k + suc f) a (end (pick t (suc k) f) ih))
-    go false e ih = omega (arith, ih y l e)
+use Rattle.constructors.proofs.Endings.{codes_of, final_or, final_cons, last-below, term_onward}
 
 module _ (m : List ℕ) (c : Counts) (b : ℕ) where
   abbrev by : List ℕ → Option ℕ → Option P.Terminator

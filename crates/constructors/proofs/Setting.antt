@@ -1,52 +1,55 @@
 -- What a block sets, and what all blocks surely set. Assumes nothing.
-use mathlib.Core.Bool.{Bool as 𝔹, true, false, not, ◌&&◌, ◌||◌, or-false}
+use mathlib.Core.Bool.{Bool as 𝔹, true, false, not, ◌&&◌, ◌||◌}
 use mathlib.Core.Option.{Option, none, some}
 use mathlib.Core.Path.{◌≡◌, refl, sym, ap, ap₂, ◌∙◌, subst}
 use mathlib.Core.List.{List, [], ◌∷◌, ◌++◌, map}
 use Prim.Native.Nat.{ℕ, zero, suc, ◌+◌, ◌-◌, ◌*◌, ◌≤◌, ◌<◌}
 use native.Mathlib.Omega.{arith}
-use borrow.Author.Tests.{eq-eqb, ne_eqb, lt-ltb}
+use borrow.Author.Tests.{lt-ltb}
 use lib.Bits.{bit_and, bit_or}
 use lib.ListN.{length, get_or, set, length-set}
 use lib.Seq.{get_or-set_same, get_or-set_other}
-use Rattle.rules.specs.Lists.{any, all, same, has, to_list, concat}
+use lib.Dec.{eqb}
+use Rattle.std.specs.Prelude as R
+use Rattle.refusals.specs.declared.Refusal.{Refusal}
+use Rattle.rules.specs.Lists.{any, all, same, has, to_list, concat, cons_if}
 use Rattle.rules.specs.Program as P
 use Rattle.rules.specs.Program.{Program, about, op_of, code, ivar_named, returned_by}
 use Rattle.rules.specs.Constructors.{end_of, sets_of, set_before, flow, initialized, declared, reverse_post_order}
 use Rattle.program.specs.Rows.{insn_at, instruction_at, op_in, opnd_of, opnds_in, name_in, ivars_of}
-use Rattle.program.specs.View.{program_view, ProgramReady}
+use Rattle.program.specs.View.{program_view}
 use Rattle.program.specs.declared.Counts.{Counts}
 use Rattle.program.specs.declared.Name.{Name}
 use Rattle.program.specs.declared.Row.{Row}
 use Rattle.program.specs.declared.Op.{Op}
 use Rattle.program.specs.declared.Op.TheVariants as O
 use Rattle.program.proofs.Reading.{instruction-is}
-use Rattle.chains.specs.Chains.{ChainsChained, at, self, Index}
-use Rattle.chains.proofs.Lists.{Starts, chained_below, chained_none, chained_some, chained_low}
+use Rattle.chains.specs.Chains.{pick}
 use Rattle.chains.proofs.Whole.{code_is}
 use Rattle.program.specs.Layout.{opnds_at}
-use Rattle.chains.specs.Layout.{code_links_at}
 use Rattle.constructors.specs.Layout.{order_at, outs_at, walk_size}
 use Rattle.constructors.specs.declared.Ends.{Ends}
-use Rattle.constructors.specs.declared.Places.{Places}
-use Rattle.constructors.specs.declared.SetName.{SetName}
-use Rattle.constructors.specs.declared.SetName.TheVariants as N
-use Rattle.constructors.specs.declared.Sets.{Sets}
-use Rattle.constructors.specs.declared.Sets.TheVariants as S
-use Rattle.constructors.specs.declared.Sure.{Sure}
-use Rattle.constructors.specs.declared.Sure.TheVariants as Q
 use Rattle.constructors.specs.Walks.{returning, Ended, out_of, Walked}
-use Rattle.constructors.specs.Flows.{holds, done_from, or_false, FlowPlaced, Before, ivar_in, NamedIs, set_name, sets_in, all_declared, SetsIs, SureIs}
-use Rattle.constructors.proofs.Endings.{codes_of, chain_of}
+use Rattle.constructors.specs.Flows.{holds, done_from, or_false, FlowPlaced, Before, ivar_in, NamedIs, all_declared, SetsIs, SureIs}
 use Rattle.constructors.proofs.Meeting.{holds-and, holds_or, holds-none, holds-full, full}
 
 -- ---- the names that instructions set
 
-abbrev set_in : List ℕ → SetName → List (List ℕ)
-set_in s (N.Of n) = name_in s n ∷ []
-set_in s N.Nothing = []
+abbrev set_in : List ℕ → Op → List (List ℕ)
+set_in s (O.Jump b) = []
+set_in s (O.IfTrue b e) = []
+set_in s O.Return = []
+set_in s (O.SendStatic f) = []
+set_in s (O.SendDynamic n) = []
+set_in s (O.Compute o) = []
+set_in s (O.Phi b e) = []
+set_in s (O.Param n) = []
+set_in s (O.SelfParam c) = []
+set_in s (O.New c) = []
+set_in s (O.GetIvar n) = []
+set_in s (O.SetIvar n) = name_in s n ∷ []
 
-sets-is : (s : List ℕ) (o : Op) (l : List P.Opnd) → to_list (about (op_in s o l)).sets ≡ set_in s (set_name o)
+sets-is : (s : List ℕ) (o : Op) (l : List P.Opnd) → to_list (about (op_in s o l)).sets ≡ set_in s o
 sets-is s (O.Jump b) l = refl
 sets-is s (O.IfTrue b e) l = refl
 sets-is s O.Return l = refl
@@ -60,9 +63,6 @@ sets-is s (O.New c) l = refl
 sets-is s (O.GetIvar n) l = refl
 sets-is s (O.SetIvar n) l = refl
 
-pub name_of : {o : Op} {n : Name} → o ≡ O.SetIvar n → N.Of n ≡ set_name o
-name_of e = rw e
-
 abbrev names_of : Program → List ℕ → List (List ℕ)
 names_of p l = concat (map (λ i. to_list (about (op_of p i)).sets) l)
 
@@ -71,92 +71,76 @@ or_assoc true b c = refl
 or_assoc false b c = refl
 
 module _ (s m : List ℕ) (c : Counts) where
-  names_at : (h : ℕ) (l : List ℕ) {r : Row} {t : SetName} → h < c.insns → r ≡ insn_at m h → t ≡ set_name r.op → names_of (program_view s m c) (h ∷ l) ≡ set_in s t ++ names_of (program_view s m c) l
+  names_at : (h : ℕ) (l : List ℕ) {r : Row} → h < c.insns → r ≡ insn_at m h → names_of (program_view s m c) (h ∷ l) ≡ set_in s r.op ++ names_of (program_view s m c) l
   unfolding instruction_at
-  names_at h l {r} {t} g e f =
+  names_at h l {r} g e =
       ap (λ x. x ++ names_of (program_view s m c) l)
       (ap (λ (x : P.Instruction). to_list (about x.op).sets) (instruction-is s m c h g)
       ∙ (sets-is s (insn_at m h).op (map opnd_of (opnds_in m (opnds_at + 2 * (insn_at m h).first) (insn_at m h).count))
-      ∙ sym (ap (set_in s) (f ∙ ap (λ (x : Row). set_name x.op) e))))
+      ∙ sym (ap (λ (x : Row). set_in s x.op) e)))
 
-  sets-names : (b : ℕ) → sets_of (program_view s m c) b ≡ names_of (program_view s m c) (codes_of m c.insns b)
-  unfolding sets_of
-  sets-names b = ap (names_of (program_view s m c)) (code_is s m c b)
+-- what a question's answer says of its option
+pub ok_some : (o : R.Option ℕ) (e : Refusal) {x : ℕ} → R.Ok x ≡ R.ok_or o e → o ≡ R.Some x
+ok_some R.None e q = absurd (let w : ◌≡◌ {A = ℕ} 0 1 = cc in omega arith)
+ok_some (R.Some y) e {x} q = let w : x ≡ y = cc in ap R.Some (sym w)
+
+-- the numbers of a list are below n
+abbrev pub Within : ℕ → List ℕ → Type 0
+Within n [] = Unit {0}
+Within n (x ∷ l) = (x < n) × Within n l
+
+within_pick : (t : ℕ → 𝔹) (k f n : ℕ) → k + f ≤ n → Within n (pick t k f)
+unfolding pick
+within_pick t k zero n h = tt
+within_pick t k (suc f) n h = go (t k) (within_pick t (suc k) f n (omega arith))
+  where
+    go : (a : 𝔹) → Within n (pick t (suc k) f) → Within n (cons_if a k (pick t (suc k) f))
+    go true w = (omega arith, w)
+    go false w = w
 
 -- the instructions of block b that are left, and the attributes that those before them set
-pub record Setting (s m x : List ℕ) (c : Counts) (k b bits h : ℕ) : Type 0 where
-  pub rest : List ℕ
-  pub cells : ChainsChained self (at x code_links_at) c.insns 0 h rest
+pub record Setting (s m : List ℕ) (c : Counts) (k b bits : ℕ) (rest : List ℕ) : Type 0 where
+  pub within : Within c.insns rest
   pub sets : (a : ℕ) → a < ivars_of m k → (holds a bits || any (same (ivar_in s m k a)) (names_of (program_view s m c) rest)) ≡ any (same (ivar_in s m k a)) (sets_of (program_view s m c) b)
   pub asked : all_declared s m c k (names_of (program_view s m c) rest) ≡ all_declared s m c k (sets_of (program_view s m c) b)
 
-pub set-start : (s : List ℕ) {m x : List ℕ} {c : Counts} (k : ℕ) {b h : ℕ} → ProgramReady m c → Index m c x → b < c.blocks → h ≡ get_or x b 0 → Setting s m x c k b 0 h
-set-start s {m} {x} {c} k {b} ok ix g e =
+pub set-start : (s m : List ℕ) (c : Counts) (k b : ℕ) {l : List ℕ} → l ≡ code (program_view s m c) b → Setting s m c k b 0 l
+unfolding sets_of
+set-start s m c k b {l} e =
     record {
-      rest = codes_of m c.insns b;
-      cells = rw e (chain_of ix b (omega (arith, ok.blocks)));
-      sets = λ a l. ap (λ t. t || any (same (ivar_in s m k a)) (names_of (program_view s m c) (codes_of m c.insns b))) (holds-none a) ∙ sym (ap (any (same (ivar_in s m k a))) (sets-names s m c b));
-      asked = sym (ap (all_declared s m c k) (sets-names s m c b));
+      within = subst (λ (l : List ℕ). Within c.insns l) (sym (e ∙ code_is s m c b)) (within_pick (λ j. eqb (insn_at m j).block.0 b) 0 c.insns c.insns (omega arith));
+      sets = λ a h. ap (λ t. t || any (same (ivar_in s m k a)) (names_of (program_view s m c) l)) (holds-none a) ∙ ap (λ y. any (same (ivar_in s m k a)) (names_of (program_view s m c) y)) e;
+      asked = ap (λ y. all_declared s m c k (names_of (program_view s m c) y)) e;
     }
 
-module _ {s m x : List ℕ} {c : Counts} {k b bits h : ℕ} (z : Setting s m x c k b bits h) where
-  pub set-done : c.insns ≤ h → SetsIs s m c k b (S.Bits bits)
-  set-done g =
-      let e : z.rest ≡ [] = chained_none self (at x code_links_at) c.insns 0 h z.rest z.cells g in
-      record {
-        asked = sym (sym (ap (λ l. all_declared s m c k (names_of (program_view s m c) l)) e) ∙ z.asked);
-        bits = λ o q a l.
-            let i : bits ≡ o = cc in
-            ap (holds a) (sym i) ∙ (sym (or-false (holds a bits)) ∙ (sym (ap (λ (l : List ℕ). holds a bits || any (same (ivar_in s m k a)) (names_of (program_view s m c) l)) e) ∙ z.sets a l));
-      }
+module _ {s m : List ℕ} {c : Counts} {k b bits : ℕ} {left : List ℕ} (z : Setting s m c k b bits left) where
+  module _ {h : ℕ} {rest : List ℕ} (more : left ≡ h ∷ rest) where
+    pub set-below : h < c.insns
+    set-below = (subst (λ (l : List ℕ). Within c.insns l) more z.within).0
 
-  module _ (g : h < c.insns) {r : Row} {t : SetName} (re : r ≡ insn_at m h) (te : t ≡ set_name r.op) where
-    more : Starts self (at x code_links_at) c.insns h z.rest
-    more = chained_some self (at x code_links_at) c.insns 0 h z.rest z.cells g
+    onward : Within c.insns rest
+    onward = (subst (λ (l : List ℕ). Within c.insns l) more z.within).1
 
-    opened : names_of (program_view s m c) z.rest ≡ set_in s t ++ names_of (program_view s m c) more.rest
-    opened = ap (names_of (program_view s m c)) more.is ∙ names_at s m c h more.rest g re te
+    module _ {r : Row} (re : r ≡ insn_at m h) where
+      opened : names_of (program_view s m c) left ≡ set_in s r.op ++ names_of (program_view s m c) rest
+      opened = ap (names_of (program_view s m c)) more ∙ names_at s m c h rest set-below re
 
-    pub set-rises : {h' : ℕ} → h' ≡ get_or x (order_at + h) 0 → h < h'
-    set-rises e = omega (arith, chained_low self (at x code_links_at) c.insns (suc h) _ _ more.onward (omega arith))
+      module _ {n : Name} {p : R.Option ℕ} (d : NamedIs s m c k n p) (q : r.op ≡ O.SetIvar n) where
+        o : names_of (program_view s m c) left ≡ name_in s n ∷ names_of (program_view s m c) rest
+        o = opened ∙ ap (λ y. set_in s y ++ names_of (program_view s m c) rest) q
 
-    onward : {h' : ℕ} → h' ≡ get_or x (order_at + h) 0 → ChainsChained self (at x code_links_at) c.insns 0 h' more.rest
-    onward e = rw e (chained_below self (at x code_links_at) c.insns (suc h) 0 _ _ (omega arith) more.onward)
-
-    pub set-skip : {h' : ℕ} → h' ≡ get_or x (order_at + h) 0 → t ≡ N.Nothing → Setting s m x c k b bits h'
-    set-skip e q =
-        let o = opened ∙ ap (λ y. set_in s y ++ names_of (program_view s m c) more.rest) q in
-        record {
-          rest = more.rest;
-          cells = onward e;
-          sets = λ a l. sym (ap (λ (y : List (List ℕ)). holds a bits || any (same (ivar_in s m k a)) y) o) ∙ z.sets a l;
-          asked = sym (ap (all_declared s m c k) o) ∙ z.asked;
-        }
-
-    module _ {n : Name} {p : Places} (d : NamedIs s m c k n p) (q : t ≡ N.Of n) where
-      o : names_of (program_view s m c) z.rest ≡ name_in s n ∷ names_of (program_view s m c) more.rest
-      o = opened ∙ ap (λ y. set_in s y ++ names_of (program_view s m c) more.rest) q
-
-      pub set_more : {h' : ℕ} → ivars_of m k ≤ 64 → h' ≡ get_or x (order_at + h) 0 → (p.found ≡ 0 → ⊥) → Setting s m x c k b (bit_or bits p.bits) h'
-      set_more few e f =
-          record {
-            rest = more.rest;
-            cells = onward e;
-            sets = λ a l.
-                let here : holds a p.bits ≡ same (ivar_in s m k a) (name_in s n) = d.places a (omega arith) ∙ ap (λ y. y && same (ivar_in s m k a) (name_in s n)) (lt-ltb a (ivars_of m k) l) in
-                ap (λ y. y || any (same (ivar_in s m k a)) (names_of (program_view s m c) more.rest)) (holds_or a bits p.bits ∙ ap (λ y. holds a bits || y) here)
-                ∙ (or_assoc (holds a bits) (same (ivar_in s m k a) (name_in s n)) (any (same (ivar_in s m k a)) (names_of (program_view s m c) more.rest))
-                ∙ (sym (ap (λ (y : List (List ℕ)). holds a bits || any (same (ivar_in s m k a)) y) o) ∙ z.sets a l));
-            asked =
-                sym (ap (all_declared s m c k) o ∙ ap (λ y. y && all_declared s m c k (names_of (program_view s m c) more.rest)) (d.declared ∙ ap not (ne_eqb p.found 0 f))) ∙ z.asked;
-          }
-
-      pub set_stop : p.found ≡ 0 → SetsIs s m c k b S.Undeclared
-      set_stop f =
-          record {
-            asked = sym (sym (ap (all_declared s m c k) o ∙ ap (λ y. y && all_declared s m c k (names_of (program_view s m c) more.rest)) (d.declared ∙ ap not (eq-eqb p.found 0 f))) ∙ z.asked);
-            bits = λ y e. absurd (let w : ◌≡◌ {A = ℕ} 0 1 = cc in omega arith);
-          }
+        pub set_more : {x : ℕ} → ivars_of m k ≤ 64 → p ≡ R.Some x → Setting s m c k b (bit_or bits x) rest
+        set_more {x} few f =
+            record {
+              within = onward;
+              sets = λ a l.
+                  let here : holds a x ≡ same (ivar_in s m k a) (name_in s n) =
+                  sym (ap (λ y. holds a (R.unwrap_or y 0)) f) ∙ (d.places a (omega arith) ∙ ap (λ y. y && same (ivar_in s m k a) (name_in s n)) (lt-ltb a (ivars_of m k) l)) in
+                  ap (λ y. y || any (same (ivar_in s m k a)) (names_of (program_view s m c) rest)) (holds_or a bits x ∙ ap (λ y. holds a bits || y) here)
+                  ∙ (or_assoc (holds a bits) (same (ivar_in s m k a) (name_in s n)) (any (same (ivar_in s m k a)) (names_of (program_view s m c) rest))
+                  ∙ (sym (ap (λ (y : List (List ℕ)). holds a bits || any (same (ivar_in s m k a)) y) o) ∙ z.sets a l));
+              asked = sym (ap (all_declared s m c k) o ∙ ap (λ y. y && all_declared s m c k (names_of (program_view s m c) rest)) (d.declared ∙ ap R.is_some f)) ∙ z.asked;
+            }
 
 -- ---- all blocks
 
@@ -210,7 +194,7 @@ unfolding declared
 declared_cons s m c k b l = refl
 
 module _ {s m : List ℕ} {c : Counts} {k n : ℕ} {w₀ w : List ℕ} {res i : ℕ} (z : Passing s m c k n w₀ w res i) where
-  pub pass-done : i ≤ 0 → SureIs s m c k (out_of w₀ n) (Q.Set res)
+  pub pass-done : i ≤ 0 → SureIs s m c k (out_of w₀ n) (R.Ok res)
   unfolding initialized flow declared out_of
   pass-done h =
       let e : i ≡ 0 = omega arith in
@@ -222,6 +206,7 @@ module _ {s m : List ℕ} {c : Counts} {k n : ℕ} {w₀ w : List ℕ} {res i : 
             ap (holds a) (sym y)
             ∙ (sym (z.ends a l)
             ∙ ap (all (at_end (program_view s m c))) (sym (ap (λ j. flow (program_view s m c) (ivar_in s m k a) (out_of w₀ j) (done_from w a i (n - i))) e) ∙ z.flows a l));
+        refuses = λ e q. absurd (let w : ◌≡◌ {A = ℕ} 0 1 = cc in omega arith);
       }
 
   module _ (h : 0 < i) where
@@ -238,15 +223,16 @@ module _ {s m : List ℕ} {c : Counts} {k n : ℕ} {w₀ w : List ℕ} {res i : 
         ≡ declared (program_view s m c) k (out_of w₀ n)
     asks = sym (declared_cons s m c k (get_or w (order_at + (i - 1)) 0) (out_of w₀ (i - 1))) ∙ (sym (ap (declared (program_view s m c) k) taken) ∙ z.asked)
 
-    pub pass-stop : {t : Sets} → SetsIs s m c k (get_or w (order_at + (i - 1)) 0) t → t ≡ S.Undeclared → SureIs s m c k (out_of w₀ n) Q.Undeclared
-    pass-stop y q =
+    pub pass-stop : {e : Refusal} → SetsIs s m c k (get_or w (order_at + (i - 1)) 0) (R.Err e) → SureIs s m c k (out_of w₀ n) (R.Err e)
+    pass-stop y =
         record {
-          asked = sym (sym (ap (λ x. x && declared (program_view s m c) k (out_of w₀ (i - 1))) (y.asked ∙ ap (λ x. has (sets_in x)) q)) ∙ asks);
+          asked = sym (sym (ap (λ x. x && declared (program_view s m c) k (out_of w₀ (i - 1))) y.asked) ∙ asks);
           bits = λ o e. absurd (let v : ◌≡◌ {A = ℕ} 0 1 = cc in omega arith);
+          refuses = y.refuses;
         }
 
-    module _ {t : Sets} {o ins : ℕ} {r : Ends} {back : 𝔹} (few : n ≤ order_at) (ivs : ivars_of m k ≤ 64) (long : walk_size ≤ length w₀)
-        (y : SetsIs s m c k (get_or w (order_at + (i - 1)) 0) t) (q : t ≡ S.Bits o) (bf : Before m c w n (i - 1 + 1) (get_or w (order_at + (i - 1)) 0) ins)
+    module _ {o ins : ℕ} {r : Ends} {back : 𝔹} (few : n ≤ order_at) (ivs : ivars_of m k ≤ 64) (long : walk_size ≤ length w₀)
+        (y : SetsIs s m c k (get_or w (order_at + (i - 1)) 0) (R.Ok o)) (bf : Before m c w n (i - 1 + 1) (get_or w (order_at + (i - 1)) 0) ins)
         (en : Ended m c (get_or w (order_at + (i - 1)) 0) r) (bk : back ≡ returning r) where
       abbrev out : ℕ
       out = bit_or o ins
@@ -274,7 +260,7 @@ module _ {s m : List ℕ} {c : Counts} {k n : ℕ} {w₀ w : List ℕ} {res i : 
       flag a l =
           let e : i - 1 + 1 ≡ i = omega arith in
           holds_or a o ins
-          ∙ ap₂ {C = 𝔹} (λ u v. u || v) (y.bits o (ap sets_in q) a l)
+          ∙ ap₂ {C = 𝔹} (λ u v. u || v) (y.bits o refl a l)
           (bf.is s a (omega arith) ∙ ap (λ u. or_false (set_before (program_view s m c) (get_or w (order_at + (i - 1)) 0) (done_from w a u (n - u)))) e)
 
       flows_on : (a : ℕ) → a < ivars_of m k
@@ -285,7 +271,7 @@ module _ {s m : List ℕ} {c : Counts} {k n : ℕ} {w₀ w : List ℕ} {res i : 
           ∙ (sym (ap (λ u. flow (program_view s m c) (ivar_in s m k a) u (done_from w a i (n - i))) taken) ∙ z.flows a l))
 
       asked-on : declared (program_view s m c) k (out_of w₀ (i - 1)) ≡ declared (program_view s m c) k (out_of w₀ n)
-      asked-on = sym (ap (λ x. x && declared (program_view s m c) k (out_of w₀ (i - 1))) (y.asked ∙ ap (λ x. has (sets_in x)) q)) ∙ asks
+      asked-on = sym (ap (λ x. x && declared (program_view s m c) k (out_of w₀ (i - 1))) y.asked) ∙ asks
 
       ends_on : (a : ℕ) → all (at_end (program_view s m c)) (done_from w' a (i - 1) (n - (i - 1)))
           ≡ ((not back || holds a (bit_or o ins)) && all (at_end (program_view s m c)) (done_from w a i (n - i)))
@@ -318,12 +304,9 @@ module _ {s m : List ℕ} {c : Counts} {k n : ℕ} {w₀ w : List ℕ} {res i : 
           ∙ (ap (λ u. (not u || holds a (bit_or o ins)) && all (at_end (program_view s m c)) (done_from w a i (n - i))) f
           ∙ (ap (λ u. holds a (bit_or o ins) && u) (z.ends a l) ∙ sym (holds-and a (bit_or o ins) res))))
 
-pub placed_on : {k : ℕ} {w₀ w : List ℕ} {n : ℕ} → FlowPlaced k w₀ n → ((j : ℕ) → j < n → get_or w (order_at + j) 0 ≡ get_or w₀ (order_at + j) 0) → FlowPlaced k w n
-placed_on p e = record { blocks = λ i h. rw (e i h) (p.blocks i h); few = p.few }
-
 pub walked_placed : {m : List ℕ} {c : Counts} {b : ℕ} {w : List ℕ} {n : ℕ} → c.blocks ≤ order_at → Walked m c b w n → FlowPlaced c.blocks w n
 walked_placed few d = record { blocks = d.inside; few = omega (arith, d.few) }
 
-pub analyzed : (s : List ℕ) {m : List ℕ} {c : Counts} (k : ℕ) {b : ℕ} {w : List ℕ} {n : ℕ} (r : Sure) → Walked m c b w n → SureIs s m c k (out_of w n) r
+pub analyzed : (s : List ℕ) {m : List ℕ} {c : Counts} (k : ℕ) {b : ℕ} {w : List ℕ} {n : ℕ} (r : R.Result ℕ Refusal) → Walked m c b w n → SureIs s m c k (out_of w n) r
     → SureIs s m c k (reverse_post_order (program_view s m c) b) r
 analyzed s {m} {c} k {b} {w} {n} r d y = subst (λ l. SureIs s m c k l r) (d.order s) y

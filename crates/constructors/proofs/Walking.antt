@@ -2,6 +2,7 @@
 use mathlib.Core.Bool.{Bool as 𝔹, true, false, cond, or-true}
 use mathlib.Core.Path.{◌≡◌, refl, sym, ap, ◌∙◌, subst}
 use mathlib.Core.List.{List, [], ◌∷◌}
+use mathlib.Core.Logic.{◌⊎◌, inl, inr}
 use Prim.Native.Nat.{ℕ, zero, suc, ◌+◌, ◌-◌, ◌*◌, ◌≤◌, ◌<◌}
 use native.Mathlib.Decide.{ℕ_discrete}
 use native.Mathlib.Numerals.{add-one}
@@ -10,7 +11,6 @@ use borrow.Author.Tests.{eq-eqb, ne_eqb}
 use lib.Dec.{eqb}
 use lib.ListN.{length, get_or, set, length-set}
 use lib.Seq.{get_or-set_same, get_or-set_other}
-use Rattle.rules.specs.Lists.{any}
 use Rattle.rules.specs.Program.{Program, successors}
 use Rattle.rules.specs.Constructors.{Walk, end_of, walk_each, walk, reverse_post_order}
 use Rattle.program.specs.View.{program_view, blocks_of}
@@ -133,9 +133,6 @@ module _ (m : List ℕ) (c : Counts) {w : List ℕ} {n : ℕ} {b : ℕ} (ok : Wa
   pub mark-falls : (t : ℕ) → 2 * unseen w K ≡ t → 2 * unseen (set w b 1) K + 1 < t
   mark-falls t f = omega (arith, one_less)
 
-  pub mark-room : n < blocks_room
-  mark-room = omega (arith, ok.room, one_less, ok.few)
-
   module _ {w2 : List ℕ} {n2 : ℕ} (ts : List ℕ) (onward : (s : List ℕ) → successors (end_of (program_view s m c) b) ≡ ts)
       (d : WalkDid (λ s f v. walk_each (program_view s m c) (walk (program_view s m c) f) ts v) c.blocks (set w b 1) n w2 n2) where
     fits : n2 + 1 + unseen w2 K ≤ K
@@ -199,22 +196,26 @@ module _ {m : List ℕ} {c : Counts} {w : List ℕ} {n b : ℕ} {r : Ends} (ok :
   leads : (ts : List ℕ) → targets r ≡ ts → (s : List ℕ) → successors (end_of (program_view s m c) b) ≡ ts
   leads ts q s = en.onward s ∙ q
 
-  pub walk_end : targets r ≡ [] → {w' : List ℕ} {k : ℕ} → k ≡ n + 1 → w' ≡ set (set w b 1) (order_at + n) b → WalkDid (walk_of m c b) c.blocks w n w' k
-  walk_end q er ew = leave m c ok l e [] (leads [] q) (each_none m c (mark-good m c ok l e)) _ _ er ew
+  abbrev pub Onward : List ℕ → ℕ → Type 0
+  Onward w2 n2 = WalkDid (Each m c (targets r)) c.blocks (set w b 1) n w2 n2
+
+  pub onward_none : (r ≡ Return) ⊎ (r ≡ Open) → Onward (set w b 1) n
+  onward_none q = subst (λ (ts : List ℕ). WalkDid (Each m c ts) c.blocks (set w b 1) n (set w b 1) n) (sym (nowhere q)) (each_none m c (mark-good m c ok l e))
+    where
+      nowhere : (r ≡ Return) ⊎ (r ≡ Open) → targets r ≡ []
+      nowhere (inl e) = ap targets e
+      nowhere (inr e) = ap targets e
 
   module _ {t : BlockId} {w2 : List ℕ} {n2 : ℕ} (d : WalkDid (visit_of m c t.0) c.blocks (set w b 1) n w2 n2) where
-    pub walk_jump : r ≡ Jump t → {w' : List ℕ} {k : ℕ} → k ≡ n2 + 1 → w' ≡ set w2 (order_at + n2) b → WalkDid (walk_of m c b) c.blocks w n w' k
-    walk_jump q er ew = leave m c ok l e (t.0 ∷ []) (leads (t.0 ∷ []) (ap targets q)) (each_one m c t.0 d) _ _ er ew
+    pub onward_jump : r ≡ Jump t → Onward w2 n2
+    onward_jump q = subst (λ (ts : List ℕ). WalkDid (Each m c ts) c.blocks (set w b 1) n w2 n2) (sym (ap targets q)) (each_one m c t.0 d)
 
-    module _ {u : BlockId} {w3 : List ℕ} {n3 : ℕ} (d' : WalkDid (visit_of m c u.0) c.blocks w2 n2 w3 n3) where
-      pub walk_choice : r ≡ IfTrue t u → {w' : List ℕ} {k : ℕ} → k ≡ n3 + 1 → w' ≡ set w3 (order_at + n3) b → WalkDid (walk_of m c b) c.blocks w n w' k
-      walk_choice q er ew = leave m c ok l e (t.0 ∷ u.0 ∷ []) (leads (t.0 ∷ u.0 ∷ []) (ap targets q)) (each_two m c t.0 u.0 d d') _ _ er ew
+    pub onward_choice : {u : BlockId} {w3 : List ℕ} {n3 : ℕ} → WalkDid (visit_of m c u.0) c.blocks w2 n2 w3 n3 → r ≡ IfTrue t u → Onward w3 n3
+    onward_choice {u} {w3} {n3} d' q = subst (λ (ts : List ℕ). WalkDid (Each m c ts) c.blocks (set w b 1) n w3 n3) (sym (ap targets q)) (each_two m c t.0 u.0 d d')
 
-  pub walk_return : r ≡ Return → {w' : List ℕ} {k : ℕ} → k ≡ n + 1 → w' ≡ set (set w b 1) (order_at + n) b → WalkDid (walk_of m c b) c.blocks w n w' k
-  walk_return q er ew = walk_end (ap targets q) er ew
-
-  pub walk_open : r ≡ Open → {w' : List ℕ} {k : ℕ} → k ≡ n + 1 → w' ≡ set (set w b 1) (order_at + n) b → WalkDid (walk_of m c b) c.blocks w n w' k
-  walk_open q er ew = walk_end (ap targets q) er ew
+  module _ {w2 : List ℕ} {n2 : ℕ} (d : Onward w2 n2) where
+    pub walk_is : {w' : List ℕ} {k : ℕ} → k ≡ n2 + 1 → w' ≡ set w2 (order_at + n2) b → WalkDid (walk_of m c b) c.blocks w n w' k
+    walk_is er ew = leave m c ok l e (targets r) (leads (targets r) refl) d _ _ er ew
 
   module _ (inn : WalkInside m c) {t : BlockId} where
     pub jump_inside : r ≡ Jump t → t.0 < c.blocks
@@ -226,7 +227,7 @@ module _ {m : List ℕ} {c : Counts} {w : List ℕ} {n b : ℕ} {r : Ends} (ok :
     pub else_inside : {u : BlockId} → r ≡ IfTrue u t → t.0 < c.blocks
     else_inside {u} q = inn.inside [] b t.0 l (rw (leads (u.0 ∷ t.0 ∷ []) (ap targets q) [], eq-eqb t.0 t.0 refl) (or-true (eqb t.0 u.0)))
 
--- after visits: what the next call asks
+-- after a visit: what the next call asks
 module _ (c : Counts) {w : List ℕ} {n b : ℕ} (ok : WalkGood c.blocks w n) (l : b < c.blocks) (e : get_or w b 0 ≡ 0) {F : List ℕ → ℕ → Walk → Walk}
     {w2 : List ℕ} {n2 : ℕ} (d : WalkDid F c.blocks (set w b 1) n w2 n2) where
   less : unseen (set w b 1) c.blocks + 1 ≡ unseen w c.blocks
@@ -234,35 +235,6 @@ module _ (c : Counts) {w : List ℕ} {n b : ℕ} (ok : WalkGood c.blocks w n) (l
 
   pub next-falls : (t : ℕ) → 2 * unseen w c.blocks ≡ t → 2 * unseen w2 c.blocks + 1 < t
   next-falls t f = omega (arith, d.fewer, less)
-
-  pub next-room : n2 < order_at
-  next-room = omega (arith, d.room, less, ok.room, ok.few)
-
-  pub last-room : {G : List ℕ → ℕ → Walk → Walk} {w3 : List ℕ} {n3 : ℕ} → WalkDid G c.blocks w2 n2 w3 n3 → n3 < order_at
-  last-room d' = omega (arith, d.room, d'.room, less, ok.room, ok.few)
-
--- ---- a visit
-
-module _ (m : List ℕ) (c : Counts) {w : List ℕ} {n b : ℕ} (ok : WalkGood c.blocks w n) (l : b < c.blocks) where
-  pub visit-new : {w' : List ℕ} {r : ℕ} → get_or w b 0 ≡ 0 → WalkDid (walk_of m c b) c.blocks w n w' r → WalkDid (visit_of m c b) c.blocks w n w' r
-  visit-new {w'} {r} e d =
-      record {
-        is = λ s f g v k. let q : any (eqb b) v ≡ false = k b l ∙ rw (eq-eqb (get_or w b 0) 0 e) in rw q (d.is s f g v k);
-        fewer = d.fewer;
-        room = d.room;
-        good = d.good;
-        len_same = d.len_same;
-      }
-
-  pub visit-old : (get_or w b 0 ≡ 0 → ⊥) → WalkDid (visit_of m c b) c.blocks w n w n
-  visit-old e =
-      record {
-        is = λ s f g v k. let q : any (eqb b) v ≡ true = k b l ∙ rw (ne_eqb (get_or w b 0) 0 e) in rw q (record { visited = k; order = refl });
-        fewer = omega arith;
-        room = omega arith;
-        good = ok;
-        len_same = refl;
-      }
 
 -- ---- from an entry
 

@@ -13,9 +13,8 @@ use Rattle.cursor.specs.Promises.{Out, done, stop, CursorAfter, CursorDid, Onwar
 use Rattle.program.specs.declared.Counts.{Counts}
 use Rattle.program.specs.Rows.{name_in}
 use Rattle.program.specs.declared.Name.{Name}
-use Rattle.cursor.specs.declared.Cursor.{Cursor}
-use Rattle.cursor.specs.declared.Ident.{Ident}
-use Rattle.cursor.specs.declared.Ident.TheVariants.{Found}
+use Rattle.cursor.specs.Cursor.{Cursor}
+use Rattle.cursor.specs.outcomes.Ident.{Ident, Found}
 
 -- ---- steps
 

@@ -20,7 +20,7 @@ use Rattle.program.specs.Rows.{opnds_in, opnd_of, op_in, given, name_in}
 use Rattle.program.specs.View as View
 use Rattle.program.specs.View.{program_view, limits_of, unchanged, insn_of, pushing_of, call_of, callee_in, more_insns, more_calls}
 use Rattle.program.specs.declared.Counts.{Counts}
-use Rattle.program.specs.declared.Limits.{Limits}
+use Rattle.program.specs.declared.bounds.Limits.{Limits}
 use Rattle.program.specs.declared.Name.{Name}
 use Rattle.program.specs.declared.Opnd.{Opnd}
 use Rattle.program.specs.declared.Opnd.TheVariants.{Insn}
@@ -30,16 +30,16 @@ use Rattle.program.specs.declared.Given.{Given}
 use Rattle.program.specs.declared.Given.TheVariants.{One, Two}
 use Rattle.program.specs.declared.Callee.{Callee}
 use Rattle.program.specs.declared.Callee.TheVariants.{Static, Dynamic}
-use Rattle.program.specs.declared.NewInsn.{NewInsn}
-use Rattle.program.specs.declared.NewInsn.TheVariants.{Added, Refused}
+use Rattle.std.specs.Prelude.{Result, Ok, Err}
+use Rattle.std.specs.declared.option.Option.{Option as Maybe}
+use Rattle.refusals.specs.declared.Refusal.{Refusal}
+use Rattle.refusals.specs.Refusals.{number_of}
 use Rattle.cursor.specs.Layout.{stack_at}
 use Rattle.cursor.specs.Cursor.{parser_of, receiver_of, waiting, count_cur}
 use Rattle.cursor.specs.Steps.{sets_ivar, gets_ivar, calls, reads_attr, weigh, suffix_of}
 use Rattle.cursor.specs.Promises.{Out, done, stop, CursorAdds, called_of, parsed_of}
-use Rattle.cursor.specs.declared.Cursor.{Cursor}
-use Rattle.cursor.specs.declared.SelfAt.{SelfAt}
-use Rattle.cursor.specs.declared.Parsed.{Parsed}
-use Rattle.cursor.specs.declared.Called.{Called}
+use Rattle.cursor.specs.Cursor.{Cursor}
+use Rattle.cursor.specs.outcomes.Parsed.{Parsed}
 use Rattle.cursor.specs.declared.Suffix.{Suffix}
 use Rattle.cursor.specs.declared.Suffix.TheVariants.{Operator, Call, Member, Ends}
 
@@ -56,20 +56,20 @@ module _ (s w m m' : List ℕ) (c : Cursor) (L : P.Limits) (op : P.Op) where
   unfolding push parser_of
   adds-stop e f = record { is = rw (← f); ok = tt }
 
-module _ (m m' : List ℕ) (c : Cursor) (l : Limits) (op : Op) (g : Given) (r : NewInsn)
-    (d : View.ProgramDid (pushing_of (limits_of l) c.block.0 op (given g)) unchanged c.counts.insns (more_insns op (length (given g)) c.counts) m c.counts m' (insn_of r)) where
-  pub push-done : (i : InsnId) (n : Counts) (c' : Cursor) → r ≡ Added i n → c' ≡ count_cur n c
-      → (s w : List ℕ) → CursorAdds s w (push (limits_of l) (op_in s op (map opnd_of (given g)))) m c m' (parsed_of (Parsed.Done c' (Insn i)))
-  push-done i n c' e f s w =
+module _ (m m' : List ℕ) (c : Cursor) (l : Limits) (op : Op) (g : Given) (n : Counts) (r : Result InsnId Refusal)
+    (d : View.ProgramDid (pushing_of (limits_of l) c.block.0 op (given g)) unchanged c.counts.insns (more_insns op (length (given g)) c.counts) m c.counts m' (insn_of n r)) where
+  pub push-done : (i : InsnId) → r ≡ Ok i
+      → (s w : List ℕ) → CursorAdds s w (push (limits_of l) (op_in s op (map opnd_of (given g)))) m c m' (parsed_of (Parsed.Done (count_cur n c) (Insn i)))
+  push-done i e s w =
       let h = rw e at d in
       let k = h.ok.counts in
-      rw f
-      (adds-grew s w m m' c (limits_of l) (op_in s op (map opnd_of (given g))) i.0 n h.ok.ready (ap (λ (x : Counts). x.functions) k)
-      (ap (λ (x : Counts). x.classes) k) (ap (λ (x : Counts). x.blocks) k) (h.is s (parser_of s m w c)))
+      adds-grew s w m m' c (limits_of l) (op_in s op (map opnd_of (given g))) i.0 n h.ok.ready (ap (λ (x : Counts). x.functions) k)
+      (ap (λ (x : Counts). x.classes) k) (ap (λ (x : Counts). x.blocks) k) (h.is s (parser_of s m w c))
 
-  pub push_stops : (e : ℕ) → r ≡ Refused e → (s w : List ℕ) → CursorAdds s w (push (limits_of l) (op_in s op (map opnd_of (given g)))) m c m' (parsed_of (Parsed.Refused e))
+  pub push_stops : (e : Refusal) → r ≡ Err e
+      → (s w : List ℕ) → CursorAdds s w (push (limits_of l) (op_in s op (map opnd_of (given g)))) m c m' (parsed_of (Parsed.Refused (number_of e)))
   push_stops e f s w =
-      let h = rw f at d in adds-stop s w m m' c (limits_of l) (op_in s op (map opnd_of (given g))) e (h.is s (parser_of s m w c))
+      let h = rw f at d in adds-stop s w m m' c (limits_of l) (op_in s op (map opnd_of (given g))) (number_of e) (h.is s (parser_of s m w c))
 
 call-functions : (k : Callee) (n : ℕ) (c : Counts) → (more_calls k n c).functions ≡ c.functions
 call-functions (Static f) n c = refl
@@ -83,23 +83,23 @@ call-blocks : (k : Callee) (n : ℕ) (c : Counts) → (more_calls k n c).blocks 
 call-blocks (Static f) n c = refl
 call-blocks (Dynamic v x) n c = refl
 
-module _ (w m m' : List ℕ) (c : Cursor) (l : Limits) (k : Callee) (n : ℕ) (r : NewInsn)
-    (d : View.ProgramDid (call_of (limits_of l) c.block.0 k (opnds_in w (stack_at + 2 * c.args) n)) unchanged c.counts.insns (more_calls k n c.counts) m c.counts m' (insn_of r)) where
-  pub call-done : (i : InsnId) (x : Counts) (c' : Cursor) → r ≡ Added i x → c' ≡ count_cur x c
-      → (s : List ℕ) → CursorAdds s w (push (limits_of l) (P.Send (callee_in s k) (waiting w c.args n))) m c m' (parsed_of (Parsed.Done c' (Insn i)))
+module _ (w m m' : List ℕ) (c : Cursor) (l : Limits) (k : Callee) (n : ℕ) (x : Counts) (r : Result InsnId Refusal)
+    (d : View.ProgramDid (call_of (limits_of l) c.block.0 k (opnds_in w (stack_at + 2 * c.args) n)) unchanged c.counts.insns (more_calls k n c.counts) m c.counts m' (insn_of x r)) where
+  pub call-done : (i : InsnId) → r ≡ Ok i
+      → (s : List ℕ) → CursorAdds s w (push (limits_of l) (P.Send (callee_in s k) (waiting w c.args n))) m c m' (parsed_of (Parsed.Done (count_cur x c) (Insn i)))
   unfolding waiting
-  call-done i x c' e f s =
+  call-done i e s =
       let h = rw e at d in
       let z = h.ok.counts in
-      rw f
-      (adds-grew s w m m' c (limits_of l) (P.Send (callee_in s k) (map opnd_of (opnds_in w (stack_at + 2 * c.args) n))) i.0 x h.ok.ready
+      adds-grew s w m m' c (limits_of l) (P.Send (callee_in s k) (map opnd_of (opnds_in w (stack_at + 2 * c.args) n))) i.0 x h.ok.ready
       (ap (λ (y : Counts). y.functions) z ∙ call-functions k n c.counts) (ap (λ (y : Counts). y.classes) z ∙ call-classes k n c.counts)
-      (ap (λ (y : Counts). y.blocks) z ∙ call-blocks k n c.counts) (h.is s (parser_of s m w c)))
+      (ap (λ (y : Counts). y.blocks) z ∙ call-blocks k n c.counts) (h.is s (parser_of s m w c))
 
-  pub call_stops : (e : ℕ) → r ≡ Refused e → (s : List ℕ) → CursorAdds s w (push (limits_of l) (P.Send (callee_in s k) (waiting w c.args n))) m c m' (parsed_of (Parsed.Refused e))
+  pub call_stops : (e : Refusal) → r ≡ Err e
+      → (s : List ℕ) → CursorAdds s w (push (limits_of l) (P.Send (callee_in s k) (waiting w c.args n))) m c m' (parsed_of (Parsed.Refused (number_of e)))
   unfolding waiting
   call_stops e f s =
-      let h = rw f at d in adds-stop s w m m' c (limits_of l) (P.Send (callee_in s k) (map opnd_of (opnds_in w (stack_at + 2 * c.args) n))) e (h.is s (parser_of s m w c))
+      let h = rw f at d in adds-stop s w m m' c (limits_of l) (P.Send (callee_in s k) (map opnd_of (opnds_in w (stack_at + 2 * c.args) n))) (number_of e) (h.is s (parser_of s m w c))
 
 -- ---- the receiver
 
@@ -124,22 +124,22 @@ module _ (L : P.Limits) (n : P.Name) (r : Parser) where
   unfolding gets_ivar
   gets_no e = rw e
 
-self_of : (s m w : List ℕ) (c : Cursor) {r : SelfAt} → c.receiver ≡ r → (parser_of s m w c).self ≡ receiver_of r
+self_of : (s m w : List ℕ) (c : Cursor) {r : Maybe InsnId} → c.receiver ≡ r → (parser_of s m w c).self ≡ receiver_of r
 unfolding parser_of
 self_of s m w c e = ap receiver_of e
 
 module _ (m m' : List ℕ) (c : Cursor) (l : Limits) (n : Name) (o : Out P.Opnd) where
-  pub set-yes : (v : Opnd) (i : InsnId) → c.receiver ≡ SelfAt.At i
+  pub set-yes : (v : Opnd) (i : InsnId) → c.receiver ≡ Maybe.Some i
       → ((s w : List ℕ) → CursorAdds s w (push (limits_of l) (op_in s (SetIvar n) (map opnd_of (given (Two (Insn i) v))))) m c m' o)
       → (s w : List ℕ) → CursorAdds s w (sets_ivar (limits_of l) (name_in s n) (opnd_of v)) m c m' o
   set-yes v i e a s w = same-adds (a s w) (sets-yes (limits_of l) (name_in s n) (parser_of s m w c) (opnd_of v) i.0 (self_of s m w c e))
 
-  pub get_yes : (i : InsnId) → c.receiver ≡ SelfAt.At i
+  pub get_yes : (i : InsnId) → c.receiver ≡ Maybe.Some i
       → ((s w : List ℕ) → CursorAdds s w (push (limits_of l) (op_in s (GetIvar n) (map opnd_of (given (One (Insn i)))))) m c m' o)
       → (s w : List ℕ) → CursorAdds s w (gets_ivar (limits_of l) (name_in s n)) m c m' o
   get_yes i e a s w = same-adds (a s w) (gets-yes (limits_of l) (name_in s n) (parser_of s m w c) i.0 (self_of s m w c e))
 
-module _ (m m' : List ℕ) (c : Cursor) (l : Limits) (n : Name) (e : c.receiver ≡ SelfAt.Nobody) where
+module _ (m m' : List ℕ) (c : Cursor) (l : Limits) (n : Name) (e : c.receiver ≡ Maybe.None) where
   pub set_no : (v : Opnd) → (s w : List ℕ) → CursorAdds s w (sets_ivar (limits_of l) (name_in s n) (opnd_of v)) m c m' (parsed_of (Parsed.Refused 9))
   set_no v s w = record { is = sets_no (limits_of l) (name_in s n) (parser_of s m w c) (opnd_of v) (self_of s m w c e); ok = tt }
 
@@ -176,39 +176,33 @@ module _ (L : P.Limits) (v : P.Opnd) (l : List P.Opnd) (r : Parser) where
   unfolding calls
   calls_no e = rw (← e)
 
-module _ (w m m' : List ℕ) (c : Cursor) (l : Limits) (v : Opnd) (n : ℕ) (q : Called) (t : called_of q ≡ constant_of function_in (opnd_of v)) where
-  pub bare_yes : (o : Out P.Opnd) (f : FunId) → q ≡ Called.Fun f
+module _ (w m m' : List ℕ) (c : Cursor) (l : Limits) (v : Opnd) (n : ℕ) (q : Maybe FunId) (t : called_of q ≡ constant_of function_in (opnd_of v)) where
+  pub bare_yes : (o : Out P.Opnd) (f : FunId) → q ≡ Maybe.Some f
       → ((s : List ℕ) → CursorAdds s w (push (limits_of l) (P.Send (callee_in s (Static f)) (waiting w c.args n))) m c m' o)
       → (s : List ℕ) → CursorAdds s w (calls (limits_of l) (opnd_of v) (waiting w c.args n)) m c m' o
   bare_yes o f e a s = same-adds (a s) (calls-yes (limits_of l) (opnd_of v) (waiting w c.args n) (parser_of s m w c) f.0 (sym (ap called_of e) ∙ t))
 
-  pub bare_no : q ≡ Called.Other → (s : List ℕ) → CursorAdds s w (calls (limits_of l) (opnd_of v) (waiting w c.args n)) m c m' (parsed_of (Parsed.Refused 8))
+  pub bare_no : q ≡ Maybe.None → (s : List ℕ) → CursorAdds s w (calls (limits_of l) (opnd_of v) (waiting w c.args n)) m c m' (parsed_of (Parsed.Refused 8))
   bare_no e s = record { is = calls_no (limits_of l) (opnd_of v) (waiting w c.args n) (parser_of s m w c) (sym (ap called_of e) ∙ t); ok = tt }
 
 -- ---- what stands behind an operand
-
-pub weigh_weak : (o : Arith) (n right prec : ℕ) → n < prec → Ends ≡ weigh o n right prec
-weigh_weak o n right prec l = rw (lt-ltb n prec l)
-
-pub weigh_strong : (o : Arith) (n right prec : ℕ) → prec ≤ n → Operator o right ≡ weigh o n right prec
-weigh_strong o n right prec l = rw (le-ltb n prec l)
 
 module _ (k prec : ℕ) (r : Suffix) where
   pub suffix_1 : k ≡ 60 → r ≡ weigh Less 0 1 prec → r ≡ suffix_of k prec
   unfolding suffix_of
   suffix_1 a e = rw a e
 
-  pub suffix_2 : (k ≡ 60 → ⊥) → k ≡ 43 → r ≡ weigh Add 1 1 prec → r ≡ suffix_of k prec
+  pub suffix_2 : k ≡ 43 → r ≡ weigh Add 1 1 prec → r ≡ suffix_of k prec
   unfolding suffix_of
-  suffix_2 a b e = rw b e
+  suffix_2 b e = rw b e
 
-  pub suffix_3 : (k ≡ 60 → ⊥) → (k ≡ 43 → ⊥) → k ≡ 45 → r ≡ weigh Sub 1 2 prec → r ≡ suffix_of k prec
+  pub suffix_3 : k ≡ 45 → r ≡ weigh Sub 1 2 prec → r ≡ suffix_of k prec
   unfolding suffix_of
-  suffix_3 a b d e = rw d e
+  suffix_3 d e = rw d e
 
-  pub suffix_4 : (k ≡ 60 → ⊥) → (k ≡ 43 → ⊥) → (k ≡ 45 → ⊥) → k ≡ 42 → r ≡ weigh Mul 3 3 prec → r ≡ suffix_of k prec
+  pub suffix_4 : k ≡ 42 → r ≡ weigh Mul 3 3 prec → r ≡ suffix_of k prec
   unfolding suffix_of
-  suffix_4 a b d f e = rw f e
+  suffix_4 f e = rw f e
 
 pub suffix_5 : (k prec : ℕ) → k ≡ 40 → Call ≡ suffix_of k prec
 unfolding suffix_of

@@ -1,3 +1,5 @@
 pub mod Laws
 pub mod Wording
 pub mod Leaves
+pub mod Tried
+pub mod Kept

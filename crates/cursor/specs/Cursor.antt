@@ -1,7 +1,11 @@
 -- The parser's state as script, tables, scratch memory and cursor hold it, and what every reader may rely on. Assumes nothing.
 -- Scratch memory: the variables' two columns, and behind them the stack of call arguments that wait for their call, two words each.
 use Rattle.std.specs.Prelude.{◌≡◌, List, map, ℕ, ◌+◌, ◌*◌, ◌≤◌, ◌<◌, length, get_or}
-use Rattle.std.proofs.Math.Option.{Option, none, some}
+use Rattle.std.specs.Prelude.{Option, None, Some}
+use Rattle.std.proofs.Math.Option as M
+use Rattle.ids.specs.declared.BlockId.{BlockId}
+use Rattle.ids.specs.declared.ClassId.{ClassId}
+use Rattle.ids.specs.declared.InsnId.{InsnId}
 use Rattle.rules.specs.Program as P
 use Rattle.rules.specs.Reading.{Parser}
 use Rattle.variables.specs.Memory.{entry, vars}
@@ -12,13 +16,22 @@ use Rattle.program.specs.declared.Counts.{Counts}
 use Rattle.memory.specs.Layout.{script_most}
 use Rattle.variables.specs.Layout.{bindings_most}
 use Rattle.cursor.specs.Layout.{stack_at, scratch_size}
-use Rattle.cursor.specs.declared.Cursor.{Cursor}
-use Rattle.cursor.specs.declared.SelfAt.{SelfAt}
-use Rattle.cursor.specs.declared.SelfAt.TheVariants.{At, Nobody}
 
-abbrev pub receiver_of : SelfAt → Option ℕ
-receiver_of (At i) = some i.0
-receiver_of Nobody = none
+-- The place in the script; the tables' counts; the class and the receiver of the method being read; the block that takes
+-- instructions; how many variables are bound, where the rows set aside end, how many call arguments wait.
+pub record Cursor : Type 0 where
+  pub at : ℕ
+  pub counts : Counts
+  pub class : Option ClassId
+  pub receiver : Option InsnId
+  pub block : BlockId
+  pub vars : ℕ
+  pub aside : ℕ
+  pub args : ℕ
+
+abbrev pub receiver_of : Option InsnId → M.Option ℕ
+receiver_of (Some i) = M.some i.0
+receiver_of None = M.none
 
 unfoldable pub parser_of : List ℕ → List ℕ → List ℕ → Cursor → Parser
 parser_of s m w c =

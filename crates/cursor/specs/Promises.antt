@@ -1,13 +1,16 @@
 -- What every reader promises: it does as the rules' action does. Assumes nothing.
-use Rattle.std.specs.Prelude.{Bool as 𝔹, true, false, ◌≡◌, List, [], ◌∷◌, ℕ, ◌+◌, ◌*◌, ◌≤◌, ◌<◌, eqb, length, get_or}
-use Rattle.std.proofs.Math.Option.{Option, none, some}
+use Rattle.std.specs.Prelude.{Bool as 𝔹, true, false, ◌≡◌, List, [], ◌∷◌, ℕ, ◌+◌, ◌*◌, ◌≤◌, ◌<◌, length, get_or}
+use Rattle.std.specs.Prelude.{Option, None, Some, Result}
+use Rattle.std.proofs.Math.Option as M
+use Rattle.refusals.specs.declared.Refusal.{Refusal}
 use Prim.Native.String.{String}
 use Rattle.rules.specs.Actions.{Answer, answered, refused, ◌>>=◌, ◌>>◌, give, ask, when◌then◌else◌}
 use Rattle.rules.specs.Lists.{bytes, same}
 use Rattle.rules.specs.Program as P
 use Rattle.rules.specs.Reading.{Parser, Reads, peek, pass, next, expect, expect_ident, match_token}
-use Rattle.lexer.specs.Lexed.{kind_of, Lexes}
-use Rattle.lexer.specs.declared.Lexed.{Lexed}
+use Rattle.lexer.specs.Lexed.{token_of, same_token, Lexes}
+use Rattle.lexer.specs.declared.Token.{Token}
+use Rattle.lexer.specs.declared.Word.{Word}
 use Rattle.program.specs.Rows.{opnd_of, name_in}
 use Rattle.variables.specs.Memory.{entry}
 use Rattle.program.specs.View as View
@@ -16,15 +19,14 @@ use Rattle.program.specs.declared.Opnd.{Opnd}
 use Rattle.program.specs.declared.Name.{Name}
 use Rattle.variables.specs.Layout.{bindings_most, entries_most}
 use Rattle.cursor.specs.Layout.{stack_at}
-use Rattle.cursor.specs.Cursor.{parser_of, move_cur, count_cur, bind_cur, stack_cur, In, CursorStep}
+use Rattle.cursor.specs.Cursor.{Cursor, parser_of, move_cur, count_cur, bind_cur, stack_cur, In, CursorStep}
 use Rattle.cursor.specs.Steps.{assigns}
-use Rattle.cursor.specs.declared.Cursor.{Cursor}
-use Rattle.cursor.specs.declared.Parsed.{Parsed}
-use Rattle.cursor.specs.declared.Parsed.TheVariants.{Done, Refused}
-use Rattle.cursor.specs.declared.Moved.{Moved}
-use Rattle.cursor.specs.declared.Ident.{Ident}
-use Rattle.cursor.specs.declared.Matched.{Matched}
-use Rattle.cursor.specs.declared.Called.{Called}
+use Rattle.cursor.specs.outcomes.Parsed.{Parsed}
+use Rattle.cursor.specs.outcomes.Parsed.{Done, Refused}
+use Rattle.cursor.specs.outcomes.Moved.{Moved}
+use Rattle.cursor.specs.outcomes.Ident.{Ident}
+use Rattle.cursor.specs.outcomes.Matched.{Matched}
+use Rattle.ids.specs.declared.FunId.{FunId}
 
 -- a value and the cursor behind it, or the number of a refusal
 pub data Out (A : Type 0) : Type 0 where
@@ -83,9 +85,9 @@ abbrev pub ident_of : List ℕ → Ident → Out P.Name
 ident_of s (Ident.Found c n) = done (name_in s n) c
 ident_of s (Ident.Refused e) = stop e
 
-abbrev pub called_of : Called → Option ℕ
-called_of (Called.Fun f) = some f.0
-called_of Called.Other = none
+abbrev pub called_of : Option FunId → M.Option ℕ
+called_of (Some f) = M.some f.0
+called_of None = M.none
 
 -- where the word is another, nothing moves
 abbrev pub matched_of : Cursor → Matched → Out 𝔹
@@ -94,37 +96,37 @@ matched_of c Matched.Not = done false c
 matched_of c (Matched.Refused e) = stop e
 
 -- the next word
-pub record Sees (s : List ℕ) (c : Cursor) (r : Lexed) : Type 0 where
+pub record Sees (s : List ℕ) (c : Cursor) (r : Result Word Refusal) : Type 0 where
   pub lexes : Lexes s c.at r
 
--- k is the kind of just the words that have the text t
-abbrev pub Spelt : ℕ → String → Type 0
-Spelt k t = (x : List ℕ) → same x (bytes t) ≡ eqb (kind_of x) k
+-- k is the token of just the words that have the text t
+abbrev pub Spelt : Token → String → Type 0
+Spelt k t = (x : List ℕ) → same x (bytes t) ≡ same_token (token_of x) k
 
--- the rules' `match_token` and `expect`, asked of the word's kind. Words of kind 1 and 2 have many texts, and some numbers are no word's kind; these say what
--- is done there too. Where a text is spelt by the kind they are the rules' own
-unfoldable pub match_kind : List ℕ → ℕ → Reads 𝔹
+-- the rules' `match_token` and `expect`, asked of the word's token. Names and literals have many texts, and some signs are no word; these say what is done
+-- there too. Where a text is spelt by the token they are the rules' own
+unfoldable pub match_kind : List ℕ → Token → Reads 𝔹
 match_kind s k = do
   w ← peek s
-  when eqb (kind_of w.text) k then (do
+  when same_token (token_of w.text) k then (do
     pass s
     give true) else give false
 
-unfoldable pub expect_kind : List ℕ → ℕ → Reads (Unit {0})
+unfoldable pub expect_kind : List ℕ → Token → Reads (Unit {0})
 expect_kind s k = do
   w ← next s
-  ask 5 (eqb (kind_of w.text) k)
+  ask 5 (same_token (token_of w.text) k)
 
 -- a name, which lies inside of the script
 pub record Idents (s : List ℕ) (c : Cursor) (r : Ident) : Type 0 where
   pub moves : Moves (expect_ident s) 1 s c (ident_of s r)
   pub inside : (c' : Cursor) (n : Name) → r ≡ Ident.Found c' n → c.at ≤ length s → n.start + n.len ≤ length s
 
-pub record Expects (s : List ℕ) (k : ℕ) (c : Cursor) (r : Moved) : Type 0 where
+pub record Expects (s : List ℕ) (k : Token) (c : Cursor) (r : Moved) : Type 0 where
   pub takes : Moves (expect_kind s k) 1 s c (moved_of r)
   pub moves : (t : String) → Spelt k t → Moves (expect s t) 1 s c (moved_of r)
 
-pub record CursorMatches (s : List ℕ) (k : ℕ) (c : Cursor) (r : Matched) : Type 0 where
+pub record CursorMatches (s : List ℕ) (k : Token) (c : Cursor) (r : Matched) : Type 0 where
   pub takes : Moves (match_kind s k) 0 s c (matched_of c r)
   pub moves : (t : String) → Spelt k t → Moves (match_token s t) 0 s c (matched_of c r)
   pub further : (c' : Cursor) → r ≡ Matched.Yes c' → c.at < c'.at

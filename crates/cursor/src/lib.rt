@@ -1,76 +1,47 @@
-// The parser's state, and its steps that read no expression.
+// The parser, and its steps that read no expression.
 #![tactic(auto)]
 
 pub mod terms;
 
-ghost use Rattle.std.specs.Prelude.{◌≡◌, List, map, ℕ, ◌+◌, ◌≤◌, ◌<◌, pos, length};
+ghost use Rattle.std.specs.Prelude.{◌≡◌, List, map, ℕ, ◌+◌, ◌≤◌, ◌<◌, pos, length, Ok};
 ghost use Rattle.kinds.specs.declared.Kind.TheVariants.{Num};
+ghost use Rattle.lexer.specs.declared.Token.TheVariants.{EndOfText};
 ghost use Rattle.rules.specs.Program as P;
 ghost use Rattle.rules.specs.Values.{function_in, class_in};
 ghost use Rattle.rules.specs.Reading.{constant_of, push as push_of};
-ghost use Rattle.lexer.specs.declared.Lexed.TheVariants.{Found};
 ghost use Rattle.program.specs.Rows.{opnd_of, op_in, given, name_in, owner_in};
-ghost use Rattle.program.specs.View.{Small, limits_of, callee_in};
+ghost use Rattle.program.specs.View.{limits_of, callee_in};
 ghost use Rattle.memory.specs.Layout.{operands_most};
 ghost use Rattle.cursor.specs.Layout.{scratch_size};
-ghost use Rattle.cursor.specs.Cursor.{waiting, move_cur, count_cur, stack_cur, Open};
+ghost use Rattle.cursor.specs.Cursor.{waiting};
 ghost use Rattle.cursor.specs.Steps.{sets_ivar, gets_ivar, calls, reads_attr, suffix_of, weigh as weigh_of};
-ghost use Rattle.cursor.specs.Promises.{Sees, Idents, Expects, CursorMatches, CursorAdds, Stacks, parsed_of, called_of};
+ghost use Rattle.cursor.specs.Promises.{Sees, CursorAdds, Stacks, called_of};
+ghost use Rattle.cursor.specs.Parsers.{cursor_of, CanAdd, ParserKept, AddsKept, ParserIdents, ParserExpects, ParserMatches, operand};
 
-use ids::{BlockId, FunId, InsnId};
+use ids::{BlockId, ClassId, FunId, InsnId};
 use kinds::{Arith, Kind};
-use lexer::{Glimpse, Lexed, Word};
-use program::{Callee, Counts, Given, Limits, Name, NewInsn, Op, Opnd, Owner};
+use lexer::{Token, Word};
+use program::{Callee, Draft, Given, Name, Op, Opnd};
+use refusals::Refusal;
 
 // Where the stack of call arguments starts in scratch memory.
 pub const STACK: usize = variables::SIZE;
 
-// The SelfParam of the method being read.
-#[derive(Clone, Copy)]
-pub enum SelfAt {
-    At(InsnId),
-    Nobody,
-}
-
-// The place in the script; the tables' counts; the class and the receiver of the method being read; the block that takes
-// instructions; how many variables are bound, where the rows set aside end, how many call arguments wait.
-#[derive(Clone, Copy)]
-pub struct Cursor {
+// A script, the program that is read from it, the scratch memory of the reading, and the place in the script; the class and the
+// receiver of the method being read; the block that takes instructions; how many variables are bound, where the rows set aside
+// end, how many call arguments wait.
+#[derive(Drop)]
+pub struct Parser<'a> {
+    pub script: &'a [u8],
+    pub program: Draft<'a>,
+    pub scratch: &'a mut [usize],
     pub at: usize,
-    pub counts: Counts,
-    pub class: Owner,
-    pub receiver: SelfAt,
+    pub class: Option<ClassId>,
+    pub receiver: Option<InsnId>,
     pub block: BlockId,
     pub vars: usize,
     pub aside: usize,
     pub args: usize,
-}
-
-// An operand and the cursor behind it, or the number of a refusal.
-#[derive(Clone, Copy)]
-pub enum Parsed {
-    Done(Cursor, Opnd),
-    Refused(usize),
-}
-
-#[derive(Clone, Copy)]
-pub enum Moved {
-    On(Cursor),
-    Refused(usize),
-}
-
-#[derive(Clone, Copy)]
-pub enum Ident {
-    Found(Cursor, Name),
-    Refused(usize),
-}
-
-// Whether the next word is the one asked for; if so it is taken.
-#[derive(Clone, Copy)]
-pub enum Matched {
-    Yes(Cursor),
-    Not,
-    Refused(usize),
 }
 
 // What stands behind an operand.
@@ -82,120 +53,83 @@ pub enum Suffix {
     Ends,
 }
 
-// The function that an operand names.
-#[derive(Clone, Copy)]
-pub enum Called {
-    Fun(FunId),
-    Other,
-}
-
-pub fn move_to(cursor: Cursor, at: usize) -> Cursor
-    ensures { result ≡ move_cur at cursor }
-{
-    let counts = cursor.counts;
-    let class = cursor.class;
-    let receiver = cursor.receiver;
-    let block = cursor.block;
-    Cursor {
-        at,
-        counts,
-        class,
-        receiver,
-        block,
-        vars: cursor.vars,
-        aside: cursor.aside,
-        args: cursor.args,
-    }
-}
-
 // ---- words: read only when they are looked at
 
-pub fn peek(script: &[u8], cursor: Cursor) -> Lexed
-    ensures { Sees script.now cursor result }
-{
-    lexer::read_word(script, cursor.at)
-}
+impl<'a> Parser<'a> {
+    pub fn peek(&self) -> Result<Word, Refusal>
+        ensures { Sees self.now.script.now (cursor_of self.now) result }
+    {
+        lexer::read_word(self.script, self.at)
+    }
 
-// The name that the next word x is.
-pub fn ident_of(cursor: Cursor, x: Word) -> Ident
-    ensures { (s : List ℕ) → Sees s cursor (Found x) → Idents s cursor result }
-{
-    if x.kind == lexer::NAME {
-        Ident::Found(
-            move_to(cursor, x.next),
-            Name {
+    // The name that the next word x is.
+    pub fn take_name(&mut self, x: Word) -> Result<Name, Refusal>
+        ensures { Sees self.old.script.now (cursor_of self.old) (Ok x) → ParserIdents self.old self.new result }
+    {
+        if x.token == Token::Name {
+            self.at = x.next;
+            return Ok(Name {
                 start: x.start,
                 len: x.len,
-            },
-        )
-    } else {
-        Ident::Refused(5)
-    }
-}
-
-pub fn expect_ident(script: &[u8], cursor: Cursor) -> Ident
-    ensures { Idents script.now cursor result }
-{
-    match peek(script, cursor) {
-        Lexed::Found(w) => ident_of(cursor, w),
-        Lexed::Refused(e) => Ident::Refused(e),
-    }
-}
-
-fn match_word(script: &[u8], cursor: Cursor, k: u8) -> Matched
-    requires { 0 < k }
-    ensures { CursorMatches script.now k cursor result }
-{
-    match peek(script, cursor) {
-        Lexed::Found(w) => {
-            if w.kind == k {
-                Matched::Yes(move_to(cursor, w.next))
-            } else {
-                Matched::Not
-            }
+            });
         }
-        Lexed::Refused(e) => Matched::Refused(e),
+        Err(Refusal::UnexpectedWord)
     }
-}
 
-// The same of a sign, for which a glance is enough.
-fn match_sign(script: &[u8], cursor: Cursor, k: u8) -> Matched
-    requires { 10 ≤ k }
-    ensures { CursorMatches script.now k cursor result }
-{
-    match lexer::glance(script, cursor.at) {
-        Glimpse::Sign(b, next) => {
-            if b == k {
-                Matched::Yes(move_to(cursor, next))
-            } else {
-                Matched::Not
-            }
+    pub fn expect_ident(&mut self) -> Result<Name, Refusal>
+        ensures { ParserIdents self.old self.new result }
+    {
+        let x = self.peek()?;
+        self.take_name(x)
+    }
+
+    fn match_word(&mut self, k: Token) -> Result<bool, Refusal>
+        requires { k ≡ EndOfText → ⊥ }
+        ensures { ParserMatches k self.old self.new result }
+    {
+        let x = self.peek()?;
+        if x.token == k {
+            self.at = x.next;
+            return Ok(true);
         }
-        Glimpse::Other => Matched::Not,
-        Glimpse::Refused(e) => Matched::Refused(e),
+        Ok(false)
     }
-}
 
-pub fn match_token(script: &[u8], cursor: Cursor, k: u8) -> Matched
-    requires { 0 < k }
-    ensures { CursorMatches script.now k cursor result }
-{
-    if k < lexer::SIGNS {
-        match_word(script, cursor, k)
-    } else {
-        match_sign(script, cursor, k)
+    // The same of a sign, for which a glance is enough.
+    fn match_sign(&mut self, k: u8) -> Result<bool, Refusal>
+        ensures { ParserMatches (Token.Sign k) self.old self.new result }
+    {
+        let Some((b, next)) = lexer::glance(self.script, self.at)? else {
+            return Ok(false);
+        };
+        if b == k {
+            self.at = next;
+            return Ok(true);
+        }
+        Ok(false)
     }
-}
 
-// The word of kind k is taken.
-pub fn expect(script: &[u8], cursor: Cursor, k: u8) -> Moved
-    requires { 0 < k }
-    ensures { Expects script.now k cursor result }
-{
-    match match_token(script, cursor, k) {
-        Matched::Yes(c1) => Moved::On(c1),
-        Matched::Not => Moved::Refused(5),
-        Matched::Refused(e) => Moved::Refused(e),
+    // Whether the next word is the one asked for; if so it is taken.
+    pub fn match_token(&mut self, k: Token) -> Result<bool, Refusal>
+        requires { k ≡ EndOfText → ⊥ }
+        ensures { ParserMatches k self.old self.new result }
+    {
+        if let Token::Sign(b) = k {
+            return self.match_sign(b);
+        }
+        self.match_word(k)
+    }
+
+    // The word k is taken.
+    pub fn expect(&mut self, k: Token) -> Result<(), Refusal>
+        requires { k ≡ EndOfText → ⊥ }
+        ensures { ParserExpects k self.old self.new result }
+    {
+        if self.match_token(k)? {
+            Ok(())
+        } else {
+            Err(Refusal::UnexpectedWord)
+        }
     }
 }
 
@@ -209,29 +143,19 @@ pub fn number(n: u64) -> Opnd
     Opnd::Const(Kind::Num(n as i64))
 }
 
-// What the kind of the word behind an operand leads to, where operators bind at least as tightly as prec.
+// What the sign behind an operand leads to, where operators bind at least as tightly as prec.
 pub fn suffix_of(k: u8, prec: usize) -> Suffix
     ensures { result ≡ suffix_of k prec }
 {
-    if k == b'<' {
-        return weigh(Arith::Less, 0, 1, prec);
+    match k {
+        b'<' => weigh(Arith::Less, 0, 1, prec),
+        b'+' => weigh(Arith::Add, 1, 1, prec),
+        b'-' => weigh(Arith::Sub, 1, 2, prec),
+        b'*' => weigh(Arith::Mul, 3, 3, prec),
+        b'(' => Suffix::Call,
+        b'.' => Suffix::Member,
+        _ => Suffix::Ends,
     }
-    if k == b'+' {
-        return weigh(Arith::Add, 1, 1, prec);
-    }
-    if k == b'-' {
-        return weigh(Arith::Sub, 1, 2, prec);
-    }
-    if k == b'*' {
-        return weigh(Arith::Mul, 3, 3, prec);
-    }
-    if k == b'(' {
-        return Suffix::Call;
-    }
-    if k == b'.' {
-        return Suffix::Member;
-    }
-    Suffix::Ends
 }
 
 fn weigh(o: Arith, n: usize, right: usize, prec: usize) -> Suffix
@@ -244,231 +168,114 @@ fn weigh(o: Arith, n: usize, right: usize, prec: usize) -> Suffix
     }
 }
 
-// ---- additions
-
-pub fn counted(cursor: Cursor, counts: Counts) -> Cursor
-    ensures { result ≡ count_cur counts cursor }
-{
-    let class = cursor.class;
-    let receiver = cursor.receiver;
-    let block = cursor.block;
-    Cursor {
-        at: cursor.at,
-        counts,
-        class,
-        receiver,
-        block,
-        vars: cursor.vars,
-        aside: cursor.aside,
-        args: cursor.args,
-    }
-}
-
-// An instruction that is no call, in the block that takes instructions; its result as an operand.
-pub fn push(program: &mut [usize], cursor: Cursor, limits: Limits, op: Op, g: Given) -> Parsed
-    requires fact { Open program.old cursor }
-    requires small { Small limits }
-    ensures { (s w : List ℕ) → CursorAdds s w (push_of (limits_of limits) (op_in s op (map opnd_of (given g)))) program.old cursor program.new (parsed_of result) }
-{
-    let counts = cursor.counts;
-    let b = cursor.block;
-    match program::push_insn(program, counts, limits, b, op, g) {
-        NewInsn::Added(i, n) => Parsed::Done(counted(cursor, n), Opnd::Insn(i)),
-        NewInsn::Refused(e) => Parsed::Refused(e),
-    }
-}
-
-// A call with the n arguments that stand behind those that wait.
-pub fn push_call(
-    program: &mut [usize],
-    scratch: &[usize],
-    cursor: Cursor,
-    limits: Limits,
-    callee: Callee,
-    n: usize,
-) -> Parsed
-    requires fact { Open program.old cursor }
-    requires small { Small limits }
-    requires scratch_size_in_bounds { (scratch_size ≤ length scratch.now) × (cursor.args + n ≤ operands_most) }
-    ensures { (s : List ℕ) → CursorAdds s scratch.now
-        (push_of (limits_of limits) (P.Send (callee_in s callee) (waiting scratch.now cursor.args n))) program.old cursor
-        program.new (parsed_of result) }
-{
-    let counts = cursor.counts;
-    let b = cursor.block;
-    match program::push_call(
-        program,
-        counts,
-        limits,
-        b,
-        callee,
-        scratch,
-        STACK + 2 * cursor.args,
-        n,
-    ) {
-        NewInsn::Added(i, d) => Parsed::Done(counted(cursor, d), Opnd::Insn(i)),
-        NewInsn::Refused(e) => Parsed::Refused(e),
-    }
-}
-
-// The attribute n of the receiver is set.
-pub fn set_ivar(program: &mut [usize], cursor: Cursor, limits: Limits, n: Name, v: Opnd) -> Parsed
-    requires fact { Open program.old cursor }
-    requires small { Small limits }
-    ensures { (s w : List ℕ) → CursorAdds s w (sets_ivar (limits_of limits) (name_in s n) (opnd_of v)) program.old cursor program.new (parsed_of result) }
-{
-    let receiver = cursor.receiver;
-    match receiver {
-        SelfAt::At(i) => push(
-            program,
-            cursor,
-            limits,
-            Op::SetIvar(n),
-            Given::Two(Opnd::Insn(i), v),
-        ),
-        SelfAt::Nobody => Parsed::Refused(9),
-    }
-}
-
-// The attribute n of the receiver is read.
-pub fn get_ivar(program: &mut [usize], cursor: Cursor, limits: Limits, n: Name) -> Parsed
-    requires fact { Open program.old cursor }
-    requires small { Small limits }
-    ensures { (s w : List ℕ) → CursorAdds s w (gets_ivar (limits_of limits) (name_in s n)) program.old cursor program.new (parsed_of result) }
-{
-    let receiver = cursor.receiver;
-    match receiver {
-        SelfAt::At(i) => push(
-            program,
-            cursor,
-            limits,
-            Op::GetIvar(n),
-            Given::One(Opnd::Insn(i)),
-        ),
-        SelfAt::Nobody => Parsed::Refused(9),
-    }
-}
-
-// The attribute n of v is read, which `new` can't be.
-pub fn read_attr(
-    script: &[u8],
-    program: &mut [usize],
-    cursor: Cursor,
-    limits: Limits,
-    v: Opnd,
-    n: Name,
-) -> Parsed
-    requires fact { Open program.old cursor }
-    requires small { Small limits }
-    ensures { (w : List ℕ) → CursorAdds script.now w (reads_attr (limits_of limits) (opnd_of v) (name_in script.now n))
-        program.old cursor program.new (parsed_of result) }
-{
-    if lexer::spells(script, n.start, n.len, b"new") {
-        return Parsed::Refused(8);
-    }
-    push(program, cursor, limits, Op::GetIvar(n), Given::One(v))
-}
-
-fn fun_in(k: Kind) -> Called
-    ensures { called_of result ≡ function_in k }
-{
-    match k {
-        Kind::Empty => Called::Other,
-        Kind::Nil => Called::Other,
-        Kind::Num(_) => Called::Other,
-        Kind::Truth(_) => Called::Other,
-        Kind::Fun(f) => Called::Fun(f),
-        Kind::Class(_) => Called::Other,
-        Kind::Int => Called::Other,
-        Kind::Bool => Called::Other,
-        Kind::Objects(_) => Called::Other,
-        Kind::Any => Called::Other,
-    }
-}
-
-fn class_in(k: Kind) -> Owner
-    ensures { owner_in result ≡ class_in k }
-{
-    match k {
-        Kind::Empty => Owner::Nobody,
-        Kind::Nil => Owner::Nobody,
-        Kind::Num(_) => Owner::Nobody,
-        Kind::Truth(_) => Owner::Nobody,
-        Kind::Fun(_) => Owner::Nobody,
-        Kind::Class(c) => Owner::Class(c),
-        Kind::Int => Owner::Nobody,
-        Kind::Bool => Owner::Nobody,
-        Kind::Objects(_) => Owner::Nobody,
-        Kind::Any => Owner::Nobody,
-    }
-}
-
-fn fun_named_by(v: Opnd) -> Called
+// The function that an operand names.
+fn fun_named_by(v: Opnd) -> Option<FunId>
     ensures { called_of result ≡ constant_of function_in (opnd_of v) }
 {
     match v {
-        Opnd::Const(k) => fun_in(k),
-        Opnd::Insn(_) => Called::Other,
+        Opnd::Const(Kind::Fun(f)) => Some(f),
+        _ => None,
     }
 }
 
 // The class that an operand names.
-pub fn class_named_by(v: Opnd) -> Owner
+pub fn class_named_by(v: Opnd) -> Option<ClassId>
     ensures { owner_in result ≡ constant_of class_in (opnd_of v) }
 {
     match v {
-        Opnd::Const(k) => class_in(k),
-        Opnd::Insn(_) => Owner::Nobody,
+        Opnd::Const(Kind::Class(k)) => Some(k),
+        _ => None,
     }
 }
 
-// A call of the function that v names.
-pub fn bare_call(
-    program: &mut [usize],
-    scratch: &[usize],
-    cursor: Cursor,
-    limits: Limits,
-    v: Opnd,
-    n: usize,
-) -> Parsed
-    requires fact { Open program.old cursor }
-    requires small { Small limits }
-    requires scratch_size_in_bounds { (scratch_size ≤ length scratch.now) × (cursor.args + n ≤ operands_most) }
-    ensures { (s : List ℕ) → CursorAdds s scratch.now
-        (calls (limits_of limits) (opnd_of v) (waiting scratch.now cursor.args n)) program.old cursor program.new
-        (parsed_of result) }
-{
-    match fun_named_by(v) {
-        Called::Fun(f) => push_call(program, scratch, cursor, limits, Callee::Static(f), n),
-        Called::Other => Parsed::Refused(8),
+// ---- additions
+
+impl<'a> Parser<'a> {
+    // An instruction that is no call, in the block that takes instructions; its result as an operand.
+    pub fn push(&mut self, op: Op, g: Given) -> Result<Opnd, Refusal>
+        requires { CanAdd self.old }
+        ensures kept { AddsKept self.old self.new }
+        ensures adds { (s w : List ℕ) → CursorAdds s w (push_of (limits_of self.old.program.limits) (op_in s op (map opnd_of (given g))))
+            self.old.program.words.now (cursor_of self.old) self.new.program.words.now (operand self.new result) }
+    {
+        let i = self.program.push_insn(self.block, op, g)?;
+        Ok(Opnd::Insn(i))
     }
-}
 
-// ---- the stack of arguments that wait
-
-pub fn with_args(cursor: Cursor, n: usize) -> Cursor
-    ensures { result ≡ stack_cur n cursor }
-{
-    let counts = cursor.counts;
-    let class = cursor.class;
-    let receiver = cursor.receiver;
-    let block = cursor.block;
-    Cursor {
-        at: cursor.at,
-        counts,
-        class,
-        receiver,
-        block,
-        vars: cursor.vars,
-        aside: cursor.aside,
-        args: n,
+    // A call with the n arguments that stand behind those that wait.
+    pub fn push_call(&mut self, callee: Callee, n: usize) -> Result<Opnd, Refusal>
+        requires can { CanAdd self.old }
+        requires scratch_size_in_bounds { (scratch_size ≤ length self.old.scratch.now) × (self.old.args + n ≤ operands_most) }
+        ensures kept { AddsKept self.old self.new }
+        ensures adds { (s : List ℕ) → CursorAdds s self.old.scratch.now
+            (push_of (limits_of self.old.program.limits) (P.Send (callee_in s callee) (waiting self.old.scratch.now self.old.args n)))
+            self.old.program.words.now (cursor_of self.old) self.new.program.words.now (operand self.new result) }
+    {
+        let b = self.block;
+        let at = STACK + 2 * self.args;
+        let args = &mut *self.scratch;
+        let i = self.program.push_call(b, callee, args, at, n)?;
+        Ok(Opnd::Insn(i))
     }
-}
 
-pub fn push_arg(scratch: &mut [usize], cursor: Cursor, v: Opnd) -> Cursor
-    requires { (scratch_size ≤ length scratch.old) × (cursor.args < operands_most) }
-    ensures { Stacks v cursor scratch.old scratch.new result }
-{
-    program::put_opnd(scratch, STACK + 2 * cursor.args, v);
-    with_args(cursor, cursor.args + 1)
+    // The attribute n of the receiver is set.
+    pub fn set_ivar(&mut self, n: Name, v: Opnd) -> Result<Opnd, Refusal>
+        requires { CanAdd self.old }
+        ensures kept { AddsKept self.old self.new }
+        ensures adds { (s w : List ℕ) → CursorAdds s w (sets_ivar (limits_of self.old.program.limits) (name_in s n) (opnd_of v))
+            self.old.program.words.now (cursor_of self.old) self.new.program.words.now (operand self.new result) }
+    {
+        let me = self.receiver.ok_or(Refusal::OutsideMethod)?;
+        self.push(Op::SetIvar(n), Given::Two(Opnd::Insn(me), v))
+    }
+
+    // The attribute n of the receiver is read.
+    pub fn get_ivar(&mut self, n: Name) -> Result<Opnd, Refusal>
+        requires { CanAdd self.old }
+        ensures kept { AddsKept self.old self.new }
+        ensures adds { (s w : List ℕ) → CursorAdds s w (gets_ivar (limits_of self.old.program.limits) (name_in s n))
+            self.old.program.words.now (cursor_of self.old) self.new.program.words.now (operand self.new result) }
+    {
+        let me = self.receiver.ok_or(Refusal::OutsideMethod)?;
+        self.push(Op::GetIvar(n), Given::One(Opnd::Insn(me)))
+    }
+
+    // The attribute n of v is read, which `new` can't be.
+    pub fn read_attr(&mut self, v: Opnd, n: Name) -> Result<Opnd, Refusal>
+        requires { CanAdd self.old }
+        ensures kept { AddsKept self.old self.new }
+        ensures adds { (w : List ℕ) → CursorAdds self.old.script.now w
+            (reads_attr (limits_of self.old.program.limits) (opnd_of v) (name_in self.old.script.now n))
+            self.old.program.words.now (cursor_of self.old) self.new.program.words.now (operand self.new result) }
+    {
+        if lexer::spells(self.script, n.start, n.len, b"new") {
+            return Err(Refusal::NotCallable);
+        }
+        self.push(Op::GetIvar(n), Given::One(v))
+    }
+
+    // A call of the function that v names.
+    pub fn bare_call(&mut self, v: Opnd, n: usize) -> Result<Opnd, Refusal>
+        requires can { CanAdd self.old }
+        requires scratch_size_in_bounds { (scratch_size ≤ length self.old.scratch.now) × (self.old.args + n ≤ operands_most) }
+        ensures kept { AddsKept self.old self.new }
+        ensures adds { (s : List ℕ) → CursorAdds s self.old.scratch.now
+            (calls (limits_of self.old.program.limits) (opnd_of v) (waiting self.old.scratch.now self.old.args n))
+            self.old.program.words.now (cursor_of self.old) self.new.program.words.now (operand self.new result) }
+    {
+        let f = fun_named_by(v).ok_or(Refusal::NotCallable)?;
+        self.push_call(Callee::Static(f), n)
+    }
+
+    // ---- the stack of arguments that wait
+
+    pub fn push_arg(&mut self, v: Opnd)
+        requires { (scratch_size ≤ length self.old.scratch.now) × (self.old.args < operands_most) }
+        ensures kept { ParserKept self.old self.new }
+        ensures program { self.new.program ≡ self.old.program }
+        ensures stacks { Stacks v (cursor_of self.old) self.old.scratch.now self.new.scratch.now (cursor_of self.new) }
+    {
+        program::put_opnd(self.scratch, STACK + 2 * self.args, v);
+        self.args += 1;
+    }
 }

@@ -4,8 +4,6 @@
 ghost use Rattle.call.specs.Call.{after, lent};
 ghost use Rattle.dinqosa.specs.Exported.{Gives};
 
-use call::Outcome;
-
 // 0 for an answer, else the number of the refusal.
 pub fn dinqosa_analyze(
     script: &[u8],
@@ -17,7 +15,7 @@ pub fn dinqosa_analyze(
         (lent answer.new program.new state.new) }
 {
     match call::analyze(script, answer, program, state) {
-        Outcome::Answered => 0,
-        Outcome::Refused(n) => n,
+        Ok(()) => 0,
+        Err(e) => u8::from(e),
     }
 }

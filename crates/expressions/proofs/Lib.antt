@@ -2,3 +2,4 @@ pub mod Loops
 pub mod Stack
 pub mod Ways
 pub mod Turns
+pub mod Standing

@@ -11,7 +11,7 @@ use Rattle.program.specs.declared.Opnd.{Opnd}
 use Rattle.program.proofs.Areas.{opnds-same, opnds-add}
 use Rattle.cursor.specs.Cursor.{parser_of, waiting, stack_cur, In, CursorStep}
 use Rattle.cursor.specs.Promises.{Stacks}
-use Rattle.cursor.specs.declared.Cursor.{Cursor}
+use Rattle.cursor.specs.Cursor.{Cursor}
 use Rattle.variables.specs.Layout.{entries_most}
 use Rattle.cursor.specs.Layout.{stack_at}
 

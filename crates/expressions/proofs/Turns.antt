@@ -16,11 +16,13 @@ use Rattle.rules.specs.Words.{is}
 use Rattle.rules.specs.Reading.{Parser, Reads, pass, expect, match_token, turns, push, Operator, operator, on_with, parse_arg, parse_args, parse_call, parse_member, parse_right, parse_suffix}
 use Rattle.rules.specs.Reading.{send}
 use Rattle.lexer.specs.Lexed.{text_of, word_in, Glances}
-use Rattle.lexer.specs.declared.Lexed.{Lexed}
-use Rattle.lexer.specs.declared.Lexed.TheVariants as Seen
-use Rattle.lexer.specs.declared.Glimpse.{Glimpse}
+use Rattle.std.specs.Prelude.{Option as Maybe, Some, None, Result, Ok, Err}
+use Rattle.refusals.specs.declared.Refusal.{Refusal}
+use Rattle.refusals.specs.Refusals.{number_of}
+use Rattle.lexer.specs.declared.Token.TheVariants as T
 use Rattle.lexer.specs.declared.Word.{Word}
 use Rattle.lexer.proofs.Lexes.{signed, unsigned, unseen}
+use Rattle.lexer.proofs.Texts.{byte_of, same_sign, byte_none}
 use Rattle.program.specs.Rows.{opnds_in, opnd_of, op_in, given, name_in}
 use Rattle.program.specs.Tab.{tab}
 use Rattle.program.specs.declared.Name.{Name}
@@ -30,21 +32,20 @@ use Rattle.program.specs.declared.Given.TheVariants.{Two}
 use Rattle.cursor.specs.Cursor.{parser_of, waiting, move_cur, stack_cur, In, CursorStep}
 use Rattle.cursor.specs.Steps.{calls, reads_attr, weigh, suffix_of}
 use Rattle.cursor.specs.Promises.{Out, CursorDid, CursorAdds, Stacks, Sees, Idents, Expects, CursorMatches, Spelt, parsed_of}
-use Rattle.cursor.specs.declared.Cursor.{Cursor}
-use Rattle.cursor.specs.declared.Parsed.{Parsed}
-use Rattle.cursor.specs.declared.Parsed.TheVariants.{Done, Refused}
-use Rattle.cursor.specs.declared.Moved.{Moved}
-use Rattle.cursor.specs.declared.Ident.{Ident}
-use Rattle.cursor.specs.declared.Matched.{Matched}
+use Rattle.cursor.specs.Cursor.{Cursor}
+use Rattle.cursor.specs.outcomes.Parsed.{Parsed, Done, Refused}
+use Rattle.cursor.specs.outcomes.Moved.{Moved}
+use Rattle.cursor.specs.outcomes.Ident.{Ident}
+use Rattle.cursor.specs.outcomes.Matched.{Matched}
 use Rattle.cursor.specs.declared.Suffix.{Suffix}
 use Rattle.cursor.proofs.Laws.{step-none, step_less, step_trans, Acted, got, gave, refuses, arrives, ends_as, added_did}
 use Rattle.cursor.proofs.Wording.{is-yes, is_no, spelt_open, spelt_close, spelt_comma, spelt_plus, spelt_minus, spelt_times, spelt_less, spelt_dot, word_read, peek-found, peek-none, glanced}
 use Rattle.memory.specs.Layout.{operands_most}
 use Rattle.cursor.specs.Layout.{scratch_size}
-use Rattle.expressions.specs.Readers.{again_of, Agains, taken_of, ArgDid, args_of, ArgsDid, suffixed_of, SuffixDid}
-use Rattle.expressions.specs.declared.ArgTurn.{ArgTurn}
-use Rattle.expressions.specs.declared.Args.{Args}
-use Rattle.expressions.specs.declared.Suffixed.{Suffixed}
+use Rattle.expressions.specs.Readers.{again_of, taken_of, ArgDid, args_of, ArgsDid, suffixed_of, SuffixDid}
+use Rattle.expressions.specs.outcomes.ArgTurn.{ArgTurn}
+use Rattle.expressions.specs.outcomes.Args.{Args}
+use Rattle.expressions.specs.outcomes.Suffixed.{Suffixed}
 use Rattle.expressions.proofs.Loops.{Loops, loops_start, loops_on, loops_end, loops_stop}
 use Rattle.expressions.proofs.Stack.{height_free, waiting-same, stacks_args, stacks_at, stacks_more, stacks_state, stacks_in, stacks_step, step_height, step_from}
 use Rattle.expressions.proofs.Ways.{ident_went, match_went, match_not, match_gave, expect-went, expect_gave, suffix_low, operator-passed, call-passed, member_passed}
@@ -52,13 +53,13 @@ use Rattle.expressions.proofs.Ways.{ident_went, match_went, match_not, match_gav
 module _ (L : P.Limits) (s : List ℕ) (E : ℕ → Reads P.Opnd) where
   -- ---- one argument
 
-  module _ {m w : List ℕ} {c : Cursor} {r : Lexed} (see : Sees s c r) where
-    pub arg_none : {m' w' : List ℕ} {n : ℕ} → r ≡ Seen.Refused n → ArgDid L s E m w c m' w' (ArgTurn.Refused n)
+  module _ {m w : List ℕ} {c : Cursor} {r : Result Word Refusal} (see : Sees s c r) where
+    pub arg_none : {m' w' : List ℕ} {n : Refusal} → r ≡ Err n → ArgDid L s E m w c m' w' (ArgTurn.Refused (number_of n))
     unfolding parse_arg
     arg_none e = record { is = λ k l. rw (← peek-none see m w e); ok = tt }
 
-    module _ {x : Word} (e : r ≡ Seen.Found x) (h : In s m w c) where
-      pub arg_close : x.kind ≡ 41 → ArgDid L s E m w c m w (ArgTurn.Ends c)
+    module _ {x : Word} (e : r ≡ Ok x) (h : In s m w c) where
+      pub arg_close : x.token ≡ T.Sign 41 → ArgDid L s E m w c m w (ArgTurn.Ends c)
       unfolding parse_arg
       arg_close k =
           record {
@@ -66,7 +67,7 @@ module _ (L : P.Limits) (s : List ℕ) (E : ℕ → Reads P.Opnd) where
             ok = record { here = h; step = step_height (step-none c w); more = omega arith };
           }
 
-      module _ (no : x.kind ≡ 41 → ⊥) {m1 w1 : List ℕ} {p : Parsed} (d : CursorDid (E 0) 1 s m w c m1 w1 (parsed_of p)) where
+      module _ (no : x.token ≡ T.Sign 41 → ⊥) {m1 w1 : List ℕ} {p : Parsed} (d : CursorDid (E 0) 1 s m w c m1 w1 (parsed_of p)) where
         pub arg_no1 : {n : ℕ} → p ≡ Refused n → ArgDid L s E m w c m1 w1 (ArgTurn.Refused n)
         unfolding parse_arg
         arg_no1 f =
@@ -95,7 +96,7 @@ module _ (L : P.Limits) (s : List ℕ) (E : ℕ → Reads P.Opnd) where
             arg_step : CursorStep 1 c w (stack_cur c.args c2) w2
             arg_step = rw at_arg.step.args at (step_trans at_arg.step (stacks_step st at_arg.here))
 
-            module _ {q : Matched} (y : CursorMatches s 44 c2 q) where
+            module _ {q : Matched} (y : CursorMatches s (T.Sign 44) c2 q) where
               pub arg_no2 : {n : ℕ} → q ≡ Matched.Refused n → ArgDid L s E m w c m1 w2 (ArgTurn.Refused n)
               unfolding parse_arg
               arg_no2 g =
@@ -159,8 +160,6 @@ module _ (L : P.Limits) (s : List ℕ) (E : ℕ → Reads P.Opnd) where
     pub step : CursorStep 0 c₀ w₀ (stack_cur c₀.args c) w
     pub more : c₀.args ≤ c.args
     pub room : 2 * c.args < c.at
-    pub long_m : length m ≡ length m₀
-    pub long_w : length w ≡ length w₀
 
   pub args-start : {m w : List ℕ} {c : Cursor} → In s m w c → 2 * c.args < c.at → ArgsInv m w c m w c
   args-start {m = m} {w = w} {c = c} h l =
@@ -170,8 +169,6 @@ module _ (L : P.Limits) (s : List ℕ) (E : ℕ → Reads P.Opnd) where
         step = step_height (step-none c w);
         more = omega arith;
         room = l;
-        long_m = refl;
-        long_w = refl;
       }
 
   module _ {m₀ w₀ m w m1 w1 : List ℕ} {c₀ c : Cursor} {r : ArgTurn} (i : ArgsInv m₀ w₀ c₀ m w c) (d : ArgDid L s E m w c m1 w1 r) where
@@ -182,8 +179,8 @@ module _ (L : P.Limits) (s : List ℕ) (E : ℕ → Reads P.Opnd) where
       pub args-less : length s - c1.at < length s - c.at
       args-less = omega (arith, gone.ok.0.step.on, gone.ok.0.here.ready.inside)
 
-      pub args-again : length m1 ≡ length m → length w1 ≡ length w → ArgsInv m₀ w₀ c₀ m1 w1 c1
-      args-again a b =
+      pub args-again : ArgsInv m₀ w₀ c₀ m1 w1 c1
+      args-again =
           let g = gone.ok.0 in
           record {
             loops = loops_on (parse_arg L s E) s i.loops i.here.ready.inside _ _ c1.at (gone.is c₀.args i.more) (omega (arith, g.step.on));
@@ -191,8 +188,6 @@ module _ (L : P.Limits) (s : List ℕ) (E : ℕ → Reads P.Opnd) where
             step = step_less (omega arith) (step_trans i.step (step_from c₀.args i.more g.step));
             more = omega (arith, i.more, g.more);
             room = gone.ok.1;
-            long_m = a ∙ i.long_m;
-            long_w = b ∙ i.long_w;
           }
 
     pub args_no1 : {n : ℕ} → r ≡ ArgTurn.Refused n → ArgsDid (parse_args L s E) s m₀ w₀ c₀ m1 w1 (Args.Refused n)
@@ -214,7 +209,7 @@ module _ (L : P.Limits) (s : List ℕ) (E : ℕ → Reads P.Opnd) where
       all-args : answered (waiting w1 c₀.args (c1.args - c₀.args), parser_of s m1 w1 c1) ≡ loop (parse_arg L s E) (turns s) [] (parser_of s m₀ w₀ c₀)
       all-args = loops_end (parse_arg L s E) s i.loops i.here.ready.inside _ _ (ended.is c₀.args i.more)
 
-      module _ {q : Moved} (y : Expects s 41 c1 q) where
+      module _ {q : Moved} (y : Expects s (T.Sign 41) c1 q) where
         pub args_no2 : {n : ℕ} → q ≡ Moved.Refused n → ArgsDid (parse_args L s E) s m₀ w₀ c₀ m1 w1 (Args.Refused n)
         unfolding parse_args
         args_no2 f =
@@ -251,11 +246,10 @@ module _ (L : P.Limits) (s : List ℕ) (E : ℕ → Reads P.Opnd) where
               (step_trans (step_trans i.step (step_from c₀.args i.more ended.ok.step))
               (step_from c₀.args (omega (arith, ended.ok.more, i.more)) at-close.step))
 
-          pub args_done : {t : Args} → t ≡ taken_of c₀.args c2 → ArgsDid (parse_args L s E) s m₀ w₀ c₀ m1 w1 t
+          pub args_done : ArgsDid (parse_args L s E) s m₀ w₀ c₀ m1 w1 (taken_of c₀.args c2)
           unfolding parse_args
-          args_done g =
+          args_done =
               let a = at-close.step.args in
-              rw g
               (record {
                 did =
                     arrives whole (omega arith) lower
@@ -294,7 +288,7 @@ module _ (L : P.Limits) (s : List ℕ) (E : ℕ → Reads P.Opnd) where
   -- ---- members
 
   module _ {m w : List ℕ} {c : Cursor} {i : Ident} (v : P.Opnd) (h : In s m w c) (x : Idents s c i) {c1 : Cursor} {n : Name}
-      (e : i ≡ Ident.Found c1 n) {q : Matched} (y : CursorMatches s 40 c1 q) where
+      (e : i ≡ Ident.Found c1 n) {q : Matched} (y : CursorMatches s (T.Sign 40) c1 q) where
     pub member_no2 : {m' w' : List ℕ} {k : ℕ} → q ≡ Matched.Refused k → CursorDid (parse_member L s E v) 1 s m w c m' w' (parsed_of (Refused k))
     unfolding parse_member
     member_no2 f = refuses (rw (← (ident_went h x e).is, ← match_gave (ident_went h x e).here "(" y spelt_open f))
@@ -319,8 +313,8 @@ module _ (L : P.Limits) (s : List ℕ) (E : ℕ → Reads P.Opnd) where
         unfolding parse_member
         member_no3 g = refuses (rw (← (ident_went h x e).is, ← at_open.is, ← gave d.did (ap (args_of w1 c2.args) g)))
 
-        pub member_send : {c3 : Cursor} {k : ℕ} → t ≡ Args.Done c3 k → {m2 : List ℕ} {o : Out P.Opnd}
-            → CursorDid (send L s E v (name_in s n) (waiting w1 c3.args k)) 0 s m1 w1 c3 m2 w1 o → CursorDid (parse_member L s E v) 1 s m w c m2 w1 o
+        pub member_send : {c3 : Cursor} {k : ℕ} → t ≡ Args.Done c3 k → {m2 w2 : List ℕ} {o : Out P.Opnd}
+            → CursorDid (send L s E v (name_in s n) (waiting w1 c3.args k)) 0 s m1 w1 c3 m2 w2 o → CursorDid (parse_member L s E v) 1 s m w c m2 w2 o
         unfolding parse_member
         member_send {c3 = c3} {k = k} g a =
             let b = got d.did (ap (args_of w1 c2.args) g) in
@@ -385,20 +379,20 @@ module _ (L : P.Limits) (s : List ℕ) (E : ℕ → Reads P.Opnd) where
     table false false false false false true r = refl
     table false false false false false false r = refl
 
-    module _ {c : Cursor} {r : Lexed} {x : Word} (see : Sees s c r) (e : r ≡ Seen.Found x) where
-      by : (k : ℕ) (t : String) → Spelt k t → is (word_in s x) t ≡ eqb x.kind k
-      by k t sp = rw (word_read see e).kind (sp (text_of s x))
+    module _ {c : Cursor} {r : Result Word Refusal} {x : Word} (see : Sees s c r) (e : r ≡ Ok x) where
+      by : (b : ℕ) (t : String) → eqb 0 b ≡ false → Spelt (T.Sign b) t → is (word_in s x) t ≡ eqb (byte_of x.token) b
+      by b t z sp = rw (word_read see e).token (sp (text_of s x)) ∙ same_sign x.token b z
 
-      suffix_is : (m w : List ℕ) → on_suffix (suffix_of x.kind prec) (parser_of s m w c) ≡ parse_suffix L s E prec v (parser_of s m w c)
+      suffix_is : (m w : List ℕ) → on_suffix (suffix_of (byte_of x.token) prec) (parser_of s m w c) ≡ parse_suffix L s E prec v (parser_of s m w c)
       unfolding parse_suffix suffix_of
       suffix_is m w =
-          table (eqb x.kind 60) (eqb x.kind 43) (eqb x.kind 45) (eqb x.kind 42) (eqb x.kind 40) (eqb x.kind 46) (parser_of s m w c)
-          ∙ (three (parser_of s m w c) (sym (four (by 60 "<" spelt_less) (by 43 "+" spelt_plus) (by 45 "-" spelt_minus) (by 42 "*" spelt_times)))
-          (sym (by 40 "(" spelt_open)) (sym (by 46 "." spelt_dot))
+          table (eqb (byte_of x.token) 60) (eqb (byte_of x.token) 43) (eqb (byte_of x.token) 45) (eqb (byte_of x.token) 42) (eqb (byte_of x.token) 40) (eqb (byte_of x.token) 46) (parser_of s m w c)
+          ∙ (three (parser_of s m w c) (sym (four (by 60 "<" refl spelt_less) (by 43 "+" refl spelt_plus) (by 45 "-" refl spelt_minus) (by 42 "*" refl spelt_times)))
+          (sym (by 40 "(" refl spelt_open)) (sym (by 46 "." refl spelt_dot))
           ∙ rw (← peek-found see m w e))
 
-  module _ {m w : List ℕ} {c : Cursor} {g : Glimpse} (prec : ℕ) (v : Opnd) (l : Glances s c.at g) where
-    pub suffix_none : {m' w' : List ℕ} {n : ℕ} → g ≡ Glimpse.Refused n → SuffixDid (parse_suffix L s E prec (opnd_of v)) v s m w c m' w' (Suffixed.Refused n)
+  module _ {m w : List ℕ} {c : Cursor} {g : Result (Maybe (ℕ × ℕ)) Refusal} (prec : ℕ) (v : Opnd) (l : Glances s c.at g) where
+    pub suffix_none : {m' w' : List ℕ} {n : Refusal} → g ≡ Err n → SuffixDid (parse_suffix L s E prec (opnd_of v)) v s m w c m' w' (Suffixed.Refused (number_of n))
     unfolding parse_suffix
     suffix_none e =
         record {
@@ -414,16 +408,16 @@ module _ (L : P.Limits) (s : List ℕ) (E : ℕ → Reads P.Opnd) where
           further = λ c' v' f. let z : ◌≡◌ {A = ℕ} 0 1 = cc in absurd (omega arith);
         }
 
-    pub suffix_other : g ≡ Glimpse.Other → In s m w c → SuffixDid (parse_suffix L s E prec (opnd_of v)) v s m w c m w Suffixed.Ends
+    pub suffix_other : g ≡ Ok None → In s m w c → SuffixDid (parse_suffix L s E prec (opnd_of v)) v s m w c m w Suffixed.Ends
     suffix_other e h =
         let y = unsigned l.word (sym e ∙ l.is) in
-        ends-here h (rw (suffix_low y.word.kind prec y.low) at (suffix_is prec (opnd_of v) (glanced c l) y.found m w))
+        ends-here h (rw (byte_none y.word.token y.other, suffix_low 0 prec (omega arith)) at (suffix_is prec (opnd_of v) (glanced c l) y.found m w))
 
-    module _ {k n : ℕ} {q : Suffix} (e : g ≡ Glimpse.Sign k n) (h : In s m w c) (t : q ≡ suffix_of k prec) where
+    module _ {k n : ℕ} {q : Suffix} (e : g ≡ Ok (Some (k, n))) (h : In s m w c) (t : q ≡ suffix_of k prec) where
       sign-is : on_suffix prec (opnd_of v) q (parser_of s m w c) ≡ parse_suffix L s E prec (opnd_of v) (parser_of s m w c)
       sign-is =
           let y = signed l.word (sym e ∙ l.is) in
-          ap (λ (z : Suffix). on_suffix prec (opnd_of v) z (parser_of s m w c)) (t ∙ ap (λ j. suffix_of j prec) (sym y.kind))
+          ap (λ (z : Suffix). on_suffix prec (opnd_of v) z (parser_of s m w c)) (t ∙ ap (λ j. suffix_of j prec) (sym (ap byte_of y.token)))
           ∙ suffix_is prec (opnd_of v) (glanced c l) y.found m w
 
       pub suffix_ends : q ≡ Suffix.Ends → SuffixDid (parse_suffix L s E prec (opnd_of v)) v s m w c m w Suffixed.Ends
@@ -444,22 +438,23 @@ module _ (L : P.Limits) (s : List ℕ) (E : ℕ → Reads P.Opnd) where
           }
 
       module _ {c' : Cursor} (j : c' ≡ move_cur n c) where
-        module _ {m1 w1 : List ℕ} {p : Parsed} {g' : Suffixed} (b : Agains p g') where
+        module _ {m1 w1 : List ℕ} (p : Parsed) where
           pub suffix_operator : {o : Arith} {right : ℕ} → q ≡ Suffix.Operator o right → CursorDid (parse_right L s E (operator o 0 right) (opnd_of v)) 1 s m w c' m1 w1 (parsed_of p)
-              → SuffixDid (parse_suffix L s E prec (opnd_of v)) v s m w c m1 w1 g'
+              → SuffixDid (parse_suffix L s E prec (opnd_of v)) v s m w c m1 w1 (again_of p)
           suffix_operator f d =
               let a = operator-passed prec h l e t f j in
-              rw b.is (on-ok _ p a d (rw f at sign-is))
+              on-ok _ p a d (rw f at sign-is)
 
-          pub suffix_call : q ≡ Suffix.Call → CursorDid (parse_call L s E (opnd_of v)) 1 s m w c' m1 w1 (parsed_of p) → SuffixDid (parse_suffix L s E prec (opnd_of v)) v s m w c m1 w1 g'
+          pub suffix_call : q ≡ Suffix.Call → CursorDid (parse_call L s E (opnd_of v)) 1 s m w c' m1 w1 (parsed_of p) → SuffixDid (parse_suffix L s E prec (opnd_of v)) v s m w c m1 w1 (again_of p)
           suffix_call f d =
               let a = call-passed prec h l e t f j in
-              rw b.is (on-ok _ p a d (rw f at sign-is))
+              on-ok _ p a d (rw f at sign-is)
 
-          pub suffix_member : q ≡ Suffix.Member → CursorDid (parse_member L s E (opnd_of v)) 1 s m w c' m1 w1 (parsed_of p) → SuffixDid (parse_suffix L s E prec (opnd_of v)) v s m w c m1 w1 g'
+          pub suffix_member : q ≡ Suffix.Member → CursorDid (parse_member L s E (opnd_of v)) 1 s m w c' m1 w1 (parsed_of p)
+              → SuffixDid (parse_suffix L s E prec (opnd_of v)) v s m w c m1 w1 (again_of p)
           suffix_member f d =
               let a = member_passed prec h l e t f j in
-              rw b.is (on-ok _ p a d (rw f at sign-is))
+              on-ok _ p a d (rw f at sign-is)
 
   -- ---- all that follows an operand
 
@@ -467,12 +462,10 @@ module _ (L : P.Limits) (s : List ℕ) (E : ℕ → Reads P.Opnd) where
     pub loops : Loops (parse_suffix L s E prec) s (opnd_of v₀) (parser_of s m₀ w₀ c₀) (opnd_of v) (parser_of s m w c) c.at
     pub here : In s m w c
     pub step : CursorStep 0 c₀ w₀ c w
-    pub long_m : length m ≡ length m₀
-    pub long_w : length w ≡ length w₀
 
   pub suffixes_start : (prec : ℕ) {m w : List ℕ} {c : Cursor} (v : Opnd) → In s m w c → SuffixInv prec m w c v m w c v
   suffixes_start prec {m = m} {w = w} {c = c} v h =
-      record { loops = loops_start (parse_suffix L s E prec) s (opnd_of v) (parser_of s m w c) c.at; here = h; step = step-none c w; long_m = refl; long_w = refl }
+      record { loops = loops_start (parse_suffix L s E prec) s (opnd_of v) (parser_of s m w c) c.at; here = h; step = step-none c w }
 
   module _ {prec : ℕ} {m₀ w₀ m w m1 w1 : List ℕ} {c₀ c : Cursor} {v₀ v : Opnd} {r : Suffixed} (i : SuffixInv prec m₀ w₀ c₀ v₀ m w c v)
       (d : SuffixDid (parse_suffix L s E prec (opnd_of v)) v s m w c m1 w1 r) where
@@ -483,20 +476,20 @@ module _ (L : P.Limits) (s : List ℕ) (E : ℕ → Reads P.Opnd) where
       pub suffixes_less : length s - c1.at < length s - c.at
       suffixes_less = omega (arith, d.further c1 v1 e, at_next.here.ready.inside)
 
-      pub suffixes_again : length m1 ≡ length m → length w1 ≡ length w → SuffixInv prec m₀ w₀ c₀ v₀ m1 w1 c1 v1
-      suffixes_again a b =
+      pub suffixes_again : SuffixInv prec m₀ w₀ c₀ v₀ m1 w1 c1 v1
+      suffixes_again =
           record {
             loops = loops_on (parse_suffix L s E prec) s i.loops i.here.ready.inside _ _ c1.at at_next.is (d.further c1 v1 e);
             here = at_next.here;
             step = step_trans i.step at_next.step;
-            long_m = a ∙ i.long_m;
-            long_w = b ∙ i.long_w;
           }
 
-    pub suffixes_done : r ≡ Suffixed.Ends → CursorDid (loop (parse_suffix L s E prec) (turns s) (opnd_of v₀)) 0 s m₀ w₀ c₀ m1 w1 (parsed_of (Done c v))
-    suffixes_done e =
+    pub suffixes_done : {c' : Cursor} → c' ≡ c → r ≡ Suffixed.Ends
+        → CursorDid (loop (parse_suffix L s E prec) (turns s) (opnd_of v₀)) 0 s m₀ w₀ c₀ m1 w1 (parsed_of (Done c' v))
+    suffixes_done f e =
         let a = got d.did (ap (suffixed_of c v) e) in
-        arrives (step_trans i.step a.step) (omega arith) a.here (loops_end (parse_suffix L s E prec) s i.loops i.here.ready.inside _ _ a.is)
+        rw f
+        (arrives (step_trans i.step a.step) (omega arith) a.here (loops_end (parse_suffix L s E prec) s i.loops i.here.ready.inside _ _ a.is))
 
     pub suffixes_no : {n : ℕ} → r ≡ Suffixed.Refused n → CursorDid (loop (parse_suffix L s E prec) (turns s) (opnd_of v₀)) 0 s m₀ w₀ c₀ m1 w1 (parsed_of (Refused n))
     suffixes_no e = refuses (loops_stop (parse_suffix L s E prec) s i.loops i.here.ready.inside _ (gave d.did (ap (suffixed_of c v) e)))

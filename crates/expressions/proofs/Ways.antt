@@ -2,7 +2,7 @@
 use mathlib.Core.Bool.{true, false}
 use mathlib.Core.Path.{◌≡◌, refl, sym, ap, ◌∙◌}
 use mathlib.Core.List.{List}
-use Prim.Native.Nat.{ℕ, suc, ◌+◌, ◌-◌, ◌*◌, ◌≤◌, ◌<◌}
+use Prim.Native.Nat.{ℕ, suc, ◌+◌, ◌-◌, ◌*◌, ◌≤◌, ◌<◌, ◌^◌}
 use Prim.Native.String.{String}
 use native.Mathlib.Omega.{arith}
 use lib.IntN.{pos}
@@ -14,25 +14,27 @@ use Rattle.rules.specs.Actions.{answered, refused, loop}
 use Rattle.rules.specs.Program as P
 use Rattle.rules.specs.Words.{decimal}
 use Rattle.rules.specs.Reading.{Reads, pass, expect, expect_ident, match_token, turns, get_self, parse_group, parse_ivar, parse_name, parse_primary, parse_member, parse_suffix, parse_expr}
-use Rattle.lexer.specs.Lexed.{value_of, text_of, Glances}
+use Rattle.lexer.specs.Lexed.{text_of, Glances}
 use Rattle.lexer.specs.Lexed as Lexed
-use Rattle.lexer.specs.declared.Lexed.{Lexed}
-use Rattle.lexer.specs.declared.Lexed.TheVariants as Seen
-use Rattle.lexer.specs.declared.Glimpse.{Glimpse}
+use Rattle.std.specs.Prelude.{Option as Maybe, Some, Result, Ok, Err}
+use Rattle.refusals.specs.declared.Refusal.{Refusal}
+use Rattle.refusals.specs.Refusals.{number_of}
+use Rattle.lexer.specs.declared.Token.{Token}
+use Rattle.lexer.specs.declared.Token.TheVariants as T
 use Rattle.lexer.specs.declared.Word.{Word}
 use Rattle.lexer.proofs.Lexes.{signed}
+use Rattle.lexer.proofs.Texts.{number_value}
 use Rattle.program.specs.Rows.{opnd_of, name_in}
 use Rattle.program.specs.declared.Name.{Name}
 use Rattle.program.specs.declared.Opnd.{Opnd}
 use Rattle.cursor.specs.Cursor.{parser_of, move_cur, In, CursorStep}
 use Rattle.cursor.specs.Steps.{sets_ivar, gets_ivar, assigns, means, suffix_of}
 use Rattle.cursor.specs.Promises.{Out, done, CursorAfter, CursorDid, CursorAdds, BindsIf, Assigns, Sees, Idents, Expects, CursorMatches, Spelt, parsed_of, moved_of, ident_of, matched_of}
-use Rattle.cursor.specs.declared.Cursor.{Cursor}
-use Rattle.cursor.specs.declared.Parsed.{Parsed}
-use Rattle.cursor.specs.declared.Parsed.TheVariants.{Done, Refused}
-use Rattle.cursor.specs.declared.Moved.{Moved}
-use Rattle.cursor.specs.declared.Ident.{Ident}
-use Rattle.cursor.specs.declared.Matched.{Matched}
+use Rattle.cursor.specs.Cursor.{Cursor}
+use Rattle.cursor.specs.outcomes.Parsed.{Parsed, Done, Refused}
+use Rattle.cursor.specs.outcomes.Moved.{Moved}
+use Rattle.cursor.specs.outcomes.Ident.{Ident}
+use Rattle.cursor.specs.outcomes.Matched.{Matched}
 use Rattle.cursor.specs.declared.Suffix.{Suffix}
 use Rattle.cursor.proofs.Laws.{step-none, step_trans, Acted, got, gave, refuses, arrives, ends_as, in_moved, step-moved, moved-did, added_did}
 use Rattle.cursor.proofs.Wording.{is-yes, is_no, literal_yes, literal_no, spelt_open, spelt_close, spelt_equals, spelt_at, word_read, peek-found, peek-none, pass-found, glanced}
@@ -42,11 +44,8 @@ use Rattle.cursor.specs.Layout.{scratch_size}
 
 -- ---- steps over words
 
-pub sees_word : {s : List ℕ} {c : Cursor} {r : Lexed} {x : Word} → Sees s c r → r ≡ Seen.Found x → Sees s c (Seen.Found x)
-sees_word see e = rw e at see
-
 module _ {s m w : List ℕ} {c : Cursor} (h : In s m w c) where
-  pub passed : {c' : Cursor} {r : Lexed} {x : Word} → Sees s c r → r ≡ Seen.Found x → c' ≡ move_cur x.next c → (x.kind ≡ 0 → ⊥) → Acted (pass s) 1 s m w c m w tt c'
+  pub passed : {c' : Cursor} {r : Result Word Refusal} {x : Word} → Sees s c r → r ≡ Ok x → c' ≡ move_cur x.next c → (x.token ≡ T.EndOfText → ⊥) → Acted (pass s) 1 s m w c m w tt c'
   passed {x = x} see e f z =
       let q = word_read see e in
       rw f
@@ -59,7 +58,7 @@ module _ {s m w : List ℕ} {c : Cursor} (h : In s m w c) where
   pub ident_went : {i : Ident} {c1 : Cursor} {n : Name} → Idents s c i → i ≡ Ident.Found c1 n → Acted (expect_ident s) 1 s m w c m w (name_in s n) c1
   ident_went d e = got (moved-did d.moves h) (ap (ident_of s) e)
 
-  pub match_went : {k : ℕ} (t : String) {q : Matched} {c1 : Cursor} → CursorMatches s k c q → Spelt k t → q ≡ Matched.Yes c1 → Acted (match_token s t) 1 s m w c m w true c1
+  pub match_went : {k : Token} (t : String) {q : Matched} {c1 : Cursor} → CursorMatches s k c q → Spelt k t → q ≡ Matched.Yes c1 → Acted (match_token s t) 1 s m w c m w true c1
   match_went t {c1 = c1} d sp e =
       let v = rw (ap (matched_of c) e) at (d.moves t sp) in
       let g = d.further c1 e in
@@ -69,24 +68,20 @@ module _ {s m w : List ℕ} {c : Cursor} (h : In s m w c) where
         step = rw v.ok.0 (step-moved c w 1 c1.at (omega arith));
       }
 
-  pub match_not : {k : ℕ} (t : String) {q : Matched} → CursorMatches s k c q → Spelt k t → q ≡ Matched.Not → answered (false, parser_of s m w c) ≡ match_token s t (parser_of s m w c)
+  pub match_not : {k : Token} (t : String) {q : Matched} → CursorMatches s k c q → Spelt k t → q ≡ Matched.Not → answered (false, parser_of s m w c) ≡ match_token s t (parser_of s m w c)
   match_not t d sp e = let v = rw (ap (matched_of c) e) at (d.moves t sp) in v.is m w
 
-  pub match_gave : {k : ℕ} (t : String) {q : Matched} {n : ℕ} → CursorMatches s k c q → Spelt k t → q ≡ Matched.Refused n → refused n ≡ match_token s t (parser_of s m w c)
+  pub match_gave : {k : Token} (t : String) {q : Matched} {n : ℕ} → CursorMatches s k c q → Spelt k t → q ≡ Matched.Refused n → refused n ≡ match_token s t (parser_of s m w c)
   match_gave t d sp e = let v = rw (ap (matched_of c) e) at (d.moves t sp) in v.is m w
 
-  pub expect-went : {k : ℕ} (t : String) {q : Moved} {c1 : Cursor} → Expects s k c q → Spelt k t → q ≡ Moved.On c1 → Acted (expect s t) 1 s m w c m w tt c1
+  pub expect-went : {k : Token} (t : String) {q : Moved} {c1 : Cursor} → Expects s k c q → Spelt k t → q ≡ Moved.On c1 → Acted (expect s t) 1 s m w c m w tt c1
   expect-went t d sp e = got (moved-did (d.moves t sp) h) (ap moved_of e)
 
-  pub expect_gave : {k : ℕ} (t : String) {q : Moved} {n : ℕ} → Expects s k c q → Spelt k t → q ≡ Moved.Refused n → refused n ≡ expect s t (parser_of s m w c)
+  pub expect_gave : {k : Token} (t : String) {q : Moved} {n : ℕ} → Expects s k c q → Spelt k t → q ≡ Moved.Refused n → refused n ≡ expect s t (parser_of s m w c)
   expect_gave t d sp e = gave (moved-did (d.moves t sp) h) (ap moved_of e)
 
   pub ident_gave : {i : Ident} {n : ℕ} → Idents s c i → i ≡ Ident.Refused n → refused n ≡ expect_ident s (parser_of s m w c)
   ident_gave d e = gave (moved-did d.moves h) (ap (ident_of s) e)
-
--- a byte was read since the arguments that wait were counted
-pub low-after : {A : Type 0} {f : Reads A} {s m w m' w' : List ℕ} {c c' : Cursor} {a : A} → In s m w c → Acted f 1 s m w c m' w' a c' → 2 * c'.args < c'.at
-low-after h g = omega (arith, g.step.args, g.step.on, h.ready.args)
 
 -- what stands behind an operand begins with a sign
 pub suffix_low : (k prec : ℕ) → k < 10 → suffix_of k prec ≡ Suffix.Ends
@@ -101,29 +96,33 @@ suffix_low k prec h =
       ne_eqb k 46 (λ z. omega arith),
     )
 
-suffix_some : (k prec : ℕ) {q : Suffix} → q ≡ suffix_of k prec → (q ≡ Suffix.Ends → ⊥) → k ≡ 0 → ⊥
-suffix_some k prec t f z = f (t ∙ suffix_low k prec (omega arith))
+sign_end : {k : Token} {b : ℕ} → k ≡ T.Sign b → k ≡ T.EndOfText → ⊥
+sign_end e z = cc
 
-module _ (prec : ℕ) {s m w : List ℕ} {c c' : Cursor} {g : Glimpse} {i n : ℕ} {q : Suffix} (h : In s m w c) (l : Glances s c.at g) (e : g ≡ Glimpse.Sign i n) (t : q ≡ suffix_of i prec) where
-  sign-passed : (q ≡ Suffix.Ends → ⊥) → c' ≡ move_cur n c → Acted (pass s) 1 s m w c m w tt c'
-  sign-passed f j =
+number_end : {k : Token} {n : ℕ} → k ≡ T.Number n → k ≡ T.EndOfText → ⊥
+number_end e z = cc
+
+module _ (prec : ℕ) {s m w : List ℕ} {c c' : Cursor} {g : Result (Maybe (ℕ × ℕ)) Refusal} {i n : ℕ} {q : Suffix} (h : In s m w c)
+    (l : Glances s c.at g) (e : g ≡ Ok (Some (i, n))) (t : q ≡ suffix_of i prec) where
+  sign-passed : c' ≡ move_cur n c → Acted (pass s) 1 s m w c m w tt c'
+  sign-passed j =
       let y = signed l.word (sym e ∙ l.is) in
-      passed h (glanced c l) y.found (j ∙ ap (λ a. move_cur a c) (sym y.next)) (λ z. suffix_some i prec t f (sym y.kind ∙ z))
+      passed h (glanced c l) y.found (j ∙ ap (λ a. move_cur a c) (sym y.next)) (sign_end y.token)
 
   pub operator-passed : {o : Arith} {right : ℕ} → q ≡ Suffix.Operator o right → c' ≡ move_cur n c → Acted (pass s) 1 s m w c m w tt c'
-  operator-passed k j = sign-passed (λ z. let y : ◌≡◌ {A = ℕ} 0 1 = cc in omega arith) j
+  operator-passed k j = sign-passed j
 
   pub call-passed : q ≡ Suffix.Call → c' ≡ move_cur n c → Acted (pass s) 1 s m w c m w tt c'
-  call-passed k j = sign-passed (λ z. let y : ◌≡◌ {A = ℕ} 0 1 = cc in omega arith) j
+  call-passed k j = sign-passed j
 
   pub member_passed : q ≡ Suffix.Member → c' ≡ move_cur n c → Acted (pass s) 1 s m w c m w tt c'
-  member_passed k j = sign-passed (λ z. let y : ◌≡◌ {A = ℕ} 0 1 = cc in omega arith) j
+  member_passed k j = sign-passed j
 
 -- a word moves the place alone
 ident_vars : {s : List ℕ} {c c1 : Cursor} {i : Ident} {n : Name} → Idents s c i → i ≡ Ident.Found c1 n → c1.vars ≡ c.vars
 ident_vars {s = s} d e = let v = rw (ap (ident_of s) e) at d.moves in ap (λ (z : Cursor). z.vars) v.ok.0
 
-match_vars : {s : List ℕ} {k : ℕ} (t : String) {c c1 : Cursor} {q : Matched} → CursorMatches s k c q → Spelt k t → q ≡ Matched.Yes c1 → c1.vars ≡ c.vars
+match_vars : {s : List ℕ} {k : Token} (t : String) {c c1 : Cursor} {q : Matched} → CursorMatches s k c q → Spelt k t → q ≡ Matched.Yes c1 → c1.vars ≡ c.vars
 match_vars t {c = c} d sp e = let v = rw (ap (matched_of c) e) at (d.moves t sp) in ap (λ (z : Cursor). z.vars) v.ok.0
 
 -- ---- the depth
@@ -157,9 +156,8 @@ module _ (L : P.Limits) (s : List ℕ) (d prec : ℕ) where
 
 -- ---- the readers, over the reader E of expressions one level down
 
-literal_value : {s : List ℕ} {at : ℕ} (x : Word) → Lexed.LexerReads s at x → x.kind ≡ 2 → x.value ≡ decimal 0 (text_of s x)
-unfolding value_of
-literal_value x h e = h.value ∙ rw (literal_yes x h e)
+literal_value : {s : List ℕ} {at : ℕ} (x : Word) → Lexed.LexerReads s at x → {n : ℕ} → x.token ≡ T.Number n → n ≡ decimal 0 (text_of s x)
+literal_value {s} x h e = number_value (text_of s x) (sym e ∙ h.token)
 
 module _ (L : P.Limits) (s : List ℕ) (E : ℕ → Reads P.Opnd) where
   module _ {m w m1 w1 : List ℕ} {c : Cursor} {p : Parsed} (d : CursorDid (E 0) 1 s m w c m1 w1 (parsed_of p)) where
@@ -167,11 +165,12 @@ module _ (L : P.Limits) (s : List ℕ) (E : ℕ → Reads P.Opnd) where
     unfolding parse_group
     group_no e = refuses (rw (← gave d (ap parsed_of e)))
 
-    pub group_open : {c1 : Cursor} {v : Opnd} {q : Moved} {n : ℕ} → p ≡ Done c1 v → Expects s 41 c1 q → q ≡ Moved.Refused n → CursorDid (parse_group L s E) 1 s m w c m1 w1 (parsed_of (Refused n))
+    pub group_open : {c1 : Cursor} {v : Opnd} {q : Moved} {n : ℕ} → p ≡ Done c1 v → Expects s (T.Sign 41) c1 q → q ≡ Moved.Refused n
+        → CursorDid (parse_group L s E) 1 s m w c m1 w1 (parsed_of (Refused n))
     unfolding parse_group
     group_open e x f = let a = got d (ap parsed_of e) in refuses (rw (← a.is, ← expect_gave a.here ")" x spelt_close f))
 
-    pub group_yes : {c1 c2 : Cursor} {v : Opnd} {q : Moved} → p ≡ Done c1 v → Expects s 41 c1 q → q ≡ Moved.On c2 → CursorDid (parse_group L s E) 1 s m w c m1 w1 (parsed_of (Done c2 v))
+    pub group_yes : {c1 c2 : Cursor} {v : Opnd} {q : Moved} → p ≡ Done c1 v → Expects s (T.Sign 41) c1 q → q ≡ Moved.On c2 → CursorDid (parse_group L s E) 1 s m w c m1 w1 (parsed_of (Done c2 v))
     unfolding parse_group
     group_yes e x f =
         let a = got d (ap parsed_of e) in
@@ -201,7 +200,7 @@ module _ (L : P.Limits) (s : List ℕ) (E : ℕ → Reads P.Opnd) where
       pub name-here : In s m w c1
       name-here = at_name.here
 
-      module _ {q : Matched} (y : CursorMatches s 61 c1 q) where
+      module _ {q : Matched} (y : CursorMatches s (T.Sign 61) c1 q) where
         module _ {m' w' : List ℕ} {k : ℕ} (f : q ≡ Matched.Refused k) where
           pub ivar_no2 : CursorDid (parse_ivar L s E) 1 s m w c m' w' (parsed_of (Refused k))
           unfolding parse_ivar
@@ -217,7 +216,7 @@ module _ (L : P.Limits) (s : List ℕ) (E : ℕ → Reads P.Opnd) where
           ivar_get a =
               ends_as at_name.step (omega arith) (added_did (a s w) name-here) (rw (← at_name.is, ← match_not name-here "=" y spelt_equals f))
 
-          pub name_get : CursorDid (means (name_in s n)) 0 s m w c1 m w o → CursorDid (parse_name L s E) 1 s m w c m w o
+          pub name_get : {m1 w1 : List ℕ} → CursorDid (means (name_in s n)) 0 s m w c1 m1 w1 o → CursorDid (parse_name L s E) 1 s m w c m1 w1 o
           unfolding parse_name means
           name_get a = ends_as at_name.step (omega arith) a (rw (← at_name.is, ← match_not name-here "=" y spelt_equals f))
 
@@ -305,49 +304,49 @@ module _ (L : P.Limits) (s : List ℕ) (E : ℕ → Reads P.Opnd) where
 
   -- ---- what an expression begins with
 
-  module _ {m w : List ℕ} {c : Cursor} {r : Lexed} (see : Sees s c r) where
-    pub primary_none : {m' w' : List ℕ} {n : ℕ} → r ≡ Seen.Refused n → CursorDid (parse_primary L s E) 1 s m w c m' w' (parsed_of (Refused n))
+  module _ {m w : List ℕ} {c : Cursor} {r : Result Word Refusal} (see : Sees s c r) where
+    pub primary_none : {m' w' : List ℕ} {n : Refusal} → r ≡ Err n → CursorDid (parse_primary L s E) 1 s m w c m' w' (parsed_of (Refused (number_of n)))
     unfolding parse_primary
     primary_none e = refuses (rw (← peek-none see m w e))
 
-    module _ {x : Word} (e : r ≡ Seen.Found x) (h : In s m w c) where
-      pub pass-here : {c' : Cursor} → c' ≡ move_cur x.next c → (x.kind ≡ 0 → ⊥) → In s m w c'
+    module _ {x : Word} (e : r ≡ Ok x) (h : In s m w c) where
+      pub pass-here : {c' : Cursor} → c' ≡ move_cur x.next c → (x.token ≡ T.EndOfText → ⊥) → In s m w c'
       pass-here f z = (passed h see e f z).here
 
-      pub primary_number : {c' : Cursor} {u : P.Opnd} → x.kind ≡ 2 → c' ≡ move_cur x.next c → u ≡ P.Const (Num (pos x.value))
+      pub primary_number : {c' : Cursor} {u : P.Opnd} {n : ℕ} → x.token ≡ T.Number n → c' ≡ move_cur x.next c → u ≡ P.Const (Num (pos n))
           → CursorDid (parse_primary L s E) 1 s m w c m w (done u c')
       unfolding parse_primary
       primary_number k f g =
-          let p = passed h see e f (λ z. omega (arith, k, z)) in
+          let p = passed h see e f (number_end k) in
           let q = word_read see e in
           arrives p.step (omega arith) p.here (rw (g, literal_value x q k, ← peek-found see m w e, literal_yes x q k, ← p.is))
 
-      module _ (no : x.kind ≡ 2 → ⊥) where
-        pub primary_group : {c' : Cursor} {m1 w1 : List ℕ} {o : Out P.Opnd} → x.kind ≡ 40 → c' ≡ move_cur x.next c → CursorDid (parse_group L s E) 1 s m w c' m1 w1 o
+      module _ (no : (n : ℕ) → x.token ≡ T.Number n → ⊥) where
+        pub primary_group : {c' : Cursor} {m1 w1 : List ℕ} {o : Out P.Opnd} → x.token ≡ T.Sign 40 → c' ≡ move_cur x.next c → CursorDid (parse_group L s E) 1 s m w c' m1 w1 o
             → CursorDid (parse_primary L s E) 1 s m w c m1 w1 o
         unfolding parse_primary
         primary_group k f d =
-            let p = passed h see e f (λ z. omega (arith, k, z)) in
+            let p = passed h see e f (sign_end k) in
             let q = word_read see e in
             ends_as p.step (omega arith) d (rw (← peek-found see m w e, literal_no x q no, is-yes x q "(" spelt_open k, ← p.is))
 
-        module _ (no2 : x.kind ≡ 40 → ⊥) where
-          pub primary_ivar : {c' : Cursor} {m1 w1 : List ℕ} {o : Out P.Opnd} → x.kind ≡ 64 → c' ≡ move_cur x.next c → CursorDid (parse_ivar L s E) 1 s m w c' m1 w1 o
+        module _ (no2 : x.token ≡ T.Sign 40 → ⊥) where
+          pub primary_ivar : {c' : Cursor} {m1 w1 : List ℕ} {o : Out P.Opnd} → x.token ≡ T.Sign 64 → c' ≡ move_cur x.next c → CursorDid (parse_ivar L s E) 1 s m w c' m1 w1 o
               → CursorDid (parse_primary L s E) 1 s m w c m1 w1 o
           unfolding parse_primary
           primary_ivar k f d =
-              let p = passed h see e f (λ z. omega (arith, k, z)) in
+              let p = passed h see e f (sign_end k) in
               let q = word_read see e in
               ends_as p.step (omega arith) d
               (rw (← peek-found see m w e, literal_no x q no, is_no x q "(" spelt_open no2, is-yes x q "@" spelt_at k, ← p.is))
 
-          pub primary_name : {m1 w1 : List ℕ} {o : Out P.Opnd} → (x.kind ≡ 64 → ⊥) → CursorDid (parse_name L s E) 1 s m w c m1 w1 o → CursorDid (parse_primary L s E) 1 s m w c m1 w1 o
+          pub primary_name : {m1 w1 : List ℕ} {o : Out P.Opnd} → (x.token ≡ T.Sign 64 → ⊥) → CursorDid (parse_name L s E) 1 s m w c m1 w1 o → CursorDid (parse_primary L s E) 1 s m w c m1 w1 o
           unfolding parse_primary
           primary_name k d =
               let q = word_read see e in
               ends_as (step-none c w) (omega arith) d
               (rw (← peek-found see m w e, literal_no x q no, is_no x q "(" spelt_open no2, is_no x q "@" spelt_at k))
 
-pub expr_unseen : (L : P.Limits) (s : List ℕ) (d prec : ℕ) {m w m' w' : List ℕ} {c : Cursor} {r : Lexed} {n : ℕ} → (d ≡ 0 → ⊥) → Sees s c r → r ≡ Seen.Refused n
-    → CursorDid (parse_expr L s d prec) 1 s m w c m' w' (parsed_of (Refused n))
-expr_unseen L s d prec {n = n} f see e = expr_no L s d prec {p = Refused n} f (primary_none L s (parse_expr L s (d - 1)) see e) refl
+pub expr_unseen : (L : P.Limits) (s : List ℕ) (d prec : ℕ) {m w m' w' : List ℕ} {c : Cursor} {r : Result Word Refusal} {n : Refusal} → (d ≡ 0 → ⊥) → Sees s c r → r ≡ Err n
+    → CursorDid (parse_expr L s d prec) 1 s m w c m' w' (parsed_of (Refused (number_of n)))
+expr_unseen L s d prec {n = n} f see e = expr_no L s d prec {p = Refused (number_of n)} f (primary_none L s (parse_expr L s (d - 1)) see e) refl

@@ -1,1 +1,2 @@
+pub mod outcomes
 pub mod Readers

@@ -1,482 +1,215 @@
 // Expressions: readers that call each other, one level of depth down at each `parse_expr`.
 #![tactic(auto)]
 
-ghost use Rattle.std.specs.Prelude.{◌≡◌, ◌*◌, ◌≤◌, ◌<◌};
+ghost use Rattle.std.specs.Prelude.{◌≡◌, ◌*◌, ◌≤◌, ◌<◌, Ok};
 ghost use Rattle.rules.specs.Actions.{loop as loop_of};
 ghost use Rattle.rules.specs.Reading.{turns, parse_group, parse_ivar, parse_name, parse_primary, parse_args, parse_call, parse_member, parse_right, operator, parse_suffix, parse_expr};
-ghost use Rattle.lexer.specs.declared.Lexed.TheVariants.{Found};
 ghost use Rattle.program.specs.Rows.{opnd_of};
-ghost use Rattle.program.specs.View.{Small, limits_of};
-ghost use Rattle.cursor.specs.Cursor.{In};
-ghost use Rattle.cursor.specs.Promises.{CursorDid, Sees, parsed_of};
-ghost use Rattle.expressions.specs.Readers.{Agains, taken_of, ArgDid, ArgsDid, SuffixDid};
+ghost use Rattle.cursor.specs.Promises.{Sees};
+ghost use Rattle.cursor.specs.Parsers.{cursor_of, Reading, ParserDid, operand};
+ghost use Rattle.expressions.specs.Readers.{ParserArg, ParserArgs, ParserSuffix};
 
-use cursor::{Cursor, Ident, Matched, Moved, Parsed, Suffix};
+use cursor::{Parser, Suffix};
 use kinds::Arith;
-use lexer::{Glimpse, Lexed, Word};
-use program::{Given, Limits, Op, Opnd};
-
-// After one argument: on to the next, or the end of the arguments.
-#[derive(Clone, Copy)]
-enum ArgTurn {
-    Again(Cursor),
-    Ends(Cursor),
-    Refused(usize),
-}
-
-// How many arguments stand behind those that wait.
-#[derive(Clone, Copy)]
-enum Args {
-    Done(Cursor, usize),
-    Refused(usize),
-}
-
-// After one thing behind an operand.
-#[derive(Clone, Copy)]
-enum Suffixed {
-    Again(Cursor, Opnd),
-    Ends,
-    Refused(usize),
-}
-
-// ---- steps between the readers
-
-fn again(p: Parsed) -> Suffixed
-    ensures { Agains p result }
-{
-    match p {
-        Parsed::Done(c, v) => Suffixed::Again(c, v),
-        Parsed::Refused(e) => Suffixed::Refused(e),
-    }
-}
-
-// The arguments from base on are taken off the stack.
-fn taken(cursor: Cursor, base: usize) -> Args
-    requires { base ≤ cursor.args }
-    ensures { result ≡ taken_of base cursor }
-{
-    Args::Done(cursor::with_args(cursor, base), cursor.args - base)
-}
-
-// ---- the readers
+use lexer::{Token, Word};
+use program::{Given, Op, Opnd};
+use refusals::Refusal;
 
 #[cycle(expression)]
-fn parse_group(
-    script: &[u8],
-    program: &mut [usize],
-    scratch: &mut [usize],
-    cursor: Cursor,
-    limits: Limits,
-    depth: usize,
-) -> Parsed
-    requires fact { In script.now program.old scratch.old cursor }
-    requires small { Small limits }
-    ensures { CursorDid (parse_group (limits_of limits) script.now (parse_expr (limits_of limits) script.now depth)) 1
-        script.now program.old scratch.old cursor program.new scratch.new (parsed_of result) }
+fn parse_group(p: &mut Parser, depth: usize) -> Result<Opnd, Refusal>
+    requires { Reading p.old }
+    ensures { ParserDid (λ L s. parse_group L s (parse_expr L s depth)) 1 p.old p.new (operand p.new result) }
 {
-    match parse_expr(script, program, scratch, cursor, limits, 0, depth) {
-        Parsed::Refused(e) => Parsed::Refused(e),
-        Parsed::Done(c1, v) => match cursor::expect(script, c1, b')') {
-            Moved::Refused(e) => Parsed::Refused(e),
-            Moved::On(c2) => Parsed::Done(c2, v),
-        },
-    }
+    let v = parse_expr(p, 0, depth)?;
+    p.expect(Token::Sign(b')'))?;
+    Ok(v)
 }
 
 #[cycle(expression)]
-fn parse_ivar(
-    script: &[u8],
-    program: &mut [usize],
-    scratch: &mut [usize],
-    cursor: Cursor,
-    limits: Limits,
-    depth: usize,
-) -> Parsed
-    requires fact { In script.now program.old scratch.old cursor }
-    requires small { Small limits }
-    ensures { CursorDid (parse_ivar (limits_of limits) script.now (parse_expr (limits_of limits) script.now depth)) 1
-        script.now program.old scratch.old cursor program.new scratch.new (parsed_of result) }
+fn parse_ivar(p: &mut Parser, depth: usize) -> Result<Opnd, Refusal>
+    requires { Reading p.old }
+    ensures { ParserDid (λ L s. parse_ivar L s (parse_expr L s depth)) 1 p.old p.new (operand p.new result) }
 {
-    match cursor::expect_ident(script, cursor) {
-        Ident::Refused(e) => Parsed::Refused(e),
-        Ident::Found(c1, n) => match cursor::match_token(script, c1, b'=') {
-            Matched::Refused(e) => Parsed::Refused(e),
-            Matched::Yes(c2) => match parse_expr(script, program, scratch, c2, limits, 0, depth) {
-                Parsed::Refused(e) => Parsed::Refused(e),
-                Parsed::Done(c3, v) => cursor::set_ivar(program, c3, limits, n, v),
-            },
-            Matched::Not => cursor::get_ivar(program, c1, limits, n),
-        },
+    let n = p.expect_ident()?;
+    if p.match_token(Token::Sign(b'='))? {
+        let v = parse_expr(p, 0, depth)?;
+        return p.set_ivar(n, v);
     }
+    p.get_ivar(n)
 }
 
 // From the word x on, which is the next.
 #[cycle(expression)]
-fn parse_name(
-    script: &[u8],
-    program: &mut [usize],
-    scratch: &mut [usize],
-    cursor: Cursor,
-    limits: Limits,
-    x: Word,
-    depth: usize,
-) -> Parsed
-    requires fact { In script.now program.old scratch.old cursor }
-    requires small { Small limits }
-    requires sees { Sees script.now cursor (Found x) }
-    ensures { CursorDid (parse_name (limits_of limits) script.now (parse_expr (limits_of limits) script.now depth)) 1
-        script.now program.old scratch.old cursor program.new scratch.new (parsed_of result) }
+fn parse_name(p: &mut Parser, x: Word, depth: usize) -> Result<Opnd, Refusal>
+    requires reading { Reading p.old }
+    requires sees { Sees p.old.script.now (cursor_of p.old) (Ok x) }
+    ensures { ParserDid (λ L s. parse_name L s (parse_expr L s depth)) 1 p.old p.new (operand p.new result) }
 {
-    match cursor::ident_of(cursor, x) {
-        Ident::Refused(e) => Parsed::Refused(e),
-        Ident::Found(c1, n) => match cursor::match_token(script, c1, b'=') {
-            Matched::Refused(f) => Parsed::Refused(f),
-            Matched::Yes(c2) => match parse_expr(script, program, scratch, c2, limits, 0, depth) {
-                Parsed::Refused(e) => Parsed::Refused(e),
-                Parsed::Done(c3, v) => cursor::terms::assign(script, scratch, c3, n, v),
-            },
-            Matched::Not => cursor::terms::name_value(script, program, scratch, c1, n),
-        },
+    let n = p.take_name(x)?;
+    if p.match_token(Token::Sign(b'='))? {
+        let v = parse_expr(p, 0, depth)?;
+        return p.assign(n, v);
     }
+    p.name_value(n)
 }
 
 // From the word x on, which is the next.
 #[cycle(expression)]
-fn parse_primary(
-    script: &[u8],
-    program: &mut [usize],
-    scratch: &mut [usize],
-    cursor: Cursor,
-    limits: Limits,
-    x: Word,
-    depth: usize,
-) -> Parsed
-    requires fact { In script.now program.old scratch.old cursor }
-    requires small { Small limits }
-    requires sees { Sees script.now cursor (Found x) }
-    ensures { CursorDid (parse_primary (limits_of limits) script.now (parse_expr (limits_of limits) script.now depth)) 1
-        script.now program.old scratch.old cursor program.new scratch.new (parsed_of result) }
+fn parse_primary(p: &mut Parser, x: Word, depth: usize) -> Result<Opnd, Refusal>
+    requires reading { Reading p.old }
+    requires sees { Sees p.old.script.now (cursor_of p.old) (Ok x) }
+    ensures { ParserDid (λ L s. parse_primary L s (parse_expr L s depth)) 1 p.old p.new (operand p.new result) }
 {
-    if x.kind == lexer::NUMBER {
-        return Parsed::Done(cursor::move_to(cursor, x.next), cursor::number(x.value));
+    if let Token::Number(n) = x.token {
+        p.at = x.next;
+        return Ok(cursor::number(n));
     }
-    if x.kind == b'(' {
-        return parse_group(
-            script,
-            program,
-            scratch,
-            cursor::move_to(cursor, x.next),
-            limits,
-            depth,
-        );
+    if x.token == Token::Sign(b'(') {
+        p.at = x.next;
+        return parse_group(p, depth);
     }
-    if x.kind == b'@' {
-        return parse_ivar(
-            script,
-            program,
-            scratch,
-            cursor::move_to(cursor, x.next),
-            limits,
-            depth,
-        );
+    if x.token == Token::Sign(b'@') {
+        p.at = x.next;
+        return parse_ivar(p, depth);
     }
-    parse_name(script, program, scratch, cursor, limits, x, depth)
+    parse_name(p, x, depth)
 }
 
-// One argument; a comma may stand behind the last.
+// One argument, if there is one: whether a comma stands behind it, so that there may be another.
 #[cycle(expression)]
-fn parse_arg(
-    script: &[u8],
-    program: &mut [usize],
-    scratch: &mut [usize],
-    cursor: Cursor,
-    limits: Limits,
-    depth: usize,
-) -> ArgTurn
-    requires fact { In script.now program.old scratch.old cursor }
-    requires small { Small limits }
-    requires args_bound { 2 * cursor.args < cursor.at }
-    ensures { ArgDid (limits_of limits) script.now (parse_expr (limits_of limits) script.now depth) program.old
-        scratch.old cursor program.new scratch.new result }
+fn parse_arg(p: &mut Parser, depth: usize) -> Result<bool, Refusal>
+    requires reading { Reading p.old }
+    requires args_bound { 2 * p.old.args < p.old.at }
+    ensures { ParserArg (λ L s. parse_expr L s depth) p.old p.new result }
 {
-    match cursor::peek(script, cursor) {
-        Lexed::Refused(e) => ArgTurn::Refused(e),
-        Lexed::Found(x) => {
-            if x.kind == b')' {
-                return ArgTurn::Ends(cursor);
-            }
-            match parse_from(script, program, scratch, cursor, limits, x, 0, depth) {
-                Parsed::Refused(e) => ArgTurn::Refused(e),
-                Parsed::Done(c1, v) => {
-                    let c2 = cursor::push_arg(scratch, c1, v);
-                    match cursor::match_token(script, c2, b',') {
-                        Matched::Refused(e) => ArgTurn::Refused(e),
-                        Matched::Yes(c3) => ArgTurn::Again(c3),
-                        Matched::Not => ArgTurn::Ends(c2),
-                    }
-                }
-            }
-        }
+    let x = p.peek()?;
+    if x.token == Token::Sign(b')') {
+        return Ok(false);
     }
+    let v = parse_from(p, x, 0, depth)?;
+    p.push_arg(v);
+    p.match_token(Token::Sign(b','))
+}
+
+// The arguments up to `)`: how many stand behind those that wait.
+#[cycle(expression)]
+fn parse_args(p: &mut Parser, depth: usize) -> Result<usize, Refusal>
+    requires reading { Reading p.old }
+    requires args_bound { 2 * p.old.args < p.old.at }
+    ensures { ParserArgs (λ L s. parse_args L s (parse_expr L s depth)) p.old p.new result }
+{
+    let base = p.args;
+    while parse_arg(p, depth)? {}
+    p.expect(Token::Sign(b')'))?;
+    let n = p.args - base;
+    p.args = base;
+    Ok(n)
 }
 
 #[cycle(expression)]
-fn parse_args(
-    script: &[u8],
-    program: &mut [usize],
-    scratch: &mut [usize],
-    cursor: Cursor,
-    limits: Limits,
-    depth: usize,
-) -> Args
-    requires fact { In script.now program.old scratch.old cursor }
-    requires small { Small limits }
-    requires args_bound { 2 * cursor.args < cursor.at }
-    ensures { ArgsDid (parse_args (limits_of limits) script.now (parse_expr (limits_of limits) script.now depth))
-        script.now program.old scratch.old cursor program.new scratch.new result }
+fn parse_call(p: &mut Parser, v: Opnd, depth: usize) -> Result<Opnd, Refusal>
+    requires reading { Reading p.old }
+    requires args_bound { 2 * p.old.args < p.old.at }
+    ensures { ParserDid (λ L s. parse_call L s (parse_expr L s depth) (opnd_of v)) 1 p.old p.new (operand p.new result) }
 {
-    let base = cursor.args;
-    let mut cur = cursor;
-    loop {
-        match parse_arg(script, program, scratch, cur, limits, depth) {
-            ArgTurn::Again(c1) => {
-                cur = c1;
-            }
-            ArgTurn::Ends(c1) => {
-                return match cursor::expect(script, c1, b')') {
-                    Moved::Refused(e) => Args::Refused(e),
-                    Moved::On(c2) => taken(c2, base),
-                };
-            }
-            ArgTurn::Refused(e) => {
-                return Args::Refused(e);
-            }
-        }
-    }
+    let n = parse_args(p, depth)?;
+    p.bare_call(v, n)
 }
 
 #[cycle(expression)]
-fn parse_call(
-    script: &[u8],
-    program: &mut [usize],
-    scratch: &mut [usize],
-    cursor: Cursor,
-    limits: Limits,
-    v: Opnd,
-    depth: usize,
-) -> Parsed
-    requires fact { In script.now program.old scratch.old cursor }
-    requires small { Small limits }
-    requires args_bound { 2 * cursor.args < cursor.at }
-    ensures { CursorDid
-        (parse_call (limits_of limits) script.now (parse_expr (limits_of limits) script.now depth) (opnd_of v)) 1
-        script.now program.old scratch.old cursor program.new scratch.new (parsed_of result) }
+fn parse_member(p: &mut Parser, v: Opnd, depth: usize) -> Result<Opnd, Refusal>
+    requires { Reading p.old }
+    ensures { ParserDid (λ L s. parse_member L s (parse_expr L s depth) (opnd_of v)) 1 p.old p.new (operand p.new result) }
 {
-    match parse_args(script, program, scratch, cursor, limits, depth) {
-        Args::Refused(e) => Parsed::Refused(e),
-        Args::Done(c1, n) => cursor::bare_call(program, scratch, c1, limits, v, n),
+    let n = p.expect_ident()?;
+    if p.match_token(Token::Sign(b'('))? {
+        let k = parse_args(p, depth)?;
+        return p.send(v, n, k);
     }
-}
-
-#[cycle(expression)]
-fn parse_member(
-    script: &[u8],
-    program: &mut [usize],
-    scratch: &mut [usize],
-    cursor: Cursor,
-    limits: Limits,
-    v: Opnd,
-    depth: usize,
-) -> Parsed
-    requires fact { In script.now program.old scratch.old cursor }
-    requires small { Small limits }
-    ensures { CursorDid
-        (parse_member (limits_of limits) script.now (parse_expr (limits_of limits) script.now depth) (opnd_of v)) 1
-        script.now program.old scratch.old cursor program.new scratch.new (parsed_of result) }
-{
-    match cursor::expect_ident(script, cursor) {
-        Ident::Refused(e) => Parsed::Refused(e),
-        Ident::Found(c1, n) => match cursor::match_token(script, c1, b'(') {
-            Matched::Refused(e) => Parsed::Refused(e),
-            Matched::Yes(c2) => match parse_args(script, program, scratch, c2, limits, depth) {
-                Args::Refused(e) => Parsed::Refused(e),
-                Args::Done(c3, k) => cursor::terms::send(
-                    script, program, scratch, c3, limits, v, n, k,
-                ),
-            },
-            Matched::Not => cursor::read_attr(script, program, c1, limits, v, n),
-        },
-    }
+    p.read_attr(v, n)
 }
 
 #[cycle(expression)]
 fn parse_right(
-    script: &[u8],
-    program: &mut [usize],
-    scratch: &mut [usize],
-    cursor: Cursor,
-    limits: Limits,
+    p: &mut Parser,
     v: Opnd,
     o: Arith,
     right: usize,
     depth: usize,
-) -> Parsed
-    requires fact { In script.now program.old scratch.old cursor }
-    requires small { Small limits }
-    ensures { CursorDid
-        (parse_right (limits_of limits) script.now (parse_expr (limits_of limits) script.now depth) (operator o 0 right) (opnd_of v))
-        1
-        script.now program.old scratch.old cursor program.new scratch.new (parsed_of result) }
+) -> Result<Opnd, Refusal>
+    requires { Reading p.old }
+    ensures { ParserDid (λ L s. parse_right L s (parse_expr L s depth) (operator o 0 right) (opnd_of v)) 1 p.old p.new (operand p.new result) }
 {
-    match parse_expr(script, program, scratch, cursor, limits, right, depth) {
-        Parsed::Refused(e) => Parsed::Refused(e),
-        Parsed::Done(c1, x) => cursor::push(program, c1, limits, Op::Compute(o), Given::Two(v, x)),
-    }
+    let w = parse_expr(p, right, depth)?;
+    p.push(Op::Compute(o), Given::Two(v, w))
 }
 
-// One thing behind the operand v: it begins with a sign.
+// One thing behind the operand v, which begins with a sign: what it makes of v, if there is one.
 #[cycle(expression)]
-fn parse_suffix(
-    script: &[u8],
-    program: &mut [usize],
-    scratch: &mut [usize],
-    cursor: Cursor,
-    limits: Limits,
-    v: Opnd,
-    prec: usize,
-    depth: usize,
-) -> Suffixed
-    requires fact { In script.now program.old scratch.old cursor }
-    requires small { Small limits }
-    ensures { SuffixDid
-        (parse_suffix (limits_of limits) script.now (parse_expr (limits_of limits) script.now depth) prec (opnd_of v)) v
-        script.now program.old scratch.old cursor program.new scratch.new result }
+fn parse_suffix(p: &mut Parser, v: Opnd, prec: usize, depth: usize) -> Result<Option<Opnd>, Refusal>
+    requires { Reading p.old }
+    ensures { ParserSuffix (λ L s. parse_suffix L s (parse_expr L s depth) prec (opnd_of v)) v p.old p.new result }
 {
-    match lexer::glance(script, cursor.at) {
-        Glimpse::Refused(e) => Suffixed::Refused(e),
-        Glimpse::Other => Suffixed::Ends,
-        Glimpse::Sign(k, next) => match cursor::suffix_of(k, prec) {
-            Suffix::Operator(o, right) => again(parse_right(
-                script,
-                program,
-                scratch,
-                cursor::move_to(cursor, next),
-                limits,
-                v,
-                o,
-                right,
-                depth,
-            )),
-            Suffix::Call => again(parse_call(
-                script,
-                program,
-                scratch,
-                cursor::move_to(cursor, next),
-                limits,
-                v,
-                depth,
-            )),
-            Suffix::Member => again(parse_member(
-                script,
-                program,
-                scratch,
-                cursor::move_to(cursor, next),
-                limits,
-                v,
-                depth,
-            )),
-            Suffix::Ends => Suffixed::Ends,
-        },
-    }
-}
-
-#[cycle(expression)]
-fn parse_suffixes(
-    script: &[u8],
-    program: &mut [usize],
-    scratch: &mut [usize],
-    cursor: Cursor,
-    limits: Limits,
-    v: Opnd,
-    prec: usize,
-    depth: usize,
-) -> Parsed
-    requires fact { In script.now program.old scratch.old cursor }
-    requires small { Small limits }
-    ensures { CursorDid
-        (loop_of (parse_suffix (limits_of limits) script.now (parse_expr (limits_of limits) script.now depth) prec)
-        (turns script.now) (opnd_of v))
-        0
-        script.now program.old scratch.old cursor program.new scratch.new (parsed_of result) }
-{
-    let mut cur = cursor;
-    let mut left = v;
-    loop {
-        match parse_suffix(script, program, scratch, cur, limits, left, prec, depth) {
-            Suffixed::Again(c1, v1) => {
-                cur = c1;
-                left = v1;
-            }
-            Suffixed::Ends => {
-                return Parsed::Done(cur, left);
-            }
-            Suffixed::Refused(e) => {
-                return Parsed::Refused(e);
-            }
+    let Some((k, next)) = lexer::glance(p.script, p.at)? else {
+        return Ok(None);
+    };
+    match cursor::suffix_of(k, prec) {
+        Suffix::Operator(o, right) => {
+            p.at = next;
+            let w = parse_right(p, v, o, right, depth)?;
+            Ok(Some(w))
         }
+        Suffix::Call => {
+            p.at = next;
+            let w = parse_call(p, v, depth)?;
+            Ok(Some(w))
+        }
+        Suffix::Member => {
+            p.at = next;
+            let w = parse_member(p, v, depth)?;
+            Ok(Some(w))
+        }
+        Suffix::Ends => Ok(None),
     }
+}
+
+#[cycle(expression)]
+fn parse_suffixes(p: &mut Parser, v: Opnd, prec: usize, depth: usize) -> Result<Opnd, Refusal>
+    requires { Reading p.old }
+    ensures { ParserDid (λ L s. loop_of (parse_suffix L s (parse_expr L s depth) prec) (turns s) (opnd_of v)) 0
+        p.old p.new (operand p.new result) }
+{
+    let mut left = v;
+    while let Some(w) = parse_suffix(p, left, prec, depth)? {
+        left = w;
+    }
+    Ok(left)
 }
 
 // From the word x on, which is the next.
 #[cycle(expression)]
-pub fn parse_from(
-    script: &[u8],
-    program: &mut [usize],
-    scratch: &mut [usize],
-    cursor: Cursor,
-    limits: Limits,
-    x: Word,
-    prec: usize,
-    depth: usize,
-) -> Parsed
-    requires fact { In script.now program.old scratch.old cursor }
-    requires small { Small limits }
-    requires sees { Sees script.now cursor (Found x) }
-    ensures { CursorDid (parse_expr (limits_of limits) script.now depth prec) 1 script.now program.old
-        scratch.old cursor program.new scratch.new (parsed_of result) }
+pub fn parse_from(p: &mut Parser, x: Word, prec: usize, depth: usize) -> Result<Opnd, Refusal>
+    requires reading { Reading p.old }
+    requires sees { Sees p.old.script.now (cursor_of p.old) (Ok x) }
+    ensures { ParserDid (λ L s. parse_expr L s depth prec) 1 p.old p.new (operand p.new result) }
 {
-    if 0 < depth {
-        let d = depth - 1;
-        match parse_primary(script, program, scratch, cursor, limits, x, d) {
-            Parsed::Done(c1, v) => parse_suffixes(script, program, scratch, c1, limits, v, prec, d),
-            Parsed::Refused(e) => Parsed::Refused(e),
-        }
-    } else {
-        Parsed::Refused(11)
+    if depth < 1 {
+        return Err(Refusal::OverLimit);
     }
+    let d = depth - 1;
+    let v = parse_primary(p, x, d)?;
+    parse_suffixes(p, v, prec, d)
 }
 
 // The reference's `parse_`: it counts towards the depth as it is entered, before a word is looked at.
 #[cycle(expression)]
-pub fn parse_expr(
-    script: &[u8],
-    program: &mut [usize],
-    scratch: &mut [usize],
-    cursor: Cursor,
-    limits: Limits,
-    prec: usize,
-    depth: usize,
-) -> Parsed
-    requires fact { In script.now program.old scratch.old cursor }
-    requires small { Small limits }
-    ensures { CursorDid (parse_expr (limits_of limits) script.now depth prec) 1 script.now program.old
-        scratch.old cursor program.new scratch.new (parsed_of result) }
+pub fn parse_expr(p: &mut Parser, prec: usize, depth: usize) -> Result<Opnd, Refusal>
+    requires { Reading p.old }
+    ensures { ParserDid (λ L s. parse_expr L s depth prec) 1 p.old p.new (operand p.new result) }
 {
     if depth == 0 {
-        return Parsed::Refused(11);
+        return Err(Refusal::OverLimit);
     }
-    match cursor::peek(script, cursor) {
-        Lexed::Found(x) => parse_from(script, program, scratch, cursor, limits, x, prec, depth),
-        Lexed::Refused(e) => Parsed::Refused(e),
-    }
+    let x = p.peek()?;
+    parse_from(p, x, prec, depth)
 }

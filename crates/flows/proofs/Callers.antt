@@ -1,4 +1,5 @@
 -- The arguments of a function's callers, and a Param's kind. Assumes nothing.
+use Rattle.std.specs.Prelude.{Ok as Of, Some as Set, None as Other, Option, Some, None as Done}
 use mathlib.Core.Bool.{Bool as 𝔹, true, false, cond, ◌||◌}
 use mathlib.Core.Path.{◌≡◌, refl, sym, ap, subst, ◌∙◌}
 use mathlib.Core.Option.{none, some}
@@ -17,10 +18,8 @@ use Rattle.ids.specs.declared.InsnId.{InsnId}
 use Rattle.ids.proofs.Bits.{Either, yes, no, either}
 use Rattle.kinds.specs.declared.Kind.{Kind}
 use Rattle.kinds.specs.declared.Kind.TheVariants.{Empty, Nil, Objects}
-use Rattle.kinds.specs.declared.Joined.{Joined}
-use Rattle.kinds.specs.declared.Joined.TheVariants.{Of}
 use Rattle.kinds.specs.Kinds.{is_set}
-use Rattle.kinds.specs.Union.{union_all}
+use Rattle.kinds.specs.Union.{Joined, union_all}
 use Rattle.rules.specs.Actions.{lift}
 use Rattle.rules.specs.Values.{to_answer}
 use Rattle.rules.specs.Lists.{has, places_from, cons_if}
@@ -38,8 +37,6 @@ use Rattle.program.specs.View.{program_view, ProgramReady}
 use Rattle.program.proofs.Areas.{given-length}
 use Rattle.program.proofs.Reading.{insn_read, operand_read}
 use Rattle.state.specs.declared.Sizes.{Sizes}
-use Rattle.state.specs.declared.NextInsn.{NextInsn}
-use Rattle.state.specs.declared.NextInsn.TheVariants.{Place, Done}
 use Rattle.state.specs.View.{kinds_of, called_of, StateHeld}
 use Rattle.state.specs.View.{state_view}
 use Rattle.state.specs.Changes.{marks_from, Following}
@@ -48,10 +45,8 @@ use Rattle.machine.proofs.opnds.Given.{kind_of_lem}
 use Rattle.program.specs.Layout.{insns_at, opnds_at, insn_words}
 use Rattle.flows.specs.declared.Pass.{Pass}
 use Rattle.flows.specs.declared.Tally.TheVariants.{Nothing as None}
-use Rattle.flows.specs.declared.AsSet.{AsSet}
-use Rattle.flows.specs.declared.AsSet.TheVariants.{Set, Other}
 use Rattle.flows.specs.Tally.{Nothing, least, taken_all, finish, union_over, FitsAt, TallyFits}
-use Rattle.flows.specs.Flows.{tally_of, Passed, Argues, ArguesAt, FlowsSound, FlowsKnown, PassedIn, as_set, join_sets, SetsFrom, ParamIs}
+use Rattle.flows.specs.Flows.{AsSet, tally_of, Passed, Argues, ArguesAt, FlowsSound, FlowsKnown, PassedIn, as_set, join_sets, SetsFrom, ParamIs}
 use Rattle.flows.proofs.Whole.{union-over}
 use Rattle.flows.proofs.Sets.{sets-union}
 use Rattle.flows.proofs.Standing.{stands, stands_none}
@@ -203,28 +198,25 @@ mark-is t f k i e = marked-first (get_or t f []) (length (get_or t f [])) k i (m
 abbrev pub Passing : List ℕ → Counts → Sizes → List ℕ → ℕ → ℕ → Pass → Pass → ℕ → Type 0
 Passing m c z w f n x₀ x k = (y : Pass) → PassedIn m c z w f n k x y → PassedIn m c z w f n 0 x₀ y
 
-module _ {m : List ℕ} {c : Counts} {z : Sizes} (w : List ℕ) {f k : ℕ} {s : NextInsn} (q : FlowsKnown m c z (called_of z w))
+module _ {m : List ℕ} {c : Counts} {z : Sizes} (w : List ℕ) {f k : ℕ} {s : Option InsnId} (q : FlowsKnown m c z (called_of z w))
     (h : Following (called_of z w) f z.insns k s) where
-  next-is : {t : NextInsn} → s ≡ t → Following (called_of z w) f z.insns k t
+  next-is : {t : Option InsnId} → s ≡ t → Following (called_of z w) f z.insns k t
   next-is e = rw e at h
 
-  pub caller-below : (i : InsnId) → s ≡ Place i → i.0 < c.insns
-  caller-below i e = let a = (next-is e).ok.1 in let b = q.sizes in omega arith
-
-  pub caller-falls : (i : InsnId) → s ≡ Place i → z.insns - (i.0 + 1) < z.insns - k
+  pub caller-falls : (i : InsnId) → s ≡ Some i → z.insns - (i.0 + 1) < z.insns - k
   caller-falls i e = let b = (next-is e).ok in omega (arith, b.0, b.1)
 
-  pub caller-fits : StateHeld z w → (i : InsnId) → s ≡ Place i → FitsIn w32 (i.0 + 1)
+  pub caller-fits : StateHeld z w → (i : InsnId) → s ≡ Some i → FitsIn w32 (i.0 + 1)
   caller-fits g i e = let b = (next-is e).ok.1 in record { fits = omega arith }
 
-  pub caller-inside : (n : ℕ) (i : InsnId) {o : Opnd} → s ≡ Place i → Argues m c i.0 n o → OperandInside z o
+  pub caller-inside : (n : ℕ) (i : InsnId) {o : Opnd} → s ≡ Some i → Argues m c i.0 n o → OperandInside z o
   caller-inside n i {o} e a =
       fits-inside z o (rw (a.is P.limits q.script (q.sound.calls f i.0 (mark-is (called_of z w) f k i.0 (next-is e).is))) (q.sound.listed i.0 n))
 
   pub caller-done : (n : ℕ) (x₀ x : Pass) → s ≡ Done → Passing m c z w f n x₀ x k → PassedIn m c z w f n 0 x₀ x
   caller-done n x₀ x e g = g x (record { passed = λ L y _. rw (next-is e).is (passed_none (kinds_of z w) x) })
 
-  pub caller-more : (n : ℕ) (x₀ x : Pass) (i : InsnId) {o : Opnd} {x' : Pass} → s ≡ Place i → Argues m c i.0 n o → Passed (kinds_of z w) (opnd_of o ∷ []) x x'
+  pub caller-more : (n : ℕ) (x₀ x : Pass) (i : InsnId) {o : Opnd} {x' : Pass} → s ≡ Some i → Argues m c i.0 n o → Passed (kinds_of z w) (opnd_of o ∷ []) x x'
       → Passing m c z w f n x₀ x k → Passing m c z w f n x₀ x' (i.0 + 1)
   caller-more n x₀ x i {o} {x'} e a p g y r = g y (record {
     passed = λ L u so.

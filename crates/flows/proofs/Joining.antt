@@ -1,4 +1,5 @@
 -- join_sets at the heads of its loops. Assumes nothing.
+use Rattle.std.specs.Prelude.{Some as Set, None as Other}
 use mathlib.Core.Bool.{Bool as 𝔹, true, false, cond, ◌||◌, or-false}
 use mathlib.Core.Path.{◌≡◌, refl, sym, ap, ap₂, ◌∙◌}
 use mathlib.Core.List.{List, [], ◌∷◌, ◌++◌, map}
@@ -32,9 +33,7 @@ use Rattle.state.specs.View.{kinds_of, called_of, StateHeld}
 use Rattle.state.specs.Changes.{marks_from}
 use Rattle.machine.specs.opnds.Reads.{OperandInside, kind_in}
 use Rattle.flows.specs.declared.Words.{Words}
-use Rattle.flows.specs.declared.AsSet.{AsSet}
-use Rattle.flows.specs.declared.AsSet.TheVariants.{Set, Other}
-use Rattle.flows.specs.Flows.{Argues, operand_of, FlowsSound, FlowsKnown, as_set, join_sets, SetsFrom}
+use Rattle.flows.specs.Flows.{AsSet, Argues, operand_of, FlowsSound, FlowsKnown, as_set, join_sets, SetsFrom}
 use Rattle.flows.proofs.Callers.{fits-inside, join_step, join-none}
 
 -- ---- an operand that was joined

@@ -1,4 +1,5 @@
 -- The two passes come to the same over operands as they come and over their set. Assumes nothing.
+use Rattle.std.specs.Prelude.{Ok as Of, Err as Refused}
 use mathlib.Core.Bool.{Bool as 𝔹, true, false, not, cond, ◌&&◌, ◌||◌}
 use mathlib.Core.Path.{◌≡◌, refl, sym, ap, ◌∙◌}
 use mathlib.Core.List.{List, [], ◌∷◌}
@@ -9,10 +10,9 @@ use lib.Dec.{ltb}
 use lib.Bits.{bit_or}
 use Rattle.ids.proofs.Bits.{Either, yes, no, either}
 use Rattle.kinds.specs.declared.Kind.{Kind}
-use Rattle.kinds.specs.declared.Joined.{Joined}
-use Rattle.kinds.specs.declared.Joined.TheVariants.{Of, Refused}
 use Rattle.kinds.specs.Kinds.{same_kind, is_empty, is_any, is_name, is_number, is_truth}
-use Rattle.kinds.specs.Union.{set_of, wide, is_alone, mix_of, lub, union_of, join_of}
+use Rattle.refusals.specs.declared.Refusal.TheVariants.{KindsClash}
+use Rattle.kinds.specs.Union.{Joined, set_of, wide, is_alone, mix_of, lub, union_of, join_of}
 use Rattle.kinds.proofs.Lub.{lub_comm, lub_assoc, lub_idem, lub_mix, lub-full}
 use Rattle.kinds.proofs.Laws.{union_no, union_comm, union-plain, lub-plain}
 use Rattle.rules.specs.Program.{Opnd, Const, Insn, same_opnd, opnd_before}
@@ -88,10 +88,10 @@ wide-some false true s = refl
 wide-some false false s = refl
 
 module _ (u a : Kind) (p : Solid u) (r : Solid a) where
-  solid_no : is_name u ≡ true → union_of u a ≡ Refused 19
+  solid_no : is_name u ≡ true → union_of u a ≡ Refused KindsClash
   solid_no h = union_no u a (rw (p.some, r.some, p.full, r.full, h))
 
-  solid_never : is_name a ≡ true → union_of u a ≡ Refused 19
+  solid_never : is_name a ≡ true → union_of u a ≡ Refused KindsClash
   solid_never h = union_comm u a ∙ union_no a u (rw (r.some, p.some, r.full, p.full, h))
 
   solid-lub : is_name u ≡ false → is_name a ≡ false → Solid (lub u a)

@@ -1,4 +1,5 @@
 -- Where no kind is a name or Any, and one is a set, their union is the union of their classes, in any order. Assumes nothing.
+use Rattle.std.specs.Prelude.{Ok as Of, Some as Set, None as Other}
 use mathlib.Core.Bool.{Bool as 𝔹, true, false, cond, ◌||◌, or_self as or-self𝔹, or-false}
 use mathlib.Core.Path.{◌≡◌, refl, sym, ap, ◌∙◌}
 use mathlib.Core.List.{List, [], ◌∷◌, map}
@@ -9,10 +10,8 @@ use lib.Bits.{bit_or, or_zero_l, or_zero_r, or_comm, or_self}
 use Rattle.ids.proofs.Bits.{or_assoc, Either, yes, no, either}
 use Rattle.kinds.specs.declared.Kind.{Kind}
 use Rattle.kinds.specs.declared.Kind.TheVariants.{Empty, Nil, Num, Truth, Fun, Class, Int, Bool, Objects, Any}
-use Rattle.kinds.specs.declared.Joined.{Joined}
-use Rattle.kinds.specs.declared.Joined.TheVariants.{Of}
 use Rattle.kinds.specs.Kinds.{same_kind, is_empty, is_name, is_set, is_any}
-use Rattle.kinds.specs.Union.{set_of, is_alone, mix_of, lub, union_of, join_of, union_all}
+use Rattle.kinds.specs.Union.{Joined, set_of, is_alone, mix_of, lub, union_of, join_of, union_all}
 use Rattle.kinds.proofs.Lub.{lub_comm, lub_assoc}
 use Rattle.kinds.proofs.Laws.{union-plain, union-sets, lub-plain}
 use Rattle.kinds.proofs.Steps.{empty_is}
@@ -20,10 +19,8 @@ use Rattle.rules.specs.Program.{Opnd, Const, Insn, same_opnd}
 use Rattle.rules.specs.Machine.{opnd_set}
 use Rattle.rules.proofs.Wellformed.Tests.{or_false_lem as or_parts}
 use Rattle.machine.specs.opnds.Reads.{kind_in}
-use Rattle.flows.specs.declared.AsSet.{AsSet}
-use Rattle.flows.specs.declared.AsSet.TheVariants.{Set, Other}
 use Rattle.flows.specs.Tally.{Tally, Nothing, One, Many, lower, least, before, add, take, taken_all, close, union_over, FitsAt, TallyFits}
-use Rattle.flows.specs.Flows.{as_set, join_sets}
+use Rattle.flows.specs.Flows.{AsSet, as_set, join_sets}
 use Rattle.flows.proofs.Order.{same-is}
 use Rattle.flows.proofs.Whole.{union-over, take_empty}
 

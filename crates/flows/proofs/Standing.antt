@@ -1,9 +1,9 @@
 -- Where an operand stands, and its kind in words. Assumes nothing.
-use mathlib.Core.Bool.{Bool as 𝔹, true, false, ◌&&◌}
-use mathlib.Core.Path.{◌≡◌, refl, sym, ap₂, ◌∙◌}
+use Rattle.std.specs.Prelude.{Some as Set, None as Other}
+use mathlib.Core.Path.{◌≡◌, refl, sym, ◌∙◌}
 use mathlib.Core.List.{List}
 use Prim.Native.Nat.{ℕ, zero, suc, ◌+◌, ◌%◌, ◌^◌, ◌<◌}
-use borrow.Author.Tests.{ne_eqb, eqb-true}
+use borrow.Author.Tests.{ne_eqb}
 use native.Mathlib.Omega.{arith}
 use lib.Dec.{eqb}
 use lib.ListN.{get_or}
@@ -18,8 +18,6 @@ use Rattle.program.proofs.Forms.{opnd_insn, opnd_const}
 use Rattle.state.specs.declared.Sizes.{Sizes}
 use Rattle.machine.specs.opnds.Reads.{OperandInside, kind_in}
 use Rattle.machine.proofs.opnds.Given.{inside-at, const_read, insn_read}
-use Rattle.flows.specs.declared.Words.{Words}
-use Rattle.flows.specs.declared.AsSet.TheVariants.{Set, Other}
 use Rattle.flows.specs.Flows.{Argues, standing, ArguesAt, as_set}
 
 module _ (m : List ℕ) {at : ℕ} where
@@ -61,13 +59,6 @@ module _ {t : ℕ} (x : ℕ) where
   pub words_const : (ks : List Kind) → (t ≡ 10 → ⊥) → kind_from t x ≡ kind_in ks (opnd_of (opnd_from t x))
   words_const ks e = const_read ks (kind_from t x) (sym (opnd_const x e refl))
 
-pub same_parts : (a b : Words) → (eqb a.tag b.tag && eqb a.bits b.bits) ≡ true → a ≡ b
-same_parts a b h = go (eqb a.tag b.tag) refl h
-  where
-    go : (x : 𝔹) → eqb a.tag b.tag ≡ x → (x && eqb a.bits b.bits) ≡ true → a ≡ b
-    go true e g = ap₂ (λ (t : ℕ) (y : ℕ). record { tag = t; bits = y }) (eqb-true a.tag b.tag e) (eqb-true a.bits b.bits g)
-    go false e g = cc
-
 -- ---- words as a set
 
 pub objects_set : {t : ℕ} (x : ℕ) → t ≡ 8 → Set x ≡ as_set (kind_from t x)
@@ -78,13 +69,13 @@ pub empty_set : {t : ℕ} (x : ℕ) → t ≡ 0 → Set 0 ≡ as_set (kind_from 
 unfolding kind_from
 empty_set x e = rw e
 
-pub nil-set : {t : ℕ} (x : ℕ) → t ≡ 1 → Set 1 ≡ as_set (kind_from t x)
+pub nil_set : {t : ℕ} (x : ℕ) → t ≡ 1 → Set 1 ≡ as_set (kind_from t x)
 unfolding kind_from
-nil-set x e = rw e
+nil_set x e = rw e
 
-pub number-set : {t : ℕ} (x : ℕ) → t ≡ 2 → Set 2 ≡ as_set (kind_from t x)
+pub number_set : {t : ℕ} (x : ℕ) → t ≡ 2 → Set 2 ≡ as_set (kind_from t x)
 unfolding kind_from
-number-set x e = rw e
+number_set x e = rw e
 
 pub int_set : {t : ℕ} (x : ℕ) → t ≡ 6 → Set 2 ≡ as_set (kind_from t x)
 unfolding kind_from
@@ -94,13 +85,13 @@ pub bool_set : {t : ℕ} (x : ℕ) → t ≡ 7 → Set 12 ≡ as_set (kind_from 
 unfolding kind_from
 bool_set x e = rw e
 
-pub false-set : {t x : ℕ} → t ≡ 3 → x ≡ 0 → Set 8 ≡ as_set (kind_from t x)
+pub false_set : {t x : ℕ} → t ≡ 3 → x ≡ 0 → Set 8 ≡ as_set (kind_from t x)
 unfolding kind_from
-false-set e f = rw (e, f)
+false_set e f = rw (e, f)
 
-pub true-set : {t x : ℕ} → t ≡ 3 → (x ≡ 0 → ⊥) → Set 4 ≡ as_set (kind_from t x)
+pub true_set : {t x : ℕ} → t ≡ 3 → (x ≡ 0 → ⊥) → Set 4 ≡ as_set (kind_from t x)
 unfolding kind_from
-true-set {t} {x} e f = rw (e, ne_eqb x 0 f)
+true_set {t} {x} e f = rw (e, ne_eqb x 0 f)
 
 pub no_set : (t x : ℕ) → (t ≡ 8 → ⊥) → (t ≡ 0 → ⊥) → (t ≡ 1 → ⊥) → (t ≡ 2 → ⊥) → (t ≡ 6 → ⊥) → (t ≡ 7 → ⊥) → (t ≡ 3 → ⊥) → Other ≡ as_set (kind_from t x)
 unfolding kind_from

@@ -1,4 +1,5 @@
 -- The steps of a pass, over the code's tallies. Assumes nothing.
+use Rattle.std.specs.Prelude.{Ok as Of}
 use mathlib.Core.Bool.{Bool as 𝔹, true, false, cond, ◌&&◌}
 use mathlib.Core.Path.{◌≡◌, refl, sym, ap, ◌∙◌}
 use mathlib.Core.List.{List, [], ◌∷◌, ◌++◌}
@@ -9,10 +10,8 @@ use lib.ListN.{get_or}
 use Rattle.ids.specs.declared.InsnId.{InsnId}
 use Rattle.kinds.specs.declared.Kind.{Kind}
 use Rattle.kinds.specs.declared.Kind.TheVariants.{Empty, Any}
-use Rattle.kinds.specs.declared.Joined.{Joined}
-use Rattle.kinds.specs.declared.Joined.TheVariants.{Of}
 use Rattle.kinds.specs.Kinds.{is_empty, is_any}
-use Rattle.kinds.specs.Union.{union_of, join_of}
+use Rattle.kinds.specs.Union.{Joined, union_of, join_of}
 use Rattle.rules.specs.Program as P
 use Rattle.rules.specs.Program.{same_opnd}
 use Rattle.program.specs.declared.Opnd.{Opnd}
@@ -27,16 +26,6 @@ use Rattle.flows.specs.Flows.{tally_of, TallyAdds, Passed}
 
 pub before_insn : (a : ℕ) {o : Opnd} (i : InsnId) → o ≡ Insn i → ltb i.0 a ≡ before [] a (opnd_of o)
 before_insn a i e = rw e
-
-module _ (ks : List Kind) (a : ℕ) {o : Opnd} where
-  pub lower-yes : (i : InsnId) {k : Kind} {t : 𝔹} → o ≡ Insn i → k ≡ get_or ks i.0 Empty → t ≡ is_any k → t ≡ true → i.0 < a → i.0 ≡ lower ks a (opnd_of o)
-  lower-yes i e h g y lt = let z : is_any (get_or ks i.0 Empty) ≡ true = ap is_any (sym h) ∙ sym g ∙ y in rw (e, z, lt-ltb i.0 a lt)
-
-  pub lower-past : (i : InsnId) {k : Kind} {t : 𝔹} → o ≡ Insn i → k ≡ get_or ks i.0 Empty → t ≡ is_any k → t ≡ true → a ≤ i.0 → a ≡ lower ks a (opnd_of o)
-  lower-past i e h g y le = let z : is_any (get_or ks i.0 Empty) ≡ true = ap is_any (sym h) ∙ sym g ∙ y in rw (e, z, le-ltb i.0 a le)
-
-  pub lower-not : (i : InsnId) {k : Kind} {t : 𝔹} → o ≡ Insn i → k ≡ get_or ks i.0 Empty → t ≡ is_any k → t ≡ false → a ≡ lower ks a (opnd_of o)
-  lower-not i e h g y = let z : is_any (get_or ks i.0 Empty) ≡ false = ap is_any (sym h) ∙ sym g ∙ y in rw (e, z)
 
 module _ {t : Told} (k : Kind) (o : Opnd) where
   pub add-first : t ≡ None → TallyAdds t k o (Single o k)

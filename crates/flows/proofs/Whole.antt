@@ -1,4 +1,5 @@
 -- The two passes come to the union of the set of the operands in the reference's order. Assumes nothing.
+use Rattle.std.specs.Prelude.{Ok as Of, Err as Refused}
 use mathlib.Core.Bool.{Bool as 𝔹, true, false, cond, ◌&&◌}
 use mathlib.Core.Path.{◌≡◌, refl, sym, ap, ◌∙◌}
 use mathlib.Core.List.{List, [], ◌∷◌, map}
@@ -9,10 +10,8 @@ use lib.Dec.{ltb}
 use Rattle.ids.proofs.Bits.{Either, yes, no, either}
 use Rattle.kinds.specs.declared.Kind.{Kind}
 use Rattle.kinds.specs.declared.Kind.TheVariants.{Empty, Any}
-use Rattle.kinds.specs.declared.Joined.{Joined}
-use Rattle.kinds.specs.declared.Joined.TheVariants.{Of, Refused}
 use Rattle.kinds.specs.Kinds.{is_empty, is_any}
-use Rattle.kinds.specs.Union.{and_then, join_of, union_all}
+use Rattle.kinds.specs.Union.{Joined, and_then, join_of, union_all}
 use Rattle.kinds.proofs.Laws.{union-any_r, union_empty_l, union_empty_r, all_cons, all_any}
 use Rattle.kinds.proofs.Steps.{any-is, empty_is}
 use Rattle.rules.specs.Program.{Opnd, Const, Insn, same_opnd, opnd_before}

@@ -1,5 +1,5 @@
 -- What the passes promise over the operands of callers. Assumes nothing.
-use Rattle.std.specs.Prelude.{Bool as 𝔹, true, cond, ◌||◌, ◌≡◌, List, [], ◌∷◌, map, ℕ, ◌+◌, ◌<◌, eqb, length, get_or}
+use Rattle.std.specs.Prelude.{Bool as 𝔹, true, cond, ◌||◌, ◌≡◌, List, [], ◌∷◌, map, ℕ, ◌+◌, ◌<◌, eqb, length, get_or, Option, Some, None}
 use Rattle.std.specs.Int.Bits.{bit_or}
 use Rattle.kinds.specs.declared.Kind.{Kind}
 use Rattle.kinds.specs.declared.Kind.TheVariants.{Empty}
@@ -21,8 +21,6 @@ use Rattle.flows.specs.declared.Tally.{Tally as Told}
 use Rattle.flows.specs.declared.Tally.TheVariants.{Nothing as NothingYet, One as Single, Many as Several}
 use Rattle.flows.specs.declared.Pass.{Pass}
 use Rattle.flows.specs.declared.Words.{Words}
-use Rattle.flows.specs.declared.AsSet.{AsSet}
-use Rattle.flows.specs.declared.AsSet.TheVariants.{Set, Other}
 use Rattle.machine.specs.opnds.Reads.{kind_in}
 use Rattle.flows.specs.Tally.{Tally, Nothing, One, Many, add, least, taken_all, FitsAt}
 
@@ -78,13 +76,16 @@ pub record PassedIn (m : List ℕ) (c : Counts) (z : Sizes) (w : List ℕ) (f n 
       → Passed (kinds_of z w) (map (argumentOf L (program_view s m c) n) (marks_from (called_of z w) f k)) x y
 
 -- a kind as the set of its classes, unless it is a name or Any
+abbrev pub AsSet : Type 0
+AsSet = Option ℕ
+
 abbrev pub as_set : Kind → AsSet
-as_set k = cond (is_alone k) Other (Set (set_of k))
+as_set k = cond (is_alone k) None (Some (set_of k))
 
 -- the union of s with the classes of operands, if none is a name or Any: 0 unless one is a set, of them or before (b)
 unfoldable pub join_sets : List Kind → 𝔹 → ℕ → List P.Opnd → AsSet
-join_sets ks b s [] = Set (cond b s 0)
-join_sets ks b s (o ∷ l) = elim (as_set (kind_in ks o)) [ Set t ↦ join_sets ks (b || is_set (kind_in ks o)) (bit_or s t) l | Other ↦ Other ]
+join_sets ks b s [] = Some (cond b s 0)
+join_sets ks b s (o ∷ l) = elim (as_set (kind_in ks o)) [ Some t ↦ join_sets ks (b || is_set (kind_in ks o)) (bit_or s t) l | None ↦ None ]
 
 -- of the arguments for place n of the callers of f that are not below k
 pub record SetsFrom (m : List ℕ) (c : Counts) (z : Sizes) (w : List ℕ) (f n k : ℕ) (b : 𝔹) (s : ℕ) (r : AsSet) : Type 0 where

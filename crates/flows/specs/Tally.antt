@@ -1,11 +1,9 @@
 -- The union of a set of operands in the reference's order, found by two passes over the operands as they come, or one. Assumes nothing.
-use Rattle.std.specs.Prelude.{Bool as 𝔹, true, false, not, cond, ◌&&◌, ◌≡◌, List, [], ◌∷◌, ℕ, ◌<◌, ltb}
+use Rattle.std.specs.Prelude.{Bool as 𝔹, true, false, not, cond, ◌&&◌, ◌≡◌, List, [], ◌∷◌, ℕ, ◌<◌, ltb, Ok}
 use Rattle.kinds.specs.declared.Kind.{Kind}
 use Rattle.kinds.specs.declared.Kind.TheVariants.{Empty, Any}
-use Rattle.kinds.specs.declared.Joined.{Joined}
-use Rattle.kinds.specs.declared.Joined.TheVariants.{Of}
 use Rattle.kinds.specs.Kinds.{is_empty, is_any}
-use Rattle.kinds.specs.Union.{union_of, join_of}
+use Rattle.kinds.specs.Union.{Joined, union_of, join_of}
 use Rattle.rules.specs.Program.{Opnd, Const, Insn, same_opnd}
 use Rattle.machine.specs.opnds.Reads.{kind_in}
 
@@ -46,8 +44,8 @@ module _ (ks : List Kind) where
   taken_all a t (o ∷ l) = taken_all a (take a t o) l
 
   abbrev pub close : Tally → Joined
-  close Nothing = Of Empty
-  close (One w j) = Of j
+  close Nothing = Ok Empty
+  close (One w j) = Ok j
   close (Many j) = j
 
   -- an Any makes the rest Any, unless there is a refusal before it; n is no instruction

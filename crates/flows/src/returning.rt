@@ -1,46 +1,36 @@
 // What has flowed back to a call: the returned operands of the functions that it has called.
 ghost use Rattle.std.specs.Prelude.{◌+◌, ◌≤◌, ◌<◌};
-ghost use Rattle.program.specs.View.{ProgramReady};
-ghost use Rattle.state.specs.View.{called_of, StateHeld};
+ghost use Rattle.state.specs.View.{called_of};
 ghost use Rattle.machine.specs.opnds.Reads.{StateReads};
 ghost use Rattle.flows.specs.returning.Returning.{call_kind, Returns, ReturnsAt, Backs, BackIn, NextCalled, PassedBack, PassedAll, JoinsBack, JoinedAll};
 
-use crate::{AsSet, Pass, Tally};
+use crate::{Pass, Tally};
 use ids::{FunId, InsnId};
-use kinds::{Joined, Kind};
-use program::{Counts, Opnd};
-use state::Sizes;
-
-// The classes of the kinds met so far and whether one was a set, or that a kind was a name or Any.
-#[derive(Clone, Copy)]
-enum Met {
-    Classes(bool, u64),
-    Other,
-}
+use kinds::Kind;
+use program::{Opnd, Program};
+use refusals::Refusal;
+use state::State;
 
 // The operand of Return j.
-fn returned(program: &[usize], counts: Counts, j: InsnId) -> Opnd
-    requires program_ready { ProgramReady program.now counts }
-    requires j_lt_insns { j.0 < counts.insns }
-    ensures { Returns program.now counts j.0 result }
+fn returned(program: &Program, j: InsnId) -> Opnd
+    requires j_lt_insns { j.0 < program.now.counts.insns }
+    ensures { Returns program.now.words.now program.now.counts j.0 result }
 {
-    let row = program::read_insn(program, counts, j);
-    let count = row.count;
-    if 0 < count {
-        return program::read_operand(program, counts, row, 0);
+    let row = program.insn(j);
+    if 0 < row.count {
+        return program.operand(row, 0);
     }
     Opnd::Const(Kind::Nil)
 }
 
 // Where the operand of Return j stands; 0 where it has none.
-fn returned_at(program: &[usize], counts: Counts, j: InsnId) -> usize
-    requires program_ready { ProgramReady program.now counts }
-    requires j_lt_insns { j.0 < counts.insns }
-    ensures { ReturnsAt program.now counts j.0 result }
+fn returned_at(program: &Program, j: InsnId) -> usize
+    requires j_lt_insns { j.0 < program.now.counts.insns }
+    ensures { ReturnsAt program.now.words.now program.now.counts j.0 result }
 {
     let at = program::INSNS + program::INSN_WORDS * (j.0 as usize);
-    let first = program[at + 4];
-    let count = program[at + 5];
+    let first = program.words[at + 4];
+    let count = program.words[at + 5];
     if 0 < count {
         return program::OPNDS + 2 * first;
     }
@@ -48,156 +38,119 @@ fn returned_at(program: &[usize], counts: Counts, j: InsnId) -> usize
 }
 
 // The operands of the Returns of f, in a pass.
-fn pass_returns(
-    program: &[usize],
-    counts: Counts,
-    chains: &[usize],
-    state: &[usize],
-    sizes: Sizes,
-    f: FunId,
-    start: Pass,
-) -> Pass
-    requires state_held { StateHeld sizes state.now }
-    requires backs { Backs program.now counts sizes chains.now }
-    requires f_lt_functions { f.0 < sizes.functions }
-    ensures { PassedBack program.now counts sizes state.now f.0 start result }
+fn pass_returns(program: &Program, chains: &[usize], state: &State, f: FunId, start: Pass) -> Pass
+    requires backs { Backs program.now.words.now program.now.counts state.now.sizes chains.now }
+    requires f_lt_functions { f.0 < state.now.sizes.functions }
+    ensures { PassedBack program.now.words.now program.now.counts state.now.sizes state.now.words.now f.0 start result }
 {
-    let n = counts.insns;
+    let n = program.counts.insns;
     let mut y = start;
     let mut j = chains::first_return(chains, f);
     while (j.0 as usize) < n {
-        let o = returned(program, counts, j);
-        y = crate::pass_one(state, sizes, y, o);
+        y = crate::pass_one(state, y, returned(program, j));
         j = chains::next_return(chains, j);
     }
     y
 }
 
 // The first function from `from` on and before `end` that i has called, else `end`.
-fn next_called(state: &[usize], sizes: Sizes, i: InsnId, from: usize, end: usize) -> usize
-    requires state_held { StateHeld sizes state.now }
-    requires i_lt_insns { (i.0 < sizes.insns) × (from ≤ end) × (end ≤ sizes.functions) }
-    ensures { NextCalled (called_of sizes state.now) i.0 from end result }
+fn next_called(state: &State, i: InsnId, from: usize, end: usize) -> usize
+    requires i_lt_insns { (i.0 < state.now.sizes.insns) × (from ≤ end) × (end ≤ state.now.sizes.functions) }
+    ensures { NextCalled (called_of state.now.sizes state.now.words.now) i.0 from end result }
 {
-    let mut f = from;
-    while f < end {
-        if state::has_called(state, sizes, FunId(f as u32), i) {
+    for f in from..end {
+        if state.has_called(FunId(f as u32), i) {
             return f;
         }
-        f += 1;
     }
     end
 }
 
 // The operands of the Returns of those of n functions from `first` on that i has called, in a pass.
 fn pass_called(
-    program: &[usize],
-    counts: Counts,
+    program: &Program,
     chains: &[usize],
-    state: &[usize],
-    sizes: Sizes,
+    state: &State,
     i: InsnId,
     first: FunId,
     n: usize,
     start: Pass,
 ) -> Pass
-    requires state_held { StateHeld sizes state.now }
-    requires backs { Backs program.now counts sizes chains.now }
-    requires i_lt_insns { (i.0 < sizes.insns) × (first.0 + n ≤ sizes.functions) }
-    ensures { PassedAll program.now counts sizes state.now i.0 first.0 n start result }
+    requires backs { Backs program.now.words.now program.now.counts state.now.sizes chains.now }
+    requires i_lt_insns { (i.0 < state.now.sizes.insns) × (first.0 + n ≤ state.now.sizes.functions) }
+    ensures { PassedAll program.now.words.now program.now.counts state.now.sizes state.now.words.now i.0 first.0 n start result }
 {
     let mut y = start;
     let from = first.0 as usize;
     let end = from + n;
-    let mut f = next_called(state, sizes, i, from, end);
+    let mut f = next_called(state, i, from, end);
     while f < end {
-        y = pass_returns(program, counts, chains, state, sizes, FunId(f as u32), y);
-        f = next_called(state, sizes, i, f + 1, end);
+        y = pass_returns(program, chains, state, FunId(f as u32), y);
+        f = next_called(state, i, f + 1, end);
     }
     y
 }
 
-// The kinds of the operands of the Returns of f, joined to the classes met before.
+// The kinds of the operands of the Returns of f, joined to the classes met before; whether one was a set, and the classes, unless a kind is a name or Any.
 fn join_returns(
-    program: &[usize],
-    counts: Counts,
+    program: &Program,
     chains: &[usize],
-    state: &[usize],
-    sizes: Sizes,
+    state: &State,
     f: FunId,
     was: bool,
     classes: u64,
-) -> Met
-    requires state_held { StateHeld sizes state.now }
-    requires backs { Backs program.now counts sizes chains.now }
-    requires f_lt_functions { f.0 < sizes.functions }
-    ensures { JoinsBack program.now counts sizes state.now f.0 was classes result }
+) -> Option<(bool, u64)>
+    requires backs { Backs program.now.words.now program.now.counts state.now.sizes chains.now }
+    requires f_lt_functions { f.0 < state.now.sizes.functions }
+    ensures { JoinsBack program.now.words.now program.now.counts state.now.sizes state.now.words.now f.0 was classes result }
 {
-    let n = counts.insns;
+    let n = program.counts.insns;
     let mut met = was;
     let mut s = classes;
     let mut j = chains::first_return(chains, f);
     while (j.0 as usize) < n {
-        let at = returned_at(program, counts, j);
+        let at = returned_at(program, j);
         if at == 0 {
-            return Met::Other;
+            return None;
         }
-        let k = crate::opnd_words(program, state, sizes, at);
-        match crate::as_set(k) {
-            AsSet::Set(t) => {
-                met = met | (k.tag == 8);
-                s = s | t;
-            }
-            AsSet::Other => {
-                return Met::Other;
-            }
-        }
+        let k = crate::opnd_words(program, state, at);
+        let t = crate::as_set(k)?;
+        met = met | (k.tag == 8);
+        s = s | t;
         j = chains::next_return(chains, j);
     }
-    Met::Classes(met, s)
+    Some((met, s))
 }
 
 // The union of the kinds of what has flowed back to i, if none is a name or Any and one is a set; else 0.
 fn join_called(
-    program: &[usize],
-    counts: Counts,
+    program: &Program,
     chains: &[usize],
-    state: &[usize],
-    sizes: Sizes,
+    state: &State,
     i: InsnId,
     first: FunId,
     n: usize,
 ) -> u64
-    requires state_held { StateHeld sizes state.now }
-    requires backs { Backs program.now counts sizes chains.now }
-    requires i_lt_insns { (i.0 < sizes.insns) × (first.0 + n ≤ sizes.functions) }
-    ensures { JoinedAll program.now counts sizes state.now i.0 first.0 n result }
+    requires backs { Backs program.now.words.now program.now.counts state.now.sizes chains.now }
+    requires i_lt_insns { (i.0 < state.now.sizes.insns) × (first.0 + n ≤ state.now.sizes.functions) }
+    ensures { JoinedAll program.now.words.now program.now.counts state.now.sizes state.now.words.now i.0 first.0 n result }
 {
     let mut met = false;
     let mut s = 0;
     let from = first.0 as usize;
     let end = from + n;
-    let mut f = next_called(state, sizes, i, from, end);
+    let mut f = next_called(state, i, from, end);
     while f < end {
-        match join_returns(
-            program,
-            counts,
-            chains,
-            state,
-            sizes,
-            FunId(f as u32),
-            met,
-            s,
-        ) {
-            Met::Classes(b, t) => {
+        match join_returns(program, chains, state, FunId(f as u32), met, s) {
+            Some((b, t)) => {
                 met = b;
                 s = t;
             }
-            Met::Other => {
+            None => {
                 return 0;
             }
         }
-        f = next_called(state, sizes, i, f + 1, end);
+        f = next_called(state, i, f + 1, end);
     }
     if met {
         return s;
@@ -207,47 +160,40 @@ fn join_called(
 
 // The kind of call i, which has called none but the n functions from `first` on, whatever the kinds.
 fn kind_by_passes(
-    program: &[usize],
-    counts: Counts,
+    program: &Program,
     chains: &[usize],
-    state: &[usize],
-    sizes: Sizes,
+    state: &State,
     i: InsnId,
     first: FunId,
     n: usize,
-) -> Joined
-    requires state_held { StateHeld sizes state.now }
-    requires backs { Backs program.now counts sizes chains.now }
-    requires i_lt_insns { (i.0 < sizes.insns) × (first.0 + n ≤ sizes.functions) }
-    ensures { StateReads sizes (BackIn program.now counts sizes (called_of sizes state.now) i.0 first.0 n)
-        (λ L program. call_kind L program i.0) state.now result }
+) -> Result<Kind, Refusal>
+    requires backs { Backs program.now.words.now program.now.counts state.now.sizes chains.now }
+    requires i_lt_insns { (i.0 < state.now.sizes.insns) × (first.0 + n ≤ state.now.sizes.functions) }
+    ensures { StateReads state.now.sizes (BackIn program.now.words.now program.now.counts state.now.sizes (called_of state.now.sizes state.now.words.now) i.0 first.0 n)
+        (λ L program. call_kind L program i.0) state.now.words.now result }
 {
     let once = pass_called(
         program,
-        counts,
         chains,
         state,
-        sizes,
         i,
         first,
         n,
         Pass {
-            bound: sizes.insns,
-            least: sizes.insns,
+            bound: state.sizes.insns,
+            least: state.sizes.insns,
             tally: Tally::Nothing,
         },
     );
     let a = once.least;
-    if a == sizes.insns {
+    if a == state.sizes.insns {
         let all = once.tally;
-        return crate::finish_pass(sizes.insns, a, all);
+        return crate::finish_pass(state.sizes.insns, a, all);
     }
     let twice = pass_called(
         program,
-        counts,
         chains,
         state,
-        sizes,
         i,
         first,
         n,
@@ -258,29 +204,26 @@ fn kind_by_passes(
         },
     );
     let t = twice.tally;
-    crate::finish_pass(sizes.insns, a, t)
+    crate::finish_pass(state.sizes.insns, a, t)
 }
 
 // The same; classes are joined at once, since their order means nothing.
 pub fn call_kind(
-    program: &[usize],
-    counts: Counts,
+    program: &Program,
     chains: &[usize],
-    state: &[usize],
-    sizes: Sizes,
+    state: &State,
     i: InsnId,
     first: FunId,
     n: usize,
-) -> Joined
-    requires state_held { StateHeld sizes state.now }
-    requires backs { Backs program.now counts sizes chains.now }
-    requires i_lt_insns { (i.0 < sizes.insns) × (first.0 + n ≤ sizes.functions) }
-    ensures { StateReads sizes (BackIn program.now counts sizes (called_of sizes state.now) i.0 first.0 n)
-        (λ L program. call_kind L program i.0) state.now result }
+) -> Result<Kind, Refusal>
+    requires backs { Backs program.now.words.now program.now.counts state.now.sizes chains.now }
+    requires i_lt_insns { (i.0 < state.now.sizes.insns) × (first.0 + n ≤ state.now.sizes.functions) }
+    ensures { StateReads state.now.sizes (BackIn program.now.words.now program.now.counts state.now.sizes (called_of state.now.sizes state.now.words.now) i.0 first.0 n)
+        (λ L program. call_kind L program i.0) state.now.words.now result }
 {
-    let s = join_called(program, counts, chains, state, sizes, i, first, n);
+    let s = join_called(program, chains, state, i, first, n);
     if 0 < s {
-        return Joined::Of(Kind::Objects(s));
+        return Ok(Kind::Objects(s));
     }
-    kind_by_passes(program, counts, chains, state, sizes, i, first, n)
+    kind_by_passes(program, chains, state, i, first, n)
 }

@@ -1,3 +1,3 @@
-pub mod Frames
 pub mod Laws
 pub mod Steps
+pub mod Written

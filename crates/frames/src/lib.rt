@@ -1,18 +1,37 @@
-// The frames of an answer as text, written piece by piece from the answer memory.
+// The frames of an answer as text, written line by line from the answer memory.
 #![tactic(auto)]
 
-ghost use Rattle.std.specs.Prelude.{◌≡◌, [], ◌+◌, ◌≤◌, ◌<◌, length};
-ghost use Rattle.rules.specs.Frames.{digit_of, digits, refusal_frame};
-ghost use Rattle.memory.specs.Memory.{over};
+ghost use Rattle.std.specs.Prelude.{◌≡◌, [], ◌∷◌, ◌≤◌, ◌<◌, length, Some};
+ghost use Rattle.std.specs.Iterator.{at_most};
+ghost use Rattle.rules.specs.Frames.{digit_of, digits};
 ghost use Rattle.answer.specs.Layout.{answer_length};
-ghost use Rattle.frames.specs.Text.{line_of, room_for, line_most, more_of, Wrote, Piece};
+ghost use Rattle.frames.specs.Text.{line_of, room_for, line_most, frame_text, left_at, Wrote, Stepped, Gives, Piece};
 
 use ids::{BlockId, FunId, InsnId};
 
 // No line is longer, its end included.
 pub const LINE_MOST: usize = 32;
 
-// The next frame to write: the totals; a block's; an instruction's kind; its use at a place of the users' table; a function's from a caller on.
+// A frame: the totals; whether a block is live; an instruction's kind, by its tag and payload; its use by another; a function's caller; a refusal's number.
+#[derive(Clone, Copy)]
+pub enum Frame {
+    Totals(Totals),
+    Live(BlockId, bool),
+    Kind(InsnId, usize, usize),
+    User(InsnId, InsnId),
+    Call(FunId, InsnId),
+    Refusal(u8),
+}
+
+#[derive(Clone, Copy)]
+pub struct Totals {
+    pub functions: usize,
+    pub blocks: usize,
+    pub instructions: usize,
+    pub count: usize,
+}
+
+// The place of a frame that may be next: the totals; a block's; an instruction's kind; its use at a place of the users' table; a function's from a caller on.
 #[derive(Clone, Copy)]
 pub enum NextFrame {
     Totals,
@@ -20,14 +39,6 @@ pub enum NextFrame {
     Instruction(InsnId),
     Use(InsnId, usize),
     Caller(FunId, InsnId),
-    Done,
-}
-
-// How far the writing came: the next frame, and the bytes written.
-#[derive(Clone, Copy)]
-pub struct Reach {
-    pub next: NextFrame,
-    pub len: usize,
 }
 
 // A hexadecimal digit.
@@ -42,225 +53,238 @@ fn digit(n: usize) -> u8
     }
 }
 
-// The lowest k digits of n, from a place on.
-fn put(n: usize, k: usize, out: &mut [u8], at: usize)
-    requires { at + k ≤ length out.old }
-    ensures { out.new ≡ over at (digits k n []) out.old }
+// The lowest digits of n, as many as there is room for.
+// Stays: std's `{:02x}` writes all digits of a number, and a place of lent memory may hold one that is longer than its field.
+fn put(n: usize, out: &mut [u8])
+    ensures { out.new ≡ digits (length out.old) n [] }
 {
     let mut rest = n;
-    let mut left = k;
-    while 0 < left {
-        left -= 1;
-        out[at + left] = digit(rest % 16);
-        rest = rest / 16;
+    for left in (0..out.len()).rev() {
+        out[left] = digit(rest % 16);
+        rest /= 16;
     }
 }
 
-// A line: numbers of these widths in bytes, and the line's end.
-fn write_line(widths: &[usize], numbers: &[usize], out: &mut [u8]) -> usize
-    requires widths_len { length widths.now ≡ length numbers.now }
-    requires widths_in_bounds { room_for widths.now ≤ length out.old }
-    ensures { Wrote (line_of widths.now numbers.now) out.old result out.new }
+// A line: numbers behind their widths in bytes, and the line's end.
+fn write_line(fields: &[(usize, usize)], out: &mut [u8]) -> usize
+    requires { room_for fields.now ≤ length out.old }
+    ensures { Wrote (line_of fields.now) out.old result out.new }
 {
-    let mut i = 0;
     let mut at = 0;
-    while i < widths.len() {
-        let k = 2 * widths[i];
-        put(numbers[i], k, out, at);
-        at += k;
-        i += 1;
+    for &(bytes, number) in fields {
+        let end = at + 2 * bytes;
+        put(number, &mut out[at..end]);
+        at = end;
     }
-    out[at] = 10;
+    out[at] = b'\n';
     at + 1
 }
 
-// The frame of a refusal.
-pub fn write_refusal(n: u8, out: &mut [u8]) -> usize
-    requires { line_most ≤ length out.old }
-    ensures { Wrote (refusal_frame n) out.old result out.new }
-{
-    write_line(&[1, 1], &[127, n as usize], out)
-}
-
-fn step_totals(answer: &[usize], out: &mut [u8]) -> Reach
-    requires answer_len { length answer.now ≡ answer_length }
-    requires line_most_in_bounds { line_most ≤ length out.old }
-    ensures { Piece answer.now NextFrame.Totals out.old result.next result.len out.new }
-{
-    let f = answer::functions(answer);
-    let b = answer::blocks(answer);
-    let i = answer::instructions(answer);
-    let count = answer::count(answer);
-    let len = write_line(&[1, 1, 1, 2, 8], &[1, f, b, i, count], out);
-    Reach {
-        next: NextFrame::Block(BlockId(0)),
-        len,
+impl Frame {
+    // Writes the frame's line at the start of memory, and answers how long it is.
+    pub fn write(self, out: &mut [u8]) -> usize
+        requires { line_most ≤ length out.old }
+        ensures { Wrote (frame_text self) out.old result out.new }
+    {
+        match self {
+            Frame::Totals(t) => write_line(
+                &[
+                    (1, 1),
+                    (1, t.functions),
+                    (1, t.blocks),
+                    (2, t.instructions),
+                    (8, t.count),
+                ],
+                out,
+            ),
+            Frame::Live(b, live) => write_line(
+                &[(1, 2), (1, b.0 as usize), (1, live as usize)],
+                out,
+            ),
+            Frame::Kind(i, tag, payload) => {
+                write_line(&[(1, 3), (2, i.0 as usize), (1, tag), (8, payload)], out)
+            }
+            Frame::User(i, user) => write_line(
+                &[(1, 4), (2, i.0 as usize), (2, user.0 as usize)],
+                out,
+            ),
+            Frame::Call(f, i) => write_line(&[(1, 5), (1, f.0 as usize), (2, i.0 as usize)], out),
+            Frame::Refusal(n) => write_line(&[(1, 127), (1, n as usize)], out),
+        }
     }
 }
 
-fn step_block(answer: &[usize], b: BlockId, out: &mut [u8]) -> Reach
-    requires answer_len { length answer.now ≡ answer_length }
-    requires line_most_in_bounds { line_most ≤ length out.old }
-    ensures { Piece answer.now (NextFrame.Block b) out.old result.next result.len out.new }
-{
-    let n = b.0 as usize;
-    if answer::blocks(answer) <= n {
-        return Reach {
-            next: NextFrame::Instruction(InsnId(0)),
-            len: 0,
-        };
-    }
-    let live = answer::live(answer, b) as usize;
-    let len = write_line(&[1, 1, 1], &[2, n, live], out);
-    Reach {
-        next: NextFrame::Block(BlockId(b.0 + 1)),
-        len,
-    }
+// What stands at a place: its frame, if it has one, and the place behind it.
+struct Step {
+    frame: Option<Frame>,
+    next: Option<NextFrame>,
 }
 
-fn step_instruction(answer: &[usize], i: InsnId, out: &mut [u8]) -> Reach
-    requires answer_len { length answer.now ≡ answer_length }
-    requires line_most_in_bounds { line_most ≤ length out.old }
-    ensures { Piece answer.now (NextFrame.Instruction i) out.old result.next result.len out.new }
-{
-    let n = i.0 as usize;
-    if answer::instructions(answer) <= n {
-        return Reach {
-            next: NextFrame::Use(InsnId(0), answer::users_start(answer, InsnId(0))),
-            len: 0,
-        };
-    }
-    let tag = answer::tag(answer, i);
-    let payload = answer::payload(answer, i);
-    let len = write_line(&[1, 2, 1, 8], &[3, n, tag, payload], out);
-    Reach {
-        next: NextFrame::Instruction(InsnId(i.0 + 1)),
-        len,
-    }
+// The frames of an answer from a place on, read from the answer memory.
+#[derive(Drop)]
+pub struct Frames<'a> {
+    pub answer: &'a [usize],
+    pub next: Option<NextFrame>,
+    pub ghost sized: { length answer.now ≡ answer_length },
 }
 
-fn step_use(answer: &[usize], i: InsnId, j: usize, out: &mut [u8]) -> Reach
-    requires answer_len { length answer.now ≡ answer_length }
-    requires line_most_in_bounds { line_most ≤ length out.old }
-    ensures { Piece answer.now (NextFrame.Use i j) out.old result.next result.len out.new }
-{
-    let n = i.0 as usize;
-    if answer::instructions(answer) <= n {
-        return Reach {
-            next: NextFrame::Caller(FunId(0), InsnId(0)),
-            len: 0,
-        };
+impl<'a> Frames<'a> {
+    // All frames.
+    pub fn of(answer: &'a [usize]) -> Frames<'a>
+        requires { length answer.now ≡ answer_length }
+        ensures { (result.answer.now ≡ answer.now) × (result.next ≡ Some NextFrame.Totals) }
+    {
+        Frames {
+            answer,
+            next: Some(NextFrame::Totals),
+        }
     }
-    let end = answer::users_end(answer, i);
-    if end <= j {
-        return Reach {
-            next: NextFrame::Use(InsnId(i.0 + 1), end),
-            len: 0,
-        };
-    }
-    let user = answer::user(answer, j);
-    let len = write_line(&[1, 2, 2], &[4, n, user.0 as usize], out);
-    Reach {
-        next: NextFrame::Use(i, j + 1),
-        len,
-    }
-}
 
-fn step_caller(answer: &[usize], f: FunId, i: InsnId, out: &mut [u8]) -> Reach
-    requires answer_len { length answer.now ≡ answer_length }
-    requires line_most_in_bounds { line_most ≤ length out.old }
-    ensures { Piece answer.now (NextFrame.Caller f i) out.old result.next result.len out.new }
-{
-    let g = f.0 as usize;
-    if answer::functions(answer) <= g {
-        return Reach {
-            next: NextFrame::Done,
-            len: 0,
-        };
+    fn totals(&self) -> Step
+        ensures { Stepped self.now.answer.now NextFrame.Totals result.frame result.next }
+    {
+        Step {
+            frame: Some(Frame::Totals(Totals {
+                functions: answer::functions(self.answer),
+                blocks: answer::blocks(self.answer),
+                instructions: answer::instructions(self.answer),
+                count: answer::count(self.answer),
+            })),
+            next: Some(NextFrame::Block(BlockId(0))),
+        }
     }
-    let n = i.0 as usize;
-    if answer::instructions(answer) <= n {
-        return Reach {
-            next: NextFrame::Caller(FunId(f.0 + 1), InsnId(0)),
-            len: 0,
-        };
-    }
-    let bits = answer::callers_from(answer, f, i);
-    if bits == 0 {
-        // None in the rest of the word.
-        return Reach {
-            next: NextFrame::Caller(f, InsnId((i.0 / 64 + 1) * 64)),
-            len: 0,
-        };
-    }
-    if bits % 2 == 0 {
-        return Reach {
-            next: NextFrame::Caller(f, InsnId(i.0 + 1)),
-            len: 0,
-        };
-    }
-    let len = write_line(&[1, 1, 2], &[5, g, n], out);
-    Reach {
-        next: NextFrame::Caller(f, InsnId(i.0 + 1)),
-        len,
-    }
-}
 
-// At most one line.
-fn step(answer: &[usize], at: NextFrame, out: &mut [u8]) -> Reach
-    requires answer_len { length answer.now ≡ answer_length }
-    requires line_most_in_bounds { line_most ≤ length out.old }
-    ensures { Piece answer.now at out.old result.next result.len out.new }
-{
-    match at {
-        NextFrame::Totals => step_totals(answer, out),
-        NextFrame::Block(b) => step_block(answer, b, out),
-        NextFrame::Instruction(i) => step_instruction(answer, i, out),
-        NextFrame::Use(i, j) => step_use(answer, i, j, out),
-        NextFrame::Caller(f, i) => step_caller(answer, f, i, out),
-        NextFrame::Done => Reach {
-            next: NextFrame::Done,
-            len: 0,
-        },
-    }
-}
-
-// Whether a frame may be left.
-pub fn more(at: NextFrame) -> bool
-    ensures { result ≡ more_of at }
-{
-    match at {
-        NextFrame::Totals => true,
-        NextFrame::Block(_) => true,
-        NextFrame::Instruction(_) => true,
-        NextFrame::Use(_, _) => true,
-        NextFrame::Caller(_, _) => true,
-        NextFrame::Done => false,
-    }
-}
-
-// Writes the frames from a cursor on, as far as the buffer has room for a line.
-pub fn write_from(answer: &[usize], from: NextFrame, out: &mut [u8]) -> Reach
-    requires answer_len { length answer.now ≡ answer_length }
-    requires line_most_in_bounds { line_most ≤ length out.old }
-    ensures { Piece answer.now from out.old result.next result.len out.new }
-{
-    let mut cursor = from;
-    let mut at = 0;
-    while more(cursor) {
-        if out.len() - at < LINE_MOST {
-            return Reach {
-                next: cursor,
-                len: at,
+    fn block(&self, b: BlockId) -> Step
+        ensures { Stepped self.now.answer.now (NextFrame.Block b) result.frame result.next }
+    {
+        if answer::blocks(self.answer) <= b.0 as usize {
+            return Step {
+                frame: None,
+                next: Some(NextFrame::Instruction(InsnId(0))),
             };
         }
-        let reach = step(answer, cursor, &mut out[at..]);
-        at += reach.len;
-        let next = reach.next;
-        cursor = next;
+        Step {
+            frame: Some(Frame::Live(b, answer::live(self.answer, b))),
+            next: Some(NextFrame::Block(BlockId(b.0 + 1))),
+        }
     }
-    Reach {
-        next: cursor,
-        len: at,
+
+    fn instruction(&self, i: InsnId) -> Step
+        ensures { Stepped self.now.answer.now (NextFrame.Instruction i) result.frame result.next }
+    {
+        if answer::instructions(self.answer) <= i.0 as usize {
+            return Step {
+                frame: None,
+                next: Some(NextFrame::Use(InsnId(0), answer::users_start(self.answer, InsnId(0)))),
+            };
+        }
+        let tag = answer::tag(self.answer, i);
+        let payload = answer::payload(self.answer, i);
+        Step {
+            frame: Some(Frame::Kind(i, tag, payload)),
+            next: Some(NextFrame::Instruction(InsnId(i.0 + 1))),
+        }
+    }
+
+    fn user(&self, i: InsnId, j: usize) -> Step
+        ensures { Stepped self.now.answer.now (NextFrame.Use i j) result.frame result.next }
+    {
+        if answer::instructions(self.answer) <= i.0 as usize {
+            return Step {
+                frame: None,
+                next: Some(NextFrame::Caller(FunId(0), InsnId(0))),
+            };
+        }
+        let end = answer::users_end(self.answer, i);
+        if end <= j {
+            return Step {
+                frame: None,
+                next: Some(NextFrame::Use(InsnId(i.0 + 1), end)),
+            };
+        }
+        Step {
+            frame: Some(Frame::User(i, answer::user(self.answer, j))),
+            next: Some(NextFrame::Use(i, j + 1)),
+        }
+    }
+
+    fn caller(&self, f: FunId, i: InsnId) -> Step
+        ensures { Stepped self.now.answer.now (NextFrame.Caller f i) result.frame result.next }
+    {
+        if answer::functions(self.answer) <= f.0 as usize {
+            return Step {
+                frame: None,
+                next: None,
+            };
+        }
+        if answer::instructions(self.answer) <= i.0 as usize {
+            return Step {
+                frame: None,
+                next: Some(NextFrame::Caller(FunId(f.0 + 1), InsnId(0))),
+            };
+        }
+        let bits = answer::callers_from(self.answer, f, i);
+        if bits == 0 {
+            // None in the rest of the word.
+            return Step {
+                frame: None,
+                next: Some(NextFrame::Caller(f, InsnId((i.0 / 64 + 1) * 64))),
+            };
+        }
+        let next = Some(NextFrame::Caller(f, InsnId(i.0 + 1)));
+        if bits % 2 == 0 {
+            return Step { frame: None, next };
+        }
+        Step {
+            frame: Some(Frame::Call(f, i)),
+            next,
+        }
+    }
+
+    fn step(&self, at: NextFrame) -> Step
+        ensures { Stepped self.now.answer.now at result.frame result.next }
+    {
+        match at {
+            NextFrame::Totals => self.totals(),
+            NextFrame::Block(b) => self.block(b),
+            NextFrame::Instruction(i) => self.instruction(i),
+            NextFrame::Use(i, j) => self.user(i, j),
+            NextFrame::Caller(f, i) => self.caller(f, i),
+        }
+    }
+
+    // Writes frames as far as the memory has room for a line, and answers how many bytes they are: none only at the end.
+    pub fn fill(&mut self, out: &mut [u8]) -> usize
+        requires { line_most ≤ length out.old }
+        ensures piece { Piece self.old.answer.now self.old.next out.old self.new.next result out.new }
+        ensures answer { self.new.answer ≡ self.old.answer }
+    {
+        let mut len = 0;
+        while LINE_MOST <= out.len() - len {
+            let Some(frame) = self.next() else {
+                break;
+            };
+            len += frame.write(&mut out[len..]);
+        }
+        len
+    }
+}
+
+impl Iterator for Frames<'_> {
+    type Item = Frame;
+
+    ghost next_gives = { λ s r t. Gives s.answer.now s.next r t.next × (t.answer ≡ s.answer) };
+
+    ghost remaining = { λ s. at_most (left_at s.next) };
+
+    fn next(&mut self) -> Option<Frame> {
+        while let Some(at) = self.next {
+            let Step { frame, next } = self.step(at);
+            self.next = next;
+            if frame.is_some() {
+                return frame;
+            }
+        }
+        None
     }
 }

@@ -16,21 +16,20 @@ use Rattle.variables.specs.Memory.{made}
 use Rattle.program.specs.Rows.{opnd_of, name_in}
 use Rattle.program.specs.View as View
 use Rattle.program.specs.declared.Given.TheVariants.{One}
-use Rattle.program.specs.declared.Limits.{Limits}
+use Rattle.program.specs.declared.bounds.Limits.{Limits}
 use Rattle.program.specs.declared.Name.{Name}
 use Rattle.program.specs.declared.Op.TheVariants.{Return}
 use Rattle.program.specs.declared.Opnd.{Opnd}
-use Rattle.cursor.specs.Cursor.{parser_of, move_cur, stack_cur, CursorReady, In}
+use Rattle.cursor.specs.Cursor.{Cursor, parser_of, move_cur, stack_cur, CursorReady, In}
 use Rattle.cursor.specs.Promises.{outcome, CursorDid, Idents, Expects, parsed_of, moved_of}
-use Rattle.cursor.specs.declared.Cursor.{Cursor}
-use Rattle.cursor.specs.declared.Ident.{Ident}
-use Rattle.cursor.specs.declared.Moved.{Moved}
-use Rattle.cursor.specs.declared.Moved.TheVariants.{On, Refused}
-use Rattle.cursor.specs.declared.Parsed.{Parsed}
-use Rattle.cursor.specs.declared.SelfAt.TheVariants.{Nobody}
+use Rattle.cursor.specs.outcomes.Ident.{Ident}
+use Rattle.cursor.specs.outcomes.Moved.{Moved, On, Refused}
+use Rattle.cursor.specs.outcomes.Parsed.{Parsed}
+use Rattle.lexer.specs.declared.Token.TheVariants as T
+use Rattle.std.specs.Prelude.{None}
 use Rattle.cursor.proofs.Laws.{Acted, got, gave, moved-did, added_did, step_trans, ident_on, ident_is}
 use Rattle.cursor.proofs.Wording.{spelt_end, spelt_open, spelt_close}
-use Rattle.functions.specs.declared.params.OpenedFun.{OpenedFun}
+use Rattle.functions.specs.outcomes.OpenedFun.{OpenedFun}
 use Rattle.functions.specs.params.Names.{names_in}
 use Rattle.functions.specs.params.Promises.{receive_cur, ParamsFilled, PushesParams, PushesSelf, Received, Head, Params, Named, Funs, Entered, funned_of}
 use Rattle.statements.specs.Acts.{stops_at}
@@ -40,13 +39,7 @@ use Rattle.functions.proofs.Funs.{fun_is}
 
 -- ---- open_body
 
-pub head_start : {m w : List ℕ} (c : Cursor) {c0 : Cursor} → ParamsFilled m w (clear_cur c) → c0 ≡ clear_cur c → (View.ProgramReady m c0.counts) × (c0.block.0 < c0.counts.blocks)
-head_start c g z = rw z (g.tables, g.block)
-
-module _ (l : Limits) {m w : List ℕ} (c : Cursor) {c0 : Cursor} (g : ParamsFilled m w (clear_cur c)) (z : c0 ≡ clear_cur c) {m1 : List ℕ} {x : Moved} (a : PushesSelf l m c0 m1 x) where
-  selfed : PushesSelf l m (clear_cur c) m1 x
-  selfed = rw z at a
-
+module _ (l : Limits) {m w : List ℕ} (c : Cursor) (g : ParamsFilled m w (clear_cur c)) {m1 : List ℕ} {x : Moved} (selfed : PushesSelf l m (clear_cur c) m1 x) where
   pub head_no : {e : ℕ} → x ≡ Refused e → Heads l m w c m1 w (Refused e)
   unfolding head_of parser_of made over
   head_no o = record { is = λ s. let h = rw o at (selfed.is s w) in rw (← h); ok = tt }
@@ -102,16 +95,6 @@ module _ (l : Limits) {m w : List ℕ} (c : Cursor) {c0 : Cursor} (g : ParamsFil
 -- ---- parse_body
 
 module _ {s m w : List ℕ} {c : Cursor} (g : BodyBegun s m w c) where
-  pub body-filled : ParamsFilled m w (clear_cur c)
-  body-filled =
-      record {
-        tables = g.ready.tables;
-        block = g.block;
-        scratch = g.ready.scratch;
-        vars = omega (arith, g.ready.args, g.ready.inside, g.ready.script);
-        short = λ k h. (omega (arith, g.lies k h, g.ready.script), omega (arith, g.lies k h, g.ready.script));
-      }
-
   module _ {l : Limits} {m1 w1 : List ℕ} {x : Moved} (a : Heads l m w c m1 w1 x) where
     pub body_no : {e : ℕ} → x ≡ Refused e → Takes (body_of (View.limits_of l) s (names_in s w c.args)) 1 s m w c m1 w1 (moved_of (Refused e))
     unfolding body_of
@@ -160,7 +143,7 @@ module _ {s m w : List ℕ} {c : Cursor} (g : BodyBegun s m w c) where
             unfolding body_of
             body_no3 j = record { is = let h = rw o at (a.is s) in rw (← h, ← stated.is, ← gave ended (ap moved_of j)); ok = tt }
 
-            module _ {c3 : Cursor} (j : y ≡ On c3) {t : Moved} (f : Expects s 5 c3 t) where
+            module _ {c3 : Cursor} (j : y ≡ On c3) {t : Moved} (f : Expects s T.End c3 t) where
               shut : Acted (end_block (View.limits_of l) s (P.Return (opnd_of v))) 0 s m2 w2 c2 m3 w2 tt c3
               shut = got ended (ap moved_of j)
 
@@ -171,7 +154,7 @@ module _ {s m w : List ℕ} {c : Cursor} (g : BodyBegun s m w c) where
               unfolding body_of
               body_no4 k = record { is = let h = rw o at (a.is s) in rw (← h, ← stated.is, ← shut.is, ← gave expected (ap moved_of k)); ok = tt }
 
-              pub body_yes : {c4 c5 : Cursor} → t ≡ On c4 → c5 ≡ receive_cur Nobody c4 → Takes (body_of (View.limits_of l) s (names_in s w c.args)) 1 s m w c m3 w2 (moved_of (On c5))
+              pub body_yes : {c4 c5 : Cursor} → t ≡ On c4 → c5 ≡ receive_cur None c4 → Takes (body_of (View.limits_of l) s (names_in s w c.args)) 1 s m w c m3 w2 (moved_of (On c5))
               unfolding body_of parser_of
               body_yes {c4} {c5} k r =
                   let e = got expected (ap moved_of k) in
@@ -230,7 +213,7 @@ module _ (l : Limits) {s m w : List ℕ} {c : Cursor} (g : Rests s m w c) {u : I
       unfolding fun_of
       fun_no2 i = record { is = let h = rw i at (b.is s w) in rw (← ident_is a f m w, ← h) at (is_fun_lem l s m w c); ok = tt }
 
-      module _ {c2 : Cursor} {k : FunId} (i : x ≡ OpenedFun.Done c2 k) {y : Moved} (d : Expects s 40 c2 y) where
+      module _ {c2 : Cursor} {k : FunId} (i : x ≡ OpenedFun.Done c2 k) {y : Moved} (d : Expects s (T.Sign 40) c2 y) where
         entered : Entered m1 k.0 c1 c2
         entered = rw i at b.ok
 
@@ -287,7 +270,7 @@ module _ (l : Limits) {s m w : List ℕ} {c : Cursor} (g : Rests s m w c) {u : I
             unfolding fun_of
             fun_no4 q = record { is = let h = rw q at (p.is (View.limits_of l) m1) in rw (← ident_is a f m w, ← entered-is, ← open_went.is, ← h) at (is_fun_lem l s m w c); ok = tt }
 
-            module _ {c4 : Cursor} (q : t ≡ On c4) {v : Moved} (r : Expects s 41 c4 v) where
+            module _ {c4 : Cursor} (q : t ≡ On c4) {v : Moved} (r : Expects s (T.Sign 41) c4 v) where
               named : Named s w c3 w1 c4
               named = rw q at p.ok
 

@@ -1,2 +1,3 @@
 pub mod Funs
 pub mod Laws
+pub mod Readers

@@ -6,14 +6,12 @@ use Rattle.rules.specs.Program as P
 use Rattle.rules.specs.Reading.{Reads, with_env, with_self, the_class, expect, expect_ident, push_self, push_params, parse_param, turns, parse_statements, parse_statement}
 use Rattle.rules.specs.Reading.{end_block, new_fun, parse_fun}
 use Rattle.program.specs.View as View
-use Rattle.program.specs.declared.Limits.{Limits}
-use Rattle.cursor.specs.Cursor.{parser_of, CursorReady}
+use Rattle.program.specs.declared.bounds.Limits.{Limits}
+use Rattle.cursor.specs.Cursor.{Cursor, parser_of, CursorReady}
 use Rattle.cursor.specs.Promises.{Out, done, stop, outcome, moved_of}
-use Rattle.cursor.specs.declared.Cursor.{Cursor}
-use Rattle.cursor.specs.declared.Moved.{Moved}
-use Rattle.cursor.specs.declared.Moved.TheVariants.{On, Refused}
+use Rattle.cursor.specs.outcomes.Moved.{Moved, On, Refused}
 use Rattle.variables.specs.Layout.{bindings_most}
-use Rattle.functions.specs.declared.params.OpenedFun.{OpenedFun}
+use Rattle.functions.specs.outcomes.OpenedFun.{OpenedFun}
 use Rattle.functions.specs.params.Names.{names_in, Lie}
 use Rattle.functions.specs.params.Promises.{funned_of}
 use Rattle.statements.specs.Acts.{stops_at}

@@ -1,2 +1,4 @@
+pub mod outcomes
 pub mod params
 pub mod Bodies
+pub mod Parsers

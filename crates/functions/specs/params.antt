@@ -1,2 +1,3 @@
 pub mod Names
 pub mod Promises
+pub mod Parsers

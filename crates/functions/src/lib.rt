@@ -3,123 +3,53 @@
 
 pub mod params;
 
-ghost use Rattle.std.specs.Prelude.{◌≡◌};
-ghost use Rattle.program.specs.View.{Small, limits_of};
-ghost use Rattle.cursor.specs.Promises.{moved_of};
 ghost use Rattle.functions.specs.params.Names.{names_in};
-ghost use Rattle.functions.specs.params.Promises.{ParamsFilled};
-ghost use Rattle.functions.specs.Bodies.{clear_cur, body_of, Heads, Rests, Takes, Taken, BodyBegun};
+ghost use Rattle.functions.specs.Bodies.{body_of};
+ghost use Rattle.functions.specs.Parsers.{HeadWaits, BodyWaits, Resting, through, ParserHeads, ParserTakes, ParserTaken};
 
-use cursor::{Cursor, Ident, Moved, Parsed, SelfAt};
-use params::OpenedFun;
-use program::{Given, Limits, Op};
-
-fn cleared(cursor: Cursor) -> Cursor
-    ensures { result ≡ clear_cur cursor }
-{
-    let counts = cursor.counts;
-    let class = cursor.class;
-    let receiver = cursor.receiver;
-    let block = cursor.block;
-    Cursor {
-        at: cursor.at,
-        counts,
-        class,
-        receiver,
-        block,
-        vars: 0,
-        aside: variables::BINDINGS_MOST,
-        args: cursor.args,
-    }
-}
+use cursor::Parser;
+use ids::FunId;
+use lexer::Token;
+use program::{Given, Op};
+use refusals::Refusal;
 
 // The receiver and the parameters; no other variable is bound.
-fn open_body(program: &mut [usize], scratch: &mut [usize], cursor: Cursor, limits: Limits) -> Moved
-    requires params_filled { ParamsFilled program.old scratch.old (clear_cur cursor) }
-    requires small { Small limits }
-    ensures { Heads limits program.old scratch.old cursor program.new scratch.new result }
+fn open_body(p: &mut Parser) -> Result<(), Refusal>
+    requires { HeadWaits p.old }
+    ensures { ParserHeads p.old p.new result }
 {
-    let c0 = cleared(cursor);
-    match params::push_self(program, c0, limits) {
-        Moved::Refused(e) => Moved::Refused(e),
-        Moved::On(c1) => match params::push_params(program, scratch, c1, limits) {
-            Moved::Refused(e) => Moved::Refused(e),
-            Moved::On(c2) => Moved::On(cursor::with_args(c2, 0)),
-        },
-    }
+    p.vars = 0;
+    p.aside = variables::BINDINGS_MOST;
+    params::push_self(p)?;
+    params::push_params(p)?;
+    p.args = 0;
+    Ok(())
 }
 
 // Behind a function's parameters, whose names wait. Where no terminator ends it, it returns its last statement's value.
-fn parse_body(
-    script: &[u8],
-    program: &mut [usize],
-    scratch: &mut [usize],
-    cursor: Cursor,
-    limits: Limits,
-) -> Moved
-    requires body_begun { BodyBegun script.now program.old scratch.old cursor }
-    requires small { Small limits }
-    ensures { Takes (body_of (limits_of limits) script.now (names_in script.now scratch.old cursor.args)) 1
-        script.now program.old scratch.old cursor program.new scratch.new (moved_of result) }
+fn parse_body(p: &mut Parser) -> Result<(), Refusal>
+    requires { BodyWaits p.old }
+    ensures { ParserTakes (λ L s. body_of L s (names_in s p.old.scratch.now p.old.args)) 1 p.old p.new (through p.new result) }
 {
-    match open_body(program, scratch, cursor, limits) {
-        Moved::Refused(e) => Moved::Refused(e),
-        Moved::On(c1) => match statements::parse_statements(
-            script,
-            program,
-            scratch,
-            c1,
-            limits,
-            false,
-            limits.depth,
-        ) {
-            Parsed::Refused(e) => Moved::Refused(e),
-            Parsed::Done(c2, v) => match statements::end_block(
-                program,
-                c2,
-                limits,
-                Op::Return,
-                Given::One(v),
-            ) {
-                Moved::Refused(e) => Moved::Refused(e),
-                Moved::On(c3) => match cursor::expect(script, c3, lexer::END) {
-                    Moved::Refused(e) => Moved::Refused(e),
-                    Moved::On(c4) => Moved::On(params::received(c4, SelfAt::Nobody)),
-                },
-            },
-        },
-    }
+    let depth = p.program.limits.depth;
+    open_body(p)?;
+    let v = statements::parse_statements(p, false, depth)?;
+    statements::end_block(p, Op::Return, Given::One(v))?;
+    p.expect(Token::End)?;
+    p.receiver = None;
+    Ok(())
 }
 
 // Behind `def`; the function is known from its name on.
-pub fn parse_fun(
-    script: &[u8],
-    program: &mut [usize],
-    scratch: &mut [usize],
-    cursor: Cursor,
-    limits: Limits,
-) -> OpenedFun
-    requires rests { Rests script.now program.old scratch.old cursor }
-    requires small { Small limits }
-    ensures { Taken limits script.now program.old scratch.old cursor program.new scratch.new result }
+pub fn parse_fun(p: &mut Parser) -> Result<FunId, Refusal>
+    requires { Resting p.old }
+    ensures { ParserTaken p.old p.new result }
 {
-    match cursor::expect_ident(script, cursor) {
-        Ident::Refused(e) => OpenedFun::Refused(e),
-        Ident::Found(c1, n) => match params::new_fun(program, c1, limits, n) {
-            OpenedFun::Refused(e) => OpenedFun::Refused(e),
-            OpenedFun::Done(c2, f) => match cursor::expect(script, c2, b'(') {
-                Moved::Refused(e) => OpenedFun::Refused(e),
-                Moved::On(c3) => match params::parse_params(script, scratch, c3) {
-                    Moved::Refused(e) => OpenedFun::Refused(e),
-                    Moved::On(c4) => match cursor::expect(script, c4, b')') {
-                        Moved::Refused(e) => OpenedFun::Refused(e),
-                        Moved::On(c5) => match parse_body(script, program, scratch, c5, limits) {
-                            Moved::Refused(e) => OpenedFun::Refused(e),
-                            Moved::On(c6) => OpenedFun::Done(c6, f),
-                        },
-                    },
-                },
-            },
-        },
-    }
+    let n = p.expect_ident()?;
+    let f = params::new_fun(p, n)?;
+    p.expect(Token::Sign(b'('))?;
+    params::parse_params(p)?;
+    p.expect(Token::Sign(b')'))?;
+    parse_body(p)?;
+    Ok(f)
 }

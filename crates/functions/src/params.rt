@@ -1,230 +1,94 @@
 // The heads of functions: their names, receivers and parameters.
-ghost use Rattle.std.specs.Prelude.{◌≡◌, ◌<◌, ◌≤◌, length};
-ghost use Rattle.program.specs.View.{ProgramReady, Small};
-ghost use Rattle.cursor.specs.Cursor.{bind_cur};
+ghost use Rattle.std.specs.Prelude.{◌<◌, ◌≤◌, length};
 ghost use Rattle.memory.specs.Layout.{operands_most};
-ghost use Rattle.variables.specs.Layout.{bindings_most};
 ghost use Rattle.cursor.specs.Layout.{scratch_size};
-ghost use Rattle.functions.specs.params.Promises.{receive_cur, enter_cur, PutsName, Head, Params, ParamsRoom, PushesParam, ParamsFilled, PushesParams, PushesSelf, Funs};
+ghost use Rattle.cursor.specs.Parsers.{cursor_of, CanAdd};
+ghost use Rattle.functions.specs.params.Promises.{Head, ParamsRoom, ParamsFilled};
+ghost use Rattle.functions.specs.params.Parsers.{ParserPutsName, ParserParams, ParserParam, ParserBinds, ParserSelf, ParserEnters};
 
-use cursor::{Cursor, Ident, Matched, Moved, SelfAt};
-use ids::{BlockId, FunId};
-use lexer::Lexed;
-use program::{Counts, Given, Limits, Name, NewFun, NewInsn, Op, Opnd, Owner};
+use cursor::Parser;
+use ids::FunId;
+use lexer::Token;
+use program::{Given, Name, Op};
+use refusals::Refusal;
 
 // Where the names of parameters wait in scratch memory, two words each.
 const STACK: usize = cursor::STACK;
 
-// A function and the cursor behind its name, or the number of a refusal.
-#[derive(Clone, Copy)]
-pub enum OpenedFun {
-    Done(Cursor, FunId),
-    Refused(usize),
-}
-
-// ---- a cursor with some parts changed
-
-pub fn received(cursor: Cursor, r: SelfAt) -> Cursor
-    ensures { result ≡ receive_cur r cursor }
-{
-    let counts = cursor.counts;
-    let class = cursor.class;
-    let block = cursor.block;
-    Cursor {
-        at: cursor.at,
-        counts,
-        class,
-        receiver: r,
-        block,
-        vars: cursor.vars,
-        aside: cursor.aside,
-        args: cursor.args,
-    }
-}
-
-fn entered(cursor: Cursor, counts: Counts, b: BlockId) -> Cursor
-    ensures { result ≡ enter_cur counts b cursor }
-{
-    let class = cursor.class;
-    let receiver = cursor.receiver;
-    Cursor {
-        at: cursor.at,
-        counts,
-        class,
-        receiver,
-        block: b,
-        vars: cursor.vars,
-        aside: cursor.aside,
-        args: cursor.args,
-    }
-}
-
-fn bound(cursor: Cursor) -> Cursor
-    requires { cursor.vars < bindings_most }
-    ensures { result ≡ bind_cur cursor }
-{
-    let counts = cursor.counts;
-    let class = cursor.class;
-    let receiver = cursor.receiver;
-    let block = cursor.block;
-    Cursor {
-        at: cursor.at,
-        counts,
-        class,
-        receiver,
-        block,
-        vars: cursor.vars + 1,
-        aside: cursor.aside,
-        args: cursor.args,
-    }
-}
-
 // ---- names
 
 // A name waits behind those that do.
-fn push_name(scratch: &mut [usize], cursor: Cursor, n: Name) -> Cursor
-    requires scratch_size_in_bounds { scratch_size ≤ length scratch.old }
-    requires args_lt_operands_most { cursor.args < operands_most }
-    ensures { PutsName scratch.old cursor n scratch.new result }
+fn push_name(p: &mut Parser, n: Name)
+    requires { (scratch_size ≤ length p.old.scratch.now) × (p.old.args < operands_most) }
+    ensures { ParserPutsName n p.old p.new }
 {
-    let at = STACK + 2 * cursor.args;
-    scratch[at] = n.start;
-    scratch[at + 1] = n.len;
-    cursor::with_args(cursor, cursor.args + 1)
+    let at = STACK + 2 * p.args;
+    p.scratch[at] = n.start;
+    p.scratch[at + 1] = n.len;
+    p.args += 1;
 }
 
 // The names up to `)`; a comma may stand behind the last.
-pub fn parse_params(script: &[u8], scratch: &mut [usize], cursor: Cursor) -> Moved
-    requires { Head script.now scratch.old cursor }
-    ensures { Params script.now scratch.old cursor scratch.new result }
+pub fn parse_params(p: &mut Parser) -> Result<(), Refusal>
+    requires { Head p.old.script.now p.old.scratch.now (cursor_of p.old) }
+    ensures { ParserParams p.old p.new result }
 {
-    let mut cur = cursor;
-    loop {
-        match cursor::peek(script, cur) {
-            Lexed::Refused(e) => {
-                return Moved::Refused(e);
-            }
-            Lexed::Found(x) => {
-                if x.kind == b')' {
-                    return Moved::On(cur);
-                }
-                match cursor::expect_ident(script, cur) {
-                    Ident::Refused(e) => {
-                        return Moved::Refused(e);
-                    }
-                    Ident::Found(c1, n) => {
-                        let c2 = push_name(scratch, c1, n);
-                        match cursor::match_token(script, c2, b',') {
-                            Matched::Refused(e) => {
-                                return Moved::Refused(e);
-                            }
-                            Matched::Not => {
-                                return Moved::On(c2);
-                            }
-                            Matched::Yes(c3) => {
-                                cur = c3;
-                            }
-                        }
-                    }
-                }
-            }
+    while p.peek()?.token != Token::Sign(b')') {
+        let n = p.expect_ident()?;
+        push_name(p, n);
+        if !p.match_token(Token::Sign(b','))? {
+            return Ok(());
         }
     }
+    Ok(())
 }
 
 // ---- parameters
 
 // The k-th of the waiting names is bound to a Param.
-fn push_param(
-    program: &mut [usize],
-    scratch: &mut [usize],
-    cursor: Cursor,
-    limits: Limits,
-    k: usize,
-) -> Moved
-    requires params_room { ParamsRoom k program.old scratch.old cursor }
-    requires small { Small limits }
-    ensures { PushesParam limits k program.old scratch.old cursor program.new scratch.new result }
+fn push_param(p: &mut Parser, k: usize) -> Result<(), Refusal>
+    requires { ParamsRoom k p.old.program.words.now p.old.scratch.now (cursor_of p.old) }
+    ensures { ParserParam k p.old p.new result }
 {
     let at = STACK + 2 * k;
-    let start = scratch[at];
-    let len = scratch[at + 1];
-    let counts = cursor.counts;
-    let b = cursor.block;
-    match program::push_insn(program, counts, limits, b, Op::Param(k), Given::Zero) {
-        NewInsn::Added(i, d) => {
-            phis::set_var(scratch, cursor.vars, start, len, Opnd::Insn(i));
-            let c1 = cursor::counted(cursor, d);
-            Moved::On(bound(c1))
-        }
-        NewInsn::Refused(e) => Moved::Refused(e),
-    }
+    let start = p.scratch[at];
+    let len = p.scratch[at + 1];
+    let v = p.push(Op::Param(k), Given::Zero)?;
+    phis::set_var(p.scratch, p.vars, start, len, v);
+    p.vars += 1;
+    Ok(())
 }
 
 // A Param for each of the waiting names.
-pub fn push_params(
-    program: &mut [usize],
-    scratch: &mut [usize],
-    cursor: Cursor,
-    limits: Limits,
-) -> Moved
-    requires params_filled { ParamsFilled program.old scratch.old cursor }
-    requires small { Small limits }
-    ensures { PushesParams limits program.old scratch.old cursor program.new scratch.new result }
+pub fn push_params(p: &mut Parser) -> Result<(), Refusal>
+    requires { ParamsFilled p.old.program.words.now p.old.scratch.now (cursor_of p.old) }
+    ensures { ParserBinds p.old p.new result }
 {
-    let n = cursor.args;
-    let mut k = 0;
-    let mut cur = cursor;
-    while k < n {
-        match push_param(program, scratch, cur, limits, k) {
-            Moved::On(c1) => {
-                cur = c1;
-            }
-            Moved::Refused(e) => {
-                return Moved::Refused(e);
-            }
-        }
-        k += 1;
+    for k in 0..p.args {
+        push_param(p, k)?;
     }
-    Moved::On(cur)
+    Ok(())
 }
 
 // ---- receivers and functions
 
 // A method's receiver comes before its parameters.
-pub fn push_self(program: &mut [usize], cursor: Cursor, limits: Limits) -> Moved
-    requires program_ready { ProgramReady program.old cursor.counts }
-    requires small { Small limits }
-    requires block_lt_blocks { cursor.block.0 < cursor.counts.blocks }
-    ensures { PushesSelf limits program.old cursor program.new result }
+pub fn push_self(p: &mut Parser) -> Result<(), Refusal>
+    requires { CanAdd p.old }
+    ensures { ParserSelf p.old p.new result }
 {
-    let class = cursor.class;
-    match class {
-        Owner::Nobody => Moved::On(cursor),
-        Owner::Class(k) => {
-            let counts = cursor.counts;
-            let b = cursor.block;
-            match program::push_insn(program, counts, limits, b, Op::SelfParam(k), Given::Zero) {
-                NewInsn::Added(i, d) => {
-                    let c1 = cursor::counted(cursor, d);
-                    Moved::On(received(c1, SelfAt::At(i)))
-                }
-                NewInsn::Refused(e) => Moved::Refused(e),
-            }
-        }
+    if let Some(k) = p.class {
+        let i = p.program.push_insn(p.block, Op::SelfParam(k), Given::Zero)?;
+        p.receiver = Some(i);
     }
+    Ok(())
 }
 
 // The function of a name, with its entry block, which takes instructions.
-pub fn new_fun(program: &mut [usize], cursor: Cursor, limits: Limits, n: Name) -> OpenedFun
-    requires program_ready { ProgramReady program.old cursor.counts }
-    requires small { Small limits }
-    ensures { Funs limits n program.old cursor program.new result }
+pub fn new_fun(p: &mut Parser, n: Name) -> Result<FunId, Refusal>
+    ensures { ParserEnters n p.old p.new result }
 {
-    let counts = cursor.counts;
-    let class = cursor.class;
-    match program::new_fun(program, counts, limits, n, class) {
-        NewFun::Added(f, b, d) => OpenedFun::Done(entered(cursor, d, b), f),
-        NewFun::Refused(e) => OpenedFun::Refused(e),
-    }
+    let (f, entry) = p.program.new_fun(n, p.class)?;
+    p.block = entry;
+    Ok(f)
 }

@@ -7,11 +7,12 @@ use mathlib.Core.Bool.{Bool as 𝔹, true, false, true≢false}
 use mathlib.Core.List.{List, [], ◌∷◌, ◌++◌}
 use lib.ListN.{length, get_or, length-append}
 use lib.Seq.{get_or-set_same}
+use Rattle.std.specs.Prelude.{Ok, Err}
 use Rattle.kinds.specs.declared.Kind.{Kind}
+use Rattle.refusals.specs.declared.Refusal.TheVariants.{KindsClash}
 use Rattle.kinds.specs.declared.Kind.TheVariants.{Empty}
-use Rattle.kinds.specs.declared.Joined.TheVariants.{Of, Refused}
 use Rattle.kinds.specs.Kinds.{same_kind, is_name}
-use Rattle.kinds.specs.Union.{union_of}
+use Rattle.kinds.specs.Union.{Joined, union_of}
 use Rattle.kinds.proofs.Laws.{union_idem, union-name}
 use Rattle.kinds.proofs.Same.{same_refl}
 use Rattle.rules.specs.Actions.{Answer, answered, refused, if_answered, ◌>>=◌, lift, the}
@@ -118,13 +119,13 @@ module _ (L : Limits) (p : Program) where
   unfolding store
   store_same i k t h = rw (h.1, h.2) refl
 
-  union_self : (a u : Kind) → union_of a a ≡ Of u → same_kind u a ≡ true
+  union_self : (a u : Kind) → union_of a a ≡ Ok u → same_kind u a ≡ true
   union_self a u e = go (is_name a) refl
     where
-      clashes : Refused 19 ≡ Of u → ⊥
+      clashes : ◌≡◌ {A = Joined} (Err KindsClash) (Ok u) → ⊥
       clashes q = absurd (let z : ◌≡◌ {A = ℕ} 0 1 = cc in omega arith)
 
-      is : Of a ≡ Of u → u ≡ a
+      is : ◌≡◌ {A = Joined} (Ok a) (Ok u) → u ≡ a
       is q = cc
 
       go : (b : 𝔹) → is_name a ≡ b → same_kind u a ≡ true
@@ -136,7 +137,7 @@ module _ (L : Limits) (p : Program) where
       let now : get_or e.kinds i Empty ≡ k = ap (λ (t : State). get_or t.kinds i Empty) d.state ∙ get_or-set_same s.kinds i k Empty h in
       let is : k ≡ get_or s.kinds i Empty = sym now ∙ g in
       let old = get_or s.kinds i Empty in
-      true≢false (sym (union_self old d.changed.0 (subst (λ (j : Kind). union_of old j ≡ Of d.changed.0) is d.changed.1)) ∙ d.changed.2)
+      true≢false (sym (union_self old d.changed.0 (subst (λ (j : Kind). union_of old j ≡ Ok d.changed.0) is d.changed.1)) ∙ d.changed.2)
 
   -- what a store leaves where it leaves the kind
   store_kept : (i : ℕ) (k : Kind) (s e : State) → i < length s.kinds → get_or e.kinds i Empty ≡ get_or s.kinds i Empty → store L p i k s ≡ answered (tt, e)

@@ -9,11 +9,11 @@ use mathlib.Core.List.Memᴰ
 use mathlib.Core.List.{List, [], ◌∷◌, ◌++◌}
 use lib.ListN.{length, get_or, set, length-append, get_or-eq_default}
 use lib.Seq.{set-get_or, get_or-set_other}
+use Rattle.std.specs.Prelude.{Ok}
 use Rattle.ids.specs.Sets.{members_of}
 use Rattle.ids.proofs.Bits.{Either, yes, no, either}
 use Rattle.kinds.specs.declared.Kind.{Kind}
 use Rattle.kinds.specs.declared.Kind.TheVariants.{Empty, Any}
-use Rattle.kinds.specs.declared.Joined.TheVariants.{Of}
 use Rattle.kinds.specs.Kinds.{same_kind, is_empty, is_name, is_any}
 use Rattle.kinds.specs.Union.{lub, union_of}
 use Rattle.kinds.proofs.Same.{same_refl, same_eq}
@@ -37,15 +37,15 @@ use Rattle.idle.proofs.Idle.{store_same}
 -- ---- kinds
 
 -- what a kind covers adds nothing to it
-pub covered-union : {k j : Kind} → Covered k j → union_of k j ≡ Of k
+pub covered-union : {k j : Kind} → Covered k j → union_of k j ≡ Ok k
 covered-union {k} {j} c = go (either (is_name k)) (either (is_empty j)) (either (is_empty k)) (either (same_kind j k))
   where
     -- a name that covers another kind than Empty would be Any
-    low : is_name k ≡ true → lub j k ≡ Any → union_of k j ≡ Of k
+    low : is_name k ≡ true → lub j k ≡ Any → union_of k j ≡ Ok k
     low m e = absurd (true≢false (sym m ∙ ap is_name (sym c.below ∙ e)))
 
-    go : Either (is_name k) → Either (is_empty j) → Either (is_empty k) → Either (same_kind j k) → union_of k j ≡ Of k
-    go (no m) x y z = union-plain k j m c.plain ∙ ap Of (lub_comm k j ∙ c.below)
+    go : Either (is_name k) → Either (is_empty j) → Either (is_empty k) → Either (same_kind j k) → union_of k j ≡ Ok k
+    go (no m) x y z = union-plain k j m c.plain ∙ ap Ok (lub_comm k j ∙ c.below)
     go (yes m) (yes x) y z = ap (union_of k) (empty_is j x) ∙ union_empty_r k
     go (yes m) (no x) (yes y) z = absurd (true≢false (sym m ∙ ap is_name (empty_is k y)))
     go (yes m) (no x) (no y) (yes z) = absurd (true≢false (sym m ∙ ap is_name (sym (same_eq j k z)) ∙ c.plain))
@@ -57,7 +57,7 @@ covered_empty k = record { plain = refl; below = below_empty k }
 covered-lub : {k a b : Kind} → Covered k a → Covered k b → Covered k (lub a b)
 covered-lub {k} {a} {b} x y = record { plain = lub-plain a b x.plain y.plain; below = below-least a b k x.below y.below }
 
-covered-join : {k a b u : Kind} → Covered k a → Covered k b → union_of a b ≡ Of u → Covered k u
+covered-join : {k a b u : Kind} → Covered k a → Covered k b → union_of a b ≡ Ok u → Covered k u
 covered-join {k} {a} {b} {u} x y e = subst (Covered k) (sym (union-is a b u e)) (covered-lub x y)
 
 -- ---- the visit of a settled read

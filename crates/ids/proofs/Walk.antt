@@ -11,7 +11,8 @@ use lib.ListN.{length}
 use lib.Count.{ones, ones_step, count_trailing_zeros, under}
 use Rattle.ids.specs.Sets.{keep, members_from, members_of, next_in, next_of}
 use Rattle.ids.specs.declared.ClassId.{ClassId}
-use Rattle.ids.specs.declared.NextClass.TheVariants.{Member, Done}
+use Rattle.std.specs.Prelude.{None, Some}
+use Rattle.std.proofs.lemmas.Option.{some_pair_parts}
 use Rattle.ids.proofs.Bits.{ones-zero, Either, yes, no, either}
 
 -- What the smallest member t of a set s of d bits is: it lies below d, is in s, and the walk goes on with the rest.
@@ -85,27 +86,26 @@ module _ (d s : ℕ) where
       let l = smallest d s p h in
       record { walk = l.walk; falls = omega (arith, l.within, pow_pos (count_trailing_zeros d s)); below = l.below }
 
-  pub step_in : (c : ClassId) (t : ℕ) → s < 2 ^ d → next_in d s ≡ Member c t → StepIn d s c.0 t
+  pub step_in : (c : ClassId) (t : ℕ) → s < 2 ^ d → next_in d s ≡ Some (c, t) → StepIn d s c.0 t
   step_in c t h e = go (either (eqb s 0))
     where
       go : Either (eqb s 0) → StepIn d s c.0 t
-      go (yes p) = let f : next_in d s ≡ Done = rw p in let z : ◌≡◌ {A = ℕ} 0 1 = cc in absurd (omega arith)
+      go (yes p) = let f : next_in d s ≡ None = rw p in let z : ◌≡◌ {A = ℕ} 0 1 = cc in absurd (omega arith)
       go (no p) =
-          let f : next_in d s ≡ Member (record { 0 = count_trailing_zeros d s }) (s - 2 ^ count_trailing_zeros d s) = rw p in
-          let i : count_trailing_zeros d s ≡ c.0 = cc in
-          let j : s - 2 ^ count_trailing_zeros d s ≡ t = cc in
+          let f : next_in d s ≡ Some (record { 0 = count_trailing_zeros d s }, s - 2 ^ count_trailing_zeros d s) = rw p in
+          let q = some_pair_parts _ c _ t (sym f ∙ e) in
           let n = eqb-false s 0 p in
-          subst₂ (StepIn d s) i j (first (omega arith) h)
+          subst₂ (StepIn d s) (ap (λ (x : ClassId). x.0) q.0) q.1 (first (omega arith) h)
 
-  done-zero : next_in d s ≡ Done → s ≡ 0
+  done-zero : next_in d s ≡ None → s ≡ 0
   done-zero e = go (either (eqb s 0))
     where
       go : Either (eqb s 0) → s ≡ 0
       go (yes p) = eqb-true s 0 p
-      go (no p) = let f : next_in d s ≡ Member (record { 0 = count_trailing_zeros d s }) (s - 2 ^ count_trailing_zeros d s) = rw p in cc
+      go (no p) = let f : next_in d s ≡ Some (record { 0 = count_trailing_zeros d s }, s - 2 ^ count_trailing_zeros d s) = rw p in cc
 
   -- at the end of the walk there is no member left
-  pub done_in : (i : ℕ) → next_in d s ≡ Done → members_from d i s ≡ []
+  pub done_in : (i : ℕ) → next_in d s ≡ None → members_from d i s ≡ []
   done_in i e = ap (members_from d i) (done-zero e) ∙ no_members d i
 
 -- ---- the same at 64, as the code takes it
@@ -115,12 +115,12 @@ pub record Step (s c t : ℕ) : Type 0 where
   pub falls : t < s
   pub below : c < 64
 
-pub members_step : (s : ℕ) (c : ClassId) (t : ℕ) → s < 2 ^ 64 → next_of s ≡ Member c t → Step s c.0 t
+pub members_step : (s : ℕ) (c : ClassId) (t : ℕ) → s < 2 ^ 64 → next_of s ≡ Some (c, t) → Step s c.0 t
 unfolding members_of
 members_step s c t h e =
     let l = step_in 64 s c t h e in
     record { walk = l.walk 0 ∙ ap (λ (x : ℕ). x ∷ members_from 64 0 t) (zero-add c.0); falls = l.falls; below = l.below }
 
-pub members_done : (s : ℕ) → next_of s ≡ Done → members_of s ≡ []
+pub members_done : (s : ℕ) → next_of s ≡ None → members_of s ≡ []
 unfolding members_of
 members_done s e = done_in 64 s 0 e

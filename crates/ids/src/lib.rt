@@ -6,16 +6,16 @@ ghost use Rattle.std.specs.Int.Count.{ones};
 ghost use Rattle.ids.specs.Sets.{one_of, two_of, next_of};
 
 // A class, a function, a block and an instruction: four types, so that no number is used for another sort of thing.
-#[derive(Clone, Copy)]
+#[derive(Clone, Copy, PartialEq, Eq)]
 pub struct ClassId(pub u32);
 
-#[derive(Clone, Copy)]
+#[derive(Clone, Copy, PartialEq, Eq)]
 pub struct FunId(pub u32);
 
-#[derive(Clone, Copy)]
+#[derive(Clone, Copy, PartialEq, Eq)]
 pub struct BlockId(pub u32);
 
-#[derive(Clone, Copy)]
+#[derive(Clone, Copy, PartialEq, Eq)]
 pub struct InsnId(pub u32);
 
 impl ClassId {
@@ -26,13 +26,36 @@ impl ClassId {
     pub const TRUE: ClassId = ClassId(2);
 
     pub const FALSE: ClassId = ClassId(3);
+
+    pub fn index(self) -> usize
+        ensures { result ≡ self.0 }
+    {
+        self.0 as usize
+    }
 }
 
-// A step of the walk through a set: its smallest class and the set without it.
-#[derive(Clone, Copy)]
-pub enum NextClass {
-    Member(ClassId, u64),
-    Done,
+impl FunId {
+    pub fn index(self) -> usize
+        ensures { result ≡ self.0 }
+    {
+        self.0 as usize
+    }
+}
+
+impl BlockId {
+    pub fn index(self) -> usize
+        ensures { result ≡ self.0 }
+    {
+        self.0 as usize
+    }
+}
+
+impl InsnId {
+    pub fn index(self) -> usize
+        ensures { result ≡ self.0 }
+    {
+        self.0 as usize
+    }
 }
 
 // The set of one class.
@@ -51,22 +74,20 @@ pub fn two(c: ClassId, d: ClassId) -> u64
     one(c) | one(d)
 }
 
-// The walk upward: counting trailing zeros finds the smallest class.
-pub fn smallest(s: u64) -> NextClass
+// A step of the walk upward: the smallest class, found by counting trailing zeros, and the set without it.
+pub fn smallest(s: u64) -> Option<(ClassId, u64)>
     ensures { result ≡ next_of s }
 {
     if s == 0 {
-        return NextClass::Done;
+        return None;
     }
-    let i = u64::trailing_zeros(s);
-    let lowest = 1u64 << i;
-    let rest = s - lowest;
-    NextClass::Member(ClassId(i), rest)
+    let i = s.trailing_zeros();
+    Some((ClassId(i), s - (1 << i)))
 }
 
 // How many classes a set has.
 pub fn count(s: u64) -> u32
     ensures { result ≡ ones s }
 {
-    u64::count_ones(s)
+    s.count_ones()
 }

@@ -3,67 +3,68 @@ use mathlib.Core.Path.{◌≡◌, refl}
 use mathlib.Core.Bool.{true, false}
 use mathlib.Core.List.{[], ◌∷◌}
 use lib.IntN.{pos, negsuc}
+use Rattle.std.specs.Prelude.{Ok, Err}
+use Rattle.refusals.specs.declared.Refusal.TheVariants.{Subtraction, KindsClash}
 use Rattle.numbers.specs.Numbers.{fit_within}
 use Rattle.kinds.specs.declared.Kind.TheVariants.{Empty, Nil, Num, Truth, Fun, Int, Bool, Objects, Any}
-use Rattle.kinds.specs.declared.Joined.TheVariants.{Of, Refused}
 use Rattle.kinds.specs.declared.Arith.TheVariants.{Add, Sub, Mul, Less}
 use Rattle.kinds.specs.Kinds.{same_kind}
 use Rattle.kinds.specs.Union.{mix_of, lub, union_of, union_all}
 use Rattle.kinds.specs.Rules.{result_of, by_union, arith_of}
 
-nil-and_int : union_of Nil Int ≡ Of (Objects 3)
+nil-and_int : union_of Nil Int ≡ Ok (Objects 3)
 unfolding union_of lub mix_of same_kind
 nil-and_int = refl
 
-nil-and-true : union_of Nil (Truth true) ≡ Of (Objects 5)
+nil-and-true : union_of Nil (Truth true) ≡ Ok (Objects 5)
 unfolding union_of lub mix_of same_kind
 nil-and-true = refl
 
-true-and-false : union_of (Truth true) (Truth false) ≡ Of Bool
+true-and-false : union_of (Truth true) (Truth false) ≡ Ok Bool
 unfolding union_of lub mix_of same_kind
 true-and-false = refl
 
-set-and_bool : union_of (Objects 16) Bool ≡ Of (Objects 28)
+set-and_bool : union_of (Objects 16) Bool ≡ Ok (Objects 28)
 unfolding union_of lub mix_of same_kind
 set-and_bool = refl
 
-two_numbers : union_of (Num (pos 5)) (Num (negsuc 5)) ≡ Of Int
+two_numbers : union_of (Num (pos 5)) (Num (negsuc 5)) ≡ Ok Int
 unfolding union_of lub mix_of same_kind
 two_numbers = refl
 
-one_number : union_of (Num (negsuc 5)) (Num (negsuc 5)) ≡ Of (Num (negsuc 5))
+one_number : union_of (Num (negsuc 5)) (Num (negsuc 5)) ≡ Ok (Num (negsuc 5))
 unfolding union_of lub mix_of same_kind
 one_number = refl
 
-name-again : union_of (Fun (record { 0 = 3 })) (Fun (record { 0 = 3 })) ≡ Refused 19
+name-again : union_of (Fun (record { 0 = 3 })) (Fun (record { 0 = 3 })) ≡ Err KindsClash
 unfolding union_of lub mix_of same_kind
 name-again = refl
 
 -- the order counts: a name first meets a number, or Any
-number-before-any : union_all Empty (Fun (record { 0 = 3 }) ∷ Int ∷ Any ∷ []) ≡ Refused 19
+number-before-any : union_all Empty (Fun (record { 0 = 3 }) ∷ Int ∷ Any ∷ []) ≡ Err KindsClash
 unfolding union_all union_of lub mix_of same_kind
 number-before-any = refl
 
-any-before-number : union_all Empty (Fun (record { 0 = 3 }) ∷ Any ∷ Int ∷ []) ≡ Of Any
+any-before-number : union_all Empty (Fun (record { 0 = 3 }) ∷ Any ∷ Int ∷ []) ≡ Ok Any
 unfolding union_all union_of lub mix_of same_kind
 any-before-number = refl
 
-past_the_end : arith_of Add (Num (pos 9223372036854775807)) (Num (pos 1)) ≡ Of Int
+past_the_end : arith_of Add (Num (pos 9223372036854775807)) (Num (pos 1)) ≡ Ok Int
 unfolding arith_of result_of fit_within
 past_the_end = refl
 
-least : arith_of Mul (Num (negsuc 4294967295)) (Num (pos 2147483648)) ≡ Of (Num (negsuc 9223372036854775807))
+least : arith_of Mul (Num (negsuc 4294967295)) (Num (pos 2147483648)) ≡ Ok (Num (negsuc 9223372036854775807))
 unfolding arith_of result_of fit_within
 least = refl
 
-one_and-nil : arith_of Add (Num (pos 1)) Nil ≡ Of Any
+one_and-nil : arith_of Add (Num (pos 1)) Nil ≡ Ok Any
 unfolding arith_of union_of lub mix_of same_kind by_union
 one_and-nil = refl
 
-less : arith_of Less (Num (negsuc 0)) (Num (pos 2)) ≡ Of (Truth true)
+less : arith_of Less (Num (negsuc 0)) (Num (pos 2)) ≡ Ok (Truth true)
 unfolding arith_of result_of
 less = refl
 
-taking_away : arith_of Sub Empty (Num (pos 1)) ≡ Refused 18
+taking_away : arith_of Sub Empty (Num (pos 1)) ≡ Err Subtraction
 unfolding arith_of
 taking_away = refl

@@ -5,25 +5,22 @@ use mathlib.Core.Bool.{Bool as 𝔹, true, false, cond, ◌&&◌, ◌||◌, true
 use mathlib.Core.List.{Memᴰ}
 use Prim.Native.Nat.{ℕ}
 use native.Mathlib.Omega.{arith}
+use Rattle.std.specs.Prelude.{Option, Some, None, Ok, Err}
 use lib.IntN.{ℤ, ◌+ℤ◌, ◌-ℤ◌, ◌*ℤ◌}
 use lib.Signed.{lt_z}
 use lib.Bits.{bit_or, or_self}
 use Rattle.ids.specs.Sets.{members_of}
 use Rattle.ids.proofs.Bits.{Either, yes, no, either}
 use Rattle.ids.proofs.Members.{members_or}
+use Rattle.refusals.specs.declared.Refusal.{Refusal}
+use Rattle.refusals.specs.declared.Refusal.TheVariants.{Subtraction, KindsClash}
 use Rattle.numbers.specs.Numbers.{fit_within}
-use Rattle.numbers.specs.declared.Fit.{Fit}
-use Rattle.numbers.specs.declared.Fit.TheVariants.{Fits, Leaves}
 use Rattle.kinds.specs.declared.Kind.{Kind}
 use Rattle.kinds.specs.declared.Kind.TheVariants.{Empty, Nil, Num, Truth, Fun, Class, Int, Bool, Objects, Any}
-use Rattle.kinds.specs.declared.Joined.{Joined}
-use Rattle.kinds.specs.declared.Joined.TheVariants.{Of, Refused}
-use Rattle.kinds.specs.declared.Known.{Known}
-use Rattle.kinds.specs.declared.Known.TheVariants.{Number, Other}
 use Rattle.kinds.specs.declared.Arith.{Arith}
 use Rattle.kinds.specs.declared.Arith.TheVariants.{Add, Sub, Mul, Less}
 use Rattle.kinds.specs.Kinds.{same_kind, is_empty, is_number, is_truth}
-use Rattle.kinds.specs.Union.{set_of, wide, is_alone, mix_of, lub, Below, clash, union_of}
+use Rattle.kinds.specs.Union.{Joined, set_of, wide, is_alone, mix_of, lub, Below, clash, union_of}
 use Rattle.kinds.specs.Rules.{known_in, kind_of, result_of, wide_of, by_union, by_unions, both, is_sub, arith_of, arith_total, admits}
 use Rattle.kinds.specs.Heights.{Good}
 use Rattle.kinds.proofs.Same.{same_eq}
@@ -155,7 +152,7 @@ data View : Kind → Type 0 where
   is_none : View Empty
   is_num : (n : ℤ) → View (Num n)
   is_int : View Int
-  is-other : {k : Kind} → is_empty k ≡ false → is_number k ≡ false → known_in k ≡ Other → grade k ≡ other → View k
+  is-other : {k : Kind} → is_empty k ≡ false → is_number k ≡ false → known_in k ≡ None → grade k ≡ other → View k
 
 view : (k : Kind) → View k
 view Empty = is_none
@@ -264,10 +261,10 @@ grade_mono a Bool e = high
 grade_mono a (Objects s) e = high
 grade_mono a Any e = high
 
-fit_int : (f : Fit) → Below (kind_of f) Int
+fit_int : (f : Option ℤ) → Below (kind_of f) Int
 unfolding lub mix_of same_kind
-fit_int (Fits z) = refl
-fit_int Leaves = refl
+fit_int (Some z) = refl
+fit_int None = refl
 
 truth_bool : (t : 𝔹) → Below (Truth t) Bool
 unfolding lub mix_of same_kind
@@ -315,44 +312,44 @@ pub total_mono : (o : Arith) (a b c d : Kind) → Below a b → Below c d → Be
 total_mono o a b c d p q = rw (total_grade o a c, total_grade o b d) (graded_mono o (grade_mono a b p) (grade_mono c d q))
 
 -- a result that is not refused is that of the rule without refusals
-pub arith_is : (o : Arith) (a b u : Kind) → arith_of o a b ≡ Of u → u ≡ arith_total o a b
+pub arith_is : (o : Arith) (a b u : Kind) → arith_of o a b ≡ Ok u → u ≡ arith_total o a b
 unfolding arith_of arith_total
 arith_is o a b u e = go (is_sub o) (is_empty a || is_empty b) (known_in a) (known_in b) (union_of a b) refl e
   where
-    go : (s p : 𝔹) (x y : Known) (j : Joined) → union_of a b ≡ j → cond s (Refused 18) (cond p (Of Empty) (both (λ m n. Of (result_of o m n)) (by_unions o j) x y)) ≡ Of u → u ≡ cond p Empty (both (result_of o) (by_union o (lub a b)) x y)
+    go : (s p : 𝔹) (x y : Option ℤ) (j : Joined) → union_of a b ≡ j → cond s (Err Subtraction) (cond p (Ok Empty) (both (λ m n. Ok (result_of o m n)) (by_unions o j) x y)) ≡ Ok u → u ≡ cond p Empty (both (result_of o) (by_union o (lub a b)) x y)
     go true p x y j q e = cc
     go false true x y j q e = cc
-    go false false (Number m) (Number n) j q e = cc
-    go false false (Number m) Other (Of v) q e = let h : u ≡ by_union o v = cc e in h ∙ ap (by_union o) (union-is a b v q)
-    go false false (Number m) Other (Refused n) q e = cc
-    go false false Other y (Of v) q e = let h : u ≡ by_union o v = cc e in h ∙ ap (by_union o) (union-is a b v q)
-    go false false Other y (Refused n) q e = cc
+    go false false (Some m) (Some n) j q e = cc
+    go false false (Some m) None (Ok v) q e = let h : u ≡ by_union o v = cc e in h ∙ ap (by_union o) (union-is a b v q)
+    go false false (Some m) None (Err n) q e = cc
+    go false false None y (Ok v) q e = let h : u ≡ by_union o v = cc e in h ∙ ap (by_union o) (union-is a b v q)
+    go false false None y (Err n) q e = cc
 
--- a refusal is 18 of a subtraction, or 19 of a name
-pub arith-refused : (o : Arith) (a b : Kind) (n : ℕ) → arith_of o a b ≡ Refused n → ((n ≡ 18) × (is_sub o ≡ true)) ⊎ ((n ≡ 19) × (clash a b ≡ true))
+-- a refusal is of a subtraction, or of a name that clashes
+pub arith-refused : (o : Arith) (a b : Kind) (r : Refusal) → arith_of o a b ≡ Err r → ((r ≡ Subtraction) × (is_sub o ≡ true)) ⊎ ((r ≡ KindsClash) × (clash a b ≡ true))
 unfolding arith_of
-arith-refused o a b n e = go (is_sub o) refl (is_empty a || is_empty b) (known_in a) (known_in b) (union_of a b) refl e
+arith-refused o a b r e = go (is_sub o) refl (is_empty a || is_empty b) (known_in a) (known_in b) (union_of a b) refl e
   where
-    name : (m : ℕ) → union_of a b ≡ Refused m → m ≡ n → ((n ≡ 18) × (is_sub o ≡ true)) ⊎ ((n ≡ 19) × (clash a b ≡ true))
-    name m q h = let r = union-refused a b m q in inr (sym h ∙ r.0, r.1)
+    name : (m : Refusal) → union_of a b ≡ Err m → m ≡ r → ((r ≡ Subtraction) × (is_sub o ≡ true)) ⊎ ((r ≡ KindsClash) × (clash a b ≡ true))
+    name m q h = let c = union-refused a b m q in inr (sym h ∙ c.0, c.1)
 
-    go : (s : 𝔹) → is_sub o ≡ s → (p : 𝔹) (x y : Known) (j : Joined) → union_of a b ≡ j → cond s (Refused 18) (cond p (Of Empty) (both (λ m n. Of (result_of o m n)) (by_unions o j) x y)) ≡ Refused n → ((n ≡ 18) × (is_sub o ≡ true)) ⊎ ((n ≡ 19) × (clash a b ≡ true))
-    go true s p x y j q e = inl (let h : n ≡ 18 = cc e in h, s)
+    go : (s : 𝔹) → is_sub o ≡ s → (p : 𝔹) (x y : Option ℤ) (j : Joined) → union_of a b ≡ j → cond s (Err Subtraction) (cond p (Ok Empty) (both (λ m n. Ok (result_of o m n)) (by_unions o j) x y)) ≡ Err r → ((r ≡ Subtraction) × (is_sub o ≡ true)) ⊎ ((r ≡ KindsClash) × (clash a b ≡ true))
+    go true s p x y j q e = inl (let h : r ≡ Subtraction = cc e in h, s)
     go false s true x y j q e = absurd (let z : ◌≡◌ {A = ℕ} 0 1 = cc e in omega arith)
-    go false s false (Number l) (Number m) j q e = absurd (let z : ◌≡◌ {A = ℕ} 0 1 = cc e in omega arith)
-    go false s false (Number l) Other (Of v) q e = absurd (let z : ◌≡◌ {A = ℕ} 0 1 = cc e in omega arith)
-    go false s false (Number l) Other (Refused m) q e = name m q (cc e)
-    go false s false Other y (Of v) q e = absurd (let z : ◌≡◌ {A = ℕ} 0 1 = cc e in omega arith)
-    go false s false Other y (Refused m) q e = name m q (cc e)
+    go false s false (Some l) (Some m) j q e = absurd (let z : ◌≡◌ {A = ℕ} 0 1 = cc e in omega arith)
+    go false s false (Some l) None (Ok v) q e = absurd (let z : ◌≡◌ {A = ℕ} 0 1 = cc e in omega arith)
+    go false s false (Some l) None (Err m) q e = name m q (cc e)
+    go false s false None y (Ok v) q e = absurd (let z : ◌≡◌ {A = ℕ} 0 1 = cc e in omega arith)
+    go false s false None y (Err m) q e = name m q (cc e)
 
 -- results of arithmetic can arise
 pub total-good : (C : ℕ) (o : Arith) (a b : Kind) → Good C (arith_total o a b)
 unfolding result_of
 total-good C o a b = rw (total_grade o a b) (go (grade a) (grade b))
   where
-    fits : (f : Fit) → Good C (kind_of f)
-    fits (Fits z) = tt
-    fits Leaves = tt
+    fits : (f : Option ℤ) → Good C (kind_of f)
+    fits (Some z) = tt
+    fits None = tt
 
     known : (o : Arith) (m n : ℤ) → Good C (result_of o m n)
     known Add m n = fits (fit_within 63 (m +ℤ n))

@@ -1,19 +1,20 @@
 -- The ways through `mix`, `union`, `by_union` and `combine`, on plain values: each flag is a callee's answer. Assumes nothing.
 use mathlib.Core.Path.{◌≡◌, refl, sym, ap, ap₂, ◌∙◌}
-use mathlib.Core.Bool.{Bool as 𝔹, true, false, ◌&&◌, ◌||◌, or-true, or-false}
+use mathlib.Core.Bool.{Bool as 𝔹, true, false, cond, ◌&&◌, ◌||◌, or-true, or-false}
 use Prim.Native.Nat.{ℕ}
 use lib.IntN.{ℤ}
 use lib.Bits.{bit_or}
+use Rattle.std.specs.Prelude.{Option, Some, None, Ok, Err}
+use Rattle.refusals.specs.declared.Refusal.{Refusal}
+use Rattle.refusals.specs.declared.Refusal.TheVariants.{Subtraction, KindsClash}
 use Rattle.ids.proofs.Bits.{Either, yes, no, either}
 use Rattle.kinds.specs.declared.Kind.{Kind}
 use Rattle.kinds.specs.declared.Kind.TheVariants.{Empty, Nil, Num, Truth, Fun, Class, Int, Bool, Objects, Any}
-use Rattle.kinds.specs.declared.Joined.{Joined}
-use Rattle.kinds.specs.declared.Joined.TheVariants.{Of, Refused}
-use Rattle.kinds.specs.declared.Known.TheVariants.{Number, Other}
 use Rattle.kinds.specs.declared.Arith.{Arith}
+use Rattle.kinds.specs.declared.Arith.TheVariants.{Add, Sub, Mul, Less}
 use Rattle.kinds.specs.Kinds.{same_kind, is_any, is_empty, is_name, is_number, is_truth}
-use Rattle.kinds.specs.Union.{set_of, is_alone, mix_of, lub, union_of}
-use Rattle.kinds.specs.Rules.{known_in, result_of, wide_of, by_union, by_unions, is_sub, arith_of}
+use Rattle.kinds.specs.Union.{Joined, set_of, is_alone, mix_of, lub, union_of}
+use Rattle.kinds.specs.Rules.{known_in, result_of, wide_of, by_union, by_unions, both, is_sub, arith_of}
 use Rattle.kinds.proofs.Same.{same_eq}
 
 -- a flag's value, handed on to what it answers
@@ -103,59 +104,89 @@ module _ (a b : Kind) where
       go (no e) (yes f) = rw (e, f) (any-is a (rw (empty_is b f, or-false (is_any a)) at p))
       go (no e) (no f) = rw (e, f) (mix_any p)
 
-  pub union-any : (is_any a || is_any b) ≡ true → Of Any ≡ union_of a b
+  pub union-any : (is_any a || is_any b) ≡ true → Ok Any ≡ union_of a b
   unfolding union_of
-  union-any p = rw p (ap Of (sym (lub-any p)))
+  union-any p = rw p (ap Ok (sym (lub-any p)))
 
   module _ (p : (is_any a || is_any b) ≡ false) where
-    pub union_left : is_empty a ≡ true → Of b ≡ union_of a b
+    pub union_left : is_empty a ≡ true → Ok b ≡ union_of a b
     unfolding union_of lub
     union_left q = rw (p, q)
 
-    pub union_right : is_empty a ≡ false → is_empty b ≡ true → Of a ≡ union_of a b
+    pub union_right : is_empty a ≡ false → is_empty b ≡ true → Ok a ≡ union_of a b
     unfolding union_of lub
     union_right q r = rw (p, q, r)
 
-    pub union-name : is_empty a ≡ false → is_empty b ≡ false → (is_name a || is_name b) ≡ true → Refused 19 ≡ union_of a b
+    pub union-name : is_empty a ≡ false → is_empty b ≡ false → (is_name a || is_name b) ≡ true → Err KindsClash ≡ union_of a b
     unfolding union_of
     union-name q r n = rw (p, q, r, n)
 
-    pub union_mix : is_empty a ≡ false → is_empty b ≡ false → (is_name a || is_name b) ≡ false → {k : Kind} → k ≡ mix_of a b → Of k ≡ union_of a b
+    pub union_mix : is_empty a ≡ false → is_empty b ≡ false → (is_name a || is_name b) ≡ false → {k : Kind} → k ≡ mix_of a b → Ok k ≡ union_of a b
     unfolding union_of lub
-    union_mix q r n e = rw (p, q, r, n) (ap Of e)
+    union_mix q r n e = rw (p, q, r, n) (ap Ok e)
 
 -- ---- the rules
 
-pub by_int : (o : Arith) (j : Joined) (u : Kind) {w : Kind} → j ≡ Of u → same_kind u Int ≡ true → w ≡ wide_of o → Of w ≡ by_unions o j
+pub by_int : (o : Arith) (j : Joined) (u : Kind) {w : Kind} → j ≡ Ok u → same_kind u Int ≡ true → w ≡ wide_of o → Ok w ≡ by_unions o j
 unfolding by_union
-by_int o j u e s h = rw e (rw s (ap Of h))
+by_int o j u e s h = rw e (rw s (ap Ok h))
 
-pub by_other : (o : Arith) (j : Joined) (u : Kind) → j ≡ Of u → same_kind u Int ≡ false → Of Any ≡ by_unions o j
+pub by_other : (o : Arith) (j : Joined) (u : Kind) → j ≡ Ok u → same_kind u Int ≡ false → Ok Any ≡ by_unions o j
 unfolding by_union
 by_other o j u e s = rw e (rw s)
 
-pub by_refusal : (o : Arith) (j : Joined) (n : ℕ) → j ≡ Refused n → Refused n ≡ by_unions o j
-by_refusal o j n e = rw e
+pub by_refusal : (o : Arith) (j : Joined) (r : Refusal) → j ≡ Err r → Err r ≡ by_unions o j
+by_refusal o j r e = rw e
+
+-- whether an operation is a subtraction
+sub_is : (o : Arith) → o ≡ Sub → is_sub o ≡ true
+sub_is o e = rw e
+
+sub_not : (o : Arith) → (o ≡ Sub → ⊥) → is_sub o ≡ false
+sub_not Add h = refl
+sub_not Sub h = absurd (h refl)
+sub_not Mul h = refl
+sub_not Less h = refl
+
+known_num : (k : Kind) (n : ℤ) → known_in k ≡ Some n → k ≡ Num n
+known_num Empty n h = cc
+known_num Nil n h = cc
+known_num (Num m) n h = cc
+known_num (Truth t) n h = cc
+known_num (Fun f) n h = cc
+known_num (Class c) n h = cc
+known_num Int n h = cc
+known_num Bool n h = cc
+known_num (Objects s) n h = cc
+known_num Any n h = cc
 
 module _ (o : Arith) (a b : Kind) where
-  pub sub_arith : is_sub o ≡ true → Refused 18 ≡ arith_of o a b
+  pub sub_arith : o ≡ Sub → Err Subtraction ≡ arith_of o a b
   unfolding arith_of
-  sub_arith s = rw s
+  sub_arith e = let s = sub_is o e in rw s
 
-  module _ (s : is_sub o ≡ false) where
-    pub empty_arith : (is_empty a || is_empty b) ≡ true → Of Empty ≡ arith_of o a b
+  module _ (d : o ≡ Sub → ⊥) where
+    s : is_sub o ≡ false
+    s = sub_not o d
+
+    pub empty_arith : (is_empty a || is_empty b) ≡ true → Ok Empty ≡ arith_of o a b
     unfolding arith_of
     empty_arith h = rw (s, h)
 
     module _ (h : (is_empty a || is_empty b) ≡ false) where
-      pub number-arith : (m n : ℤ) {k : Kind} → known_in a ≡ Number m → known_in b ≡ Number n → k ≡ result_of o m n → Of k ≡ arith_of o a b
+      pub number_arith : (m n : ℤ) {k : Kind} → a ≡ Num m → b ≡ Num n → k ≡ result_of o m n → Ok k ≡ arith_of o a b
       unfolding arith_of
-      number-arith m n p q e = rw (s, h, p, q) (ap Of e)
+      number_arith m n p q e =
+          let x : known_in a ≡ Some m = ap known_in p in
+          let y : known_in b ≡ Some n = ap known_in q in
+          rw (s, h, x, y) (ap Ok e)
 
-      pub left-arith : (m : ℤ) {j : Joined} → known_in a ≡ Number m → known_in b ≡ Other → j ≡ by_unions o (union_of a b) → j ≡ arith_of o a b
+      -- not both are known
+      pub wide_arith : {j : Joined} → ((m n : ℤ) → a ≡ Num m → b ≡ Num n → ⊥) → j ≡ by_unions o (union_of a b) → j ≡ arith_of o a b
       unfolding arith_of
-      left-arith m p q e = rw (s, h, p, q) e
-
-      pub right-arith : {j : Joined} → known_in a ≡ Other → j ≡ by_unions o (union_of a b) → j ≡ arith_of o a b
-      unfolding arith_of
-      right-arith p e = rw (s, h, p) e
+      wide_arith {j} u e = go (known_in a) (known_in b) refl refl
+        where
+          go : (x y : Option ℤ) → known_in a ≡ x → known_in b ≡ y → j ≡ cond (is_sub o) (Err Subtraction) (cond (is_empty a || is_empty b) (Ok Empty) (both (λ m n. Ok (result_of o m n)) (by_unions o (union_of a b)) x y))
+          go (Some m) (Some n) p q = absurd (u m n (known_num a m p) (known_num b n q))
+          go (Some m) None p q = rw (s, h) e
+          go None y p q = rw (s, h) e

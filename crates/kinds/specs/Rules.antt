@@ -1,38 +1,33 @@
 -- Add, Mul and LessThan on kinds, and the arms of a choice, from document 01, "The analysis". Assumes nothing.
-use Rattle.std.specs.Prelude.{Bool as 𝔹, true, false, cond, ◌||◌, ℤ, ◌+ℤ◌, ◌-ℤ◌, ◌*ℤ◌}
+use Rattle.std.specs.Prelude.{Bool as 𝔹, true, false, cond, ◌||◌, ℤ, ◌+ℤ◌, ◌-ℤ◌, ◌*ℤ◌, Option, Some, None, Ok, Err}
 use Rattle.std.specs.Bool.{beq}
 use Rattle.std.specs.Int.Signed.{lt_z}
 use Rattle.numbers.specs.Numbers.{fit_within}
-use Rattle.numbers.specs.declared.Fit.{Fit}
-use Rattle.numbers.specs.declared.Fit.TheVariants.{Fits, Leaves}
+use Rattle.refusals.specs.declared.Refusal.TheVariants.{Subtraction}
 use Rattle.kinds.specs.declared.Kind.{Kind}
 use Rattle.kinds.specs.declared.Kind.TheVariants.{Empty, Nil, Num, Truth, Fun, Class, Int, Bool, Objects, Any}
-use Rattle.kinds.specs.declared.Joined.{Joined}
-use Rattle.kinds.specs.declared.Joined.TheVariants.{Of, Refused}
-use Rattle.kinds.specs.declared.Known.{Known}
-use Rattle.kinds.specs.declared.Known.TheVariants.{Number, Other}
 use Rattle.kinds.specs.declared.Arith.{Arith}
 use Rattle.kinds.specs.declared.Arith.TheVariants.{Add, Sub, Mul, Less}
 use Rattle.kinds.specs.Kinds.{is_empty, same_kind}
-use Rattle.kinds.specs.Union.{union_of, lub}
+use Rattle.kinds.specs.Union.{Joined, union_of, lub}
 
 -- the number that a kind knows
-abbrev pub known_in : Kind → Known
-known_in Empty = Other
-known_in Nil = Other
-known_in (Num n) = Number n
-known_in (Truth t) = Other
-known_in (Fun f) = Other
-known_in (Class c) = Other
-known_in Int = Other
-known_in Bool = Other
-known_in (Objects s) = Other
-known_in Any = Other
+abbrev pub known_in : Kind → Option ℤ
+known_in Empty = None
+known_in Nil = None
+known_in (Num n) = Some n
+known_in (Truth t) = None
+known_in (Fun f) = None
+known_in (Class c) = None
+known_in Int = None
+known_in Bool = None
+known_in (Objects s) = None
+known_in Any = None
 
 -- a result as a kind: Int where it leaves i64
-abbrev pub kind_of : Fit → Kind
-kind_of (Fits z) = Num z
-kind_of Leaves = Int
+abbrev pub kind_of : Option ℤ → Kind
+kind_of (Some z) = Num z
+kind_of None = Int
 
 -- of two known numbers, as integers
 unfoldable pub result_of : Arith → ℤ → ℤ → Kind
@@ -54,28 +49,28 @@ by_union o u = cond (same_kind u Int) (wide_of o) Any
 
 -- the same with the union's refusal
 abbrev pub by_unions : Arith → Joined → Joined
-by_unions o (Of u) = Of (by_union o u)
-by_unions o (Refused n) = Refused n
+by_unions o (Ok u) = Ok (by_union o u)
+by_unions o (Err e) = Err e
 
 -- by two known numbers, or else a given answer
-abbrev pub both : {A : Type 0} → (ℤ → ℤ → A) → A → Known → Known → A
-both f d (Number m) (Number n) = f m n
-both f d (Number m) Other = d
-both f d Other y = d
+abbrev pub both : {A : Type 0} → (ℤ → ℤ → A) → A → Option ℤ → Option ℤ → A
+both f d (Some m) (Some n) = f m n
+both f d (Some m) None = d
+both f d None y = d
 
--- 18 is asked of an operation before its operands are looked at
+-- a subtraction is refused before its operands are looked at
 abbrev pub is_sub : Arith → 𝔹
 is_sub Add = false
 is_sub Sub = true
 is_sub Mul = false
 is_sub Less = false
 
--- the rule of an operation, with refusals 18 and 19: an operand that is Empty gives Empty, then two known numbers count, then the union
+-- the rule of an operation, with its refusals: an operand that is Empty gives Empty, then two known numbers count, then the union
 unfoldable pub arith_of : Arith → Kind → Kind → Joined
 arith_of o a b =
-    cond (is_sub o) (Refused 18)
-    (cond (is_empty a || is_empty b) (Of Empty)
-    (both (λ m n. Of (result_of o m n)) (by_unions o (union_of a b)) (known_in a) (known_in b)))
+    cond (is_sub o) (Err Subtraction)
+    (cond (is_empty a || is_empty b) (Ok Empty)
+    (both (λ m n. Ok (result_of o m n)) (by_unions o (union_of a b)) (known_in a) (known_in b)))
 
 -- the rule without refusals: names count as kinds below Any alone
 unfoldable pub arith_total : Arith → Kind → Kind → Kind

@@ -2,16 +2,15 @@
 #![tactic(auto)]
 
 ghost use Rattle.std.specs.Prelude.{◌≡◌, true, false, ◌||◌, ◌<◌};
-ghost use Rattle.numbers.specs.Numbers.{fit_within};
 ghost use Rattle.ids.specs.Sets.{one_of, two_of};
-ghost use Rattle.kinds.specs.Kinds.{tag_of, payload_of, fits_of, kind_from, same_kind, is_empty, is_number, is_truth, is_name, is_any};
+ghost use Rattle.kinds.specs.Kinds.{tag_of, payload_of, fits_of, kind_from, is_empty, is_number, is_truth, is_name, is_any};
 ghost use Rattle.kinds.specs.Union.{set_of, is_alone, mix_of, union_of, join_of};
-ghost use Rattle.kinds.specs.Rules.{known_in, kind_of, result_of, wide_of, by_unions, is_sub, arith_of, admits};
+ghost use Rattle.kinds.specs.Rules.{kind_of, result_of, wide_of, by_unions, arith_of, admits};
 
 use ids::{ClassId, FunId};
-use numbers::Fit;
+use refusals::Refusal;
 
-#[derive(Clone, Copy)]
+#[derive(Clone, Copy, PartialEq, Eq)]
 pub enum Kind {
     Empty,
     Nil,
@@ -25,27 +24,13 @@ pub enum Kind {
     Any,
 }
 
-// A kind, or the number of a refusal.
-#[derive(Clone, Copy)]
-pub enum Joined {
-    Of(Kind),
-    Refused(usize),
-}
-
 // The operations on numbers.
-#[derive(Clone, Copy)]
+#[derive(Clone, Copy, PartialEq, Eq)]
 pub enum Arith {
     Add,
     Sub,
     Mul,
     Less,
-}
-
-// The number that a kind knows.
-#[derive(Clone, Copy)]
-pub enum Known {
-    Number(i64),
-    Other,
 }
 
 impl Kind {
@@ -66,6 +51,7 @@ impl Kind {
     }
 
     // The kind byte, as a word.
+    // Stays: memory and frames publish these numbers, so no order of the variants may move them.
     pub fn tag(self) -> usize
         ensures { result ≡ tag_of self }
     {
@@ -83,55 +69,48 @@ impl Kind {
         }
     }
 
-    // The payload, as a word.
+    // The payload, as a word: 0 where the kind has none.
     pub fn payload(self) -> usize
         ensures { (result ≡ payload_of self) × (fits_of self ≡ true) }
     {
         match self {
-            Kind::Empty => 0,
-            Kind::Nil => 0,
             Kind::Num(n) => numbers::bits_of(n) as usize,
             Kind::Truth(t) => t as usize,
-            Kind::Fun(f) => f.0 as usize,
-            Kind::Class(c) => c.0 as usize,
-            Kind::Int => 0,
-            Kind::Bool => 0,
+            Kind::Fun(f) => f.index(),
+            Kind::Class(c) => c.index(),
             Kind::Objects(s) => s as usize,
-            Kind::Any => 0,
+            _ => 0,
         }
     }
 
     pub fn is_empty(self) -> bool
         ensures { result ≡ is_empty self }
     {
-        self.tag() == 0
+        matches!(self, Kind::Empty)
     }
 
     pub fn is_any(self) -> bool
         ensures { result ≡ is_any self }
     {
-        self.tag() == 9
+        matches!(self, Kind::Any)
     }
 
     pub fn is_name(self) -> bool
         ensures { result ≡ is_name self }
     {
-        let t = self.tag();
-        (t == 4) | (t == 5)
+        matches!(self, Kind::Fun(_) | Kind::Class(_))
     }
 
     fn is_number(self) -> bool
         ensures { result ≡ is_number self }
     {
-        let t = self.tag();
-        (t == 2) | (t == 6)
+        matches!(self, Kind::Num(_) | Kind::Int)
     }
 
     fn is_truth(self) -> bool
         ensures { result ≡ is_truth self }
     {
-        let t = self.tag();
-        (t == 3) | (t == 7)
+        matches!(self, Kind::Truth(_) | Kind::Bool)
     }
 
     // The set of the kind's classes.
@@ -139,31 +118,13 @@ impl Kind {
         ensures { result ≡ set_of self }
     {
         match self {
-            Kind::Empty => 0,
             Kind::Nil => ids::one(ClassId::NIL),
-            Kind::Num(_) => ids::one(ClassId::INT),
-            Kind::Truth(t) => if t {
-                ids::one(ClassId::TRUE)
-            } else {
-                ids::one(ClassId::FALSE)
-            },
-            Kind::Fun(_) => 0,
-            Kind::Class(_) => 0,
-            Kind::Int => ids::one(ClassId::INT),
+            Kind::Num(_) | Kind::Int => ids::one(ClassId::INT),
+            Kind::Truth(true) => ids::one(ClassId::TRUE),
+            Kind::Truth(false) => ids::one(ClassId::FALSE),
             Kind::Bool => ids::two(ClassId::TRUE, ClassId::FALSE),
             Kind::Objects(s) => s,
-            Kind::Any => 0,
-        }
-    }
-
-    // The two are one kind.
-    pub fn same(self, other: Kind) -> bool
-        ensures { result ≡ same_kind self other }
-    {
-        if self.tag() == other.tag() {
-            self.payload() == other.payload()
-        } else {
-            false
+            Kind::Empty | Kind::Fun(_) | Kind::Class(_) | Kind::Any => 0,
         }
     }
 
@@ -173,20 +134,14 @@ impl Kind {
     {
         match self {
             Kind::Empty => false,
-            Kind::Nil => true,
-            Kind::Num(_) => true,
             Kind::Truth(t) => t == arm,
-            Kind::Fun(_) => true,
-            Kind::Class(_) => true,
-            Kind::Int => true,
-            Kind::Bool => true,
-            Kind::Objects(_) => true,
-            Kind::Any => true,
+            _ => true,
         }
     }
 }
 
 // The kind of a byte and a payload, each a word.
+#[tactic(auto, unfolding(crate::specs::Kinds::kind_from))]
 pub fn kind_from(tag: usize, bits: usize) -> Kind
     ensures { result ≡ kind_from tag bits }
 {
@@ -205,11 +160,12 @@ pub fn kind_from(tag: usize, bits: usize) -> Kind
 }
 
 // The union of two kinds that are neither Empty, Any nor names.
+#[tactic(auto, using(crate::proofs::Steps::told_and, crate::proofs::Steps::mix_same, crate::proofs::Steps::mix_number, crate::proofs::Steps::mix_truth, crate::proofs::Steps::mix_set, crate::proofs::Same::eq_same, crate::proofs::Same::ne_same))]
 fn mix(a: Kind, b: Kind) -> Kind
     requires { (is_alone a || is_alone b) ≡ false }
     ensures { result ≡ mix_of a b }
 {
-    if a.same(b) {
+    if a == b {
         return a;
     }
     if a.is_number() & b.is_number() {
@@ -222,75 +178,53 @@ fn mix(a: Kind, b: Kind) -> Kind
 }
 
 // The union of any two kinds.
-fn union_of(a: Kind, b: Kind) -> Joined
+fn union_of(a: Kind, b: Kind) -> Result<Kind, Refusal>
     ensures { result ≡ union_of a b }
 {
     if a.is_any() | b.is_any() {
-        return Joined::Of(Kind::Any);
+        return Ok(Kind::Any);
     }
     if a.is_empty() {
-        return Joined::Of(b);
+        return Ok(b);
     }
     if b.is_empty() {
-        return Joined::Of(a);
+        return Ok(a);
     }
     if a.is_name() | b.is_name() {
-        return Joined::Refused(19);
+        return Err(Refusal::KindsClash);
     }
-    Joined::Of(mix(a, b))
+    Ok(mix(a, b))
 }
 
 // The same; two sets are joined at once.
-pub fn union(a: Kind, b: Kind) -> Joined
+pub fn union(a: Kind, b: Kind) -> Result<Kind, Refusal>
     ensures { result ≡ union_of a b }
 {
-    if let Kind::Objects(s) = a {
-        if let Kind::Objects(t) = b {
-            return Joined::Of(Kind::Objects(s | t));
-        }
-        return union_of(a, b);
+    match (a, b) {
+        (Kind::Objects(s), Kind::Objects(t)) => Ok(Kind::Objects(s | t)),
+        _ => union_of(a, b),
     }
-    union_of(a, b)
 }
 
 // A step of the union of many.
-pub fn join(j: Joined, k: Kind) -> Joined
+pub fn join(j: Result<Kind, Refusal>, k: Kind) -> Result<Kind, Refusal>
     ensures { result ≡ join_of j k }
 {
-    match j {
-        Joined::Of(a) => union(a, k),
-        Joined::Refused(n) => Joined::Refused(n),
-    }
-}
-
-fn known_in(k: Kind) -> Known
-    ensures { result ≡ known_in k }
-{
-    match k {
-        Kind::Empty => Known::Other,
-        Kind::Nil => Known::Other,
-        Kind::Num(n) => Known::Number(n),
-        Kind::Truth(_) => Known::Other,
-        Kind::Fun(_) => Known::Other,
-        Kind::Class(_) => Known::Other,
-        Kind::Int => Known::Other,
-        Kind::Bool => Known::Other,
-        Kind::Objects(_) => Known::Other,
-        Kind::Any => Known::Other,
-    }
+    union(j?, k)
 }
 
 // A result as a kind: Int where it leaves i64.
-fn kind_of(f: Fit) -> Kind
+fn kind_of(f: Option<i64>) -> Kind
     ensures { result ≡ kind_of f }
 {
     match f {
-        Fit::Fits(z) => Kind::Num(z),
-        Fit::Leaves => Kind::Int,
+        Some(z) => Kind::Num(z),
+        None => Kind::Int,
     }
 }
 
 // Of two known numbers.
+#[tactic(auto, unfolding(crate::specs::Rules::result_of))]
 fn result_of(o: Arith, m: i64, n: i64) -> Kind
     ensures { result ≡ result_of o m n }
 {
@@ -307,54 +241,33 @@ fn wide_of(o: Arith) -> Kind
     ensures { result ≡ wide_of o }
 {
     match o {
-        Arith::Add => Kind::Int,
-        Arith::Sub => Kind::Int,
-        Arith::Mul => Kind::Int,
+        Arith::Add | Arith::Sub | Arith::Mul => Kind::Int,
         Arith::Less => Kind::Bool,
     }
 }
 
-fn by_union(o: Arith, a: Kind, b: Kind) -> Joined
+#[tactic(auto, using(crate::proofs::Steps::by_int, crate::proofs::Steps::by_other, crate::proofs::Steps::by_refusal, crate::proofs::Same::eq_same, crate::proofs::Same::ne_same))]
+fn by_union(o: Arith, a: Kind, b: Kind) -> Result<Kind, Refusal>
     ensures { result ≡ by_unions o (union_of a b) }
 {
-    match union(a, b) {
-        Joined::Of(u) => {
-            if u.same(Kind::Int) {
-                Joined::Of(wide_of(o))
-            } else {
-                Joined::Of(Kind::Any)
-            }
-        }
-        Joined::Refused(n) => Joined::Refused(n),
+    if union(a, b)? == Kind::Int {
+        return Ok(wide_of(o));
     }
-}
-
-fn is_sub(o: Arith) -> bool
-    ensures { result ≡ is_sub o }
-{
-    match o {
-        Arith::Add => false,
-        Arith::Sub => true,
-        Arith::Mul => false,
-        Arith::Less => false,
-    }
+    Ok(Kind::Any)
 }
 
 // Add, Mul and LessThan on kinds; Sub is refused.
-pub fn combine(o: Arith, a: Kind, b: Kind) -> Joined
+pub fn combine(o: Arith, a: Kind, b: Kind) -> Result<Kind, Refusal>
     ensures { result ≡ arith_of o a b }
 {
-    if is_sub(o) {
-        return Joined::Refused(18);
+    if o == Arith::Sub {
+        return Err(Refusal::Subtraction);
     }
     if a.is_empty() | b.is_empty() {
-        return Joined::Of(Kind::Empty);
+        return Ok(Kind::Empty);
     }
-    match known_in(a) {
-        Known::Number(m) => match known_in(b) {
-            Known::Number(n) => Joined::Of(result_of(o, m, n)),
-            Known::Other => by_union(o, a, b),
-        },
-        Known::Other => by_union(o, a, b),
+    match (a, b) {
+        (Kind::Num(m), Kind::Num(n)) => Ok(result_of(o, m, n)),
+        _ => by_union(o, a, b),
     }
 }

@@ -1,6 +1,6 @@
 -- The word reader: what each way through it shows, on plain values. Assumes nothing.
-use mathlib.Core.Bool.{Bool, true, false, cond}
-use mathlib.Core.Path.{◌≡◌, refl, sym, ◌∙◌}
+use mathlib.Core.Bool.{Bool, true, false, not, cond}
+use mathlib.Core.Path.{◌≡◌, refl, sym, ap, ◌∙◌}
 use mathlib.Core.List.{List, [], ◌∷◌}
 use Prim.Native.Nat.{ℕ, suc, ◌+◌, ◌-◌, ◌≤◌, ◌<◌, ◌^◌}
 use native.Mathlib.Omega.{arith}
@@ -8,20 +8,20 @@ use lib.Dec.{ltb}
 use lib.ListN.{length, get_or, take, drop, length-drop, drop_of_length-le}
 use lib.Seq.{drop-cons}
 use borrow.Author.Tests.{lt-ltb, le-ltb, ltb-true, ltb-false}
+use Rattle.std.specs.Prelude.{Option, Some, None, is_some, Result, Ok, Err}
+use Rattle.refusals.specs.declared.Refusal.{Refusal}
+use Rattle.refusals.specs.declared.Refusal.TheVariants as R
 use Rattle.rules.specs.Actions.{answered, refused}
 use Rattle.rules.specs.Words.{blank, letter, in_word, digit, sign, run, decimal, word, word_of, word_at, starts_by}
 use Rattle.rules.specs.Words as W
 use Rattle.lexer.specs.Names.{name}
-use Rattle.lexer.specs.Lexed.{kind_in, kept_words, fitting, Lexes, glimpse_of, Glances}
+use Rattle.lexer.specs.Lexed.{kept_token, fitting, Lexes, glimpse_of, sign_in, Glances}
+use Rattle.lexer.specs.declared.Token.{Token}
+use Rattle.lexer.specs.declared.Token.TheVariants as T
 use Rattle.lexer.specs.declared.Word.{Word}
-use Rattle.lexer.specs.declared.Lexed.{Lexed}
-use Rattle.lexer.specs.declared.Lexed.TheVariants.{Found, Refused}
-use Rattle.lexer.specs.declared.Glimpse.{Glimpse}
-use Rattle.lexer.specs.declared.Number.{Number}
-use Rattle.lexer.specs.declared.Number.TheVariants.{Of, Over}
 use Rattle.lexer.proofs.Names.{by_test, name-none}
 use Rattle.lexer.proofs.Runs.{run-yes}
-use Rattle.lexer.proofs.Texts.{starts-letter, starts-take, kind-letter, kind-digit, kind-sign, kind-end, kind-low, sign_high, value-other, value-digit}
+use Rattle.lexer.proofs.Texts.{starts-take, token-letter, token-digit, token-sign, token-end, kept_unsigned, kept_small}
 
 run_le : (f : ℕ → Bool) (l : List ℕ) → run f l ≤ length l
 run_le f [] = omega arith
@@ -52,22 +52,16 @@ of_sign (b ∷ l) at e f g = rw (e, f, g)
 of_none : (b : ℕ) (l : List ℕ) (at : ℕ) → letter b ≡ false → digit b ≡ false → sign b ≡ false → word_of (b ∷ l) at ≡ refused 3
 of_none b l at e f g = rw (e, f, g)
 
--- a number that i64 holds
-fits : (x v : ℕ) → Of v ≡ fitting x → (v ≡ x) × (x < 2 ^ 63)
-unfolding fitting
-fits x v p = go (ltb x (2 ^ 63)) refl p
-  where
-    go : (t : Bool) → ltb x (2 ^ 63) ≡ t → Of v ≡ cond t (Of x) Over → (v ≡ x) × (x < 2 ^ 63)
-    go true h e = (cc, ltb-true x (2 ^ 63) h)
-    go false h e = let z : ◌≡◌ {A = ℕ} 0 1 = cc in absurd (omega arith)
+-- a number that i64 holds, and one that it doesn't
+module _ (x : ℕ) where
+  fits : {v : ℕ} → Some v ≡ fitting x → (v ≡ x) × (x < 2 ^ 63)
+  unfolding fitting
+  fits {v} p =
+      by_test (λ t. Some v ≡ cond t (Some x) None → (v ≡ x) × (x < 2 ^ 63)) (ltb x (2 ^ 63)) (λ h e. (cc, ltb-true x (2 ^ 63) h)) (λ h e. cc) p
 
-over : (x : ℕ) → Over ≡ fitting x → 2 ^ 63 ≤ x
-unfolding fitting
-over x p = go (ltb x (2 ^ 63)) refl p
-  where
-    go : (t : Bool) → ltb x (2 ^ 63) ≡ t → Over ≡ cond t (Of x) Over → 2 ^ 63 ≤ x
-    go true h e = let z : ◌≡◌ {A = ℕ} 0 1 = cc in absurd (omega arith)
-    go false h e = ltb-false x (2 ^ 63) h
+  over : None ≡ fitting x → 2 ^ 63 ≤ x
+  unfolding fitting
+  over p = by_test (λ t. ◌≡◌ {A = Option ℕ} None (cond t (Some x) None) → 2 ^ 63 ≤ x) (ltb x (2 ^ 63)) (λ h e. cc) (λ h e. ltb-false x (2 ^ 63) h) p
 
 -- ---- a word that starts at `start`, behind the blanks from `at` on
 
@@ -79,15 +73,14 @@ module _ (s : List ℕ) (at start : ℕ) (e : start ≡ at + run blank (drop at 
   start_in_lem : at ≤ length s → start ≤ length s
   start_in_lem h = omega (arith, e, run_le blank (drop at s), length-drop at s)
 
-  pub word_end : length s ≤ start → Lexes s at (Found (record { kind = 0; value = 0; start = start; len = 0; next = start }))
+  pub word_end : length s ≤ start → Lexes s at (Ok (record { token = T.EndOfText; start = start; len = 0; next = start }))
   word_end h =
       record {
         is = rw (at-start, drop_of_length-le s {i = start} h, name-none s start);
         word =
             record {
-              kind = rw (name-none s start) kind-end;
-              value = rw (name-none s start) (value-other [] refl);
-              small = omega arith;
+              token = rw (name-none s start) token-end;
+              small = λ n p. cc;
               behind = omega (arith, e);
               next = omega arith;
               inside = start_in_lem;
@@ -95,15 +88,15 @@ module _ (s : List ℕ) (at start : ℕ) (e : start ≡ at + run blank (drop at 
             };
       }
 
-  pub glance_end : length s ≤ start → Glances s at Glimpse.Other
+  pub glance_end : length s ≤ start → Glances s at (Ok None)
   glance_end h = record { word = _; lexes = word_end h; is = refl }
 
-  module _ (inside : start < length s) where
-    begins : (f : ℕ → Bool) → starts_by f (drop start s) ≡ f (get_or s start 0)
-    begins f = rw (drop-cons s start 0 inside)
+  module _ (inside : start < length s) {b : ℕ} (at_b : b ≡ get_or s start 0) where
+    begins : drop start s ≡ b ∷ drop (suc start) s
+    begins = rw (at_b, drop-cons s start 0 inside)
 
-    begins_by : (f : ℕ → Bool) {r t : Bool} → r ≡ f (get_or s start 0) → r ≡ t → starts_by f (drop start s) ≡ t
-    begins_by f p q = begins f ∙ sym p ∙ q
+    begins_by : (f : ℕ → Bool) {t : Bool} → f b ≡ t → starts_by f (drop start s) ≡ t
+    begins_by f p = rw begins p
 
     part-begins : (f : ℕ → Bool) (n : ℕ) → 0 < n → starts_by f (name s start n) ≡ starts_by f (drop start s)
     unfolding name
@@ -114,22 +107,22 @@ module _ (s : List ℕ) (at start : ℕ) (e : start ≡ at + run blank (drop at 
     unfolding name
     text-is n next p = let q : next - start ≡ n = omega arith in rw q
 
-    pub word-letter : {r : Bool} {next k : ℕ} → r ≡ letter (get_or s start 0) → r ≡ true → next ≡ start + run in_word (drop start s)
-        → k ≡ kind_in kept_words (name s start (next - start)) 1
-        → Lexes s at (Found (record { kind = k; value = 0; start = start; len = next - start; next = next }))
-    word-letter {next = next} {k = k} p q ends known =
-        let l = begins_by letter p q in
+    pub word-letter : {next : ℕ} {t : List ℕ} {k : Token} → letter b ≡ true → next ≡ start + run in_word (drop start s)
+        → t ≡ name s start (next - start) → k ≡ kept_token t
+        → Lexes s at (Ok (record { token = k; start = start; len = next - start; next = next }))
+    word-letter {next = next} {t = t} {k = k} p ends text known =
+        let l = begins_by letter p in
         let n = run in_word (drop start s) in
         let pos = run-pos in_word (drop start s) (letter_in_word (drop start s) l) in
         let low : 0 < next - start = omega arith in
         let tl : starts_by letter (name s start (next - start)) ≡ true = part-begins letter (next - start) low ∙ l in
+        let known' : k ≡ kept_token (name s start (next - start)) = known ∙ ap kept_token text in
         record {
           is = rw (at-start, of_letter (drop start s) start l, text-is n next ends, ends);
           word =
               record {
-                kind = kind-letter (name s start (next - start)) tl known;
-                value = value-other (name s start (next - start)) (starts-letter (name s start (next - start)) tl);
-                small = omega arith;
+                token = token-letter (name s start (next - start)) tl known';
+                small = kept_small (name s start (next - start)) known';
                 behind = omega (arith, e);
                 next = omega arith;
                 inside = λ h. omega (arith, run_le in_word (drop start s), length-drop start s);
@@ -137,131 +130,136 @@ module _ (s : List ℕ) (at start : ℕ) (e : start ≡ at + run blank (drop at 
               };
         }
 
-    pub word-digit : {r r' : Bool} {next v : ℕ} {q : Number} → r ≡ letter (get_or s start 0) → r ≡ false → r' ≡ digit (get_or s start 0) → r' ≡ true
-        → next ≡ start + run digit (drop start s) → q ≡ fitting (decimal 0 (name s start (next - start))) → q ≡ Of v
-        → Lexes s at (Found (record { kind = 2; value = v; start = start; len = next - start; next = next }))
-    word-digit {next = next} {v = v} p q p' q' ends known of =
-        let l = begins_by letter p q in
-        let d = begins_by digit p' q' in
-        let n = run digit (drop start s) in
-        let pos = run-pos digit (drop start s) d in
-        let low : 0 < next - start = omega arith in
-        let t = name s start (next - start) in
-        let fit = fits (decimal 0 t) v (sym of ∙ known) in
-        let same = text-is n next ends in
-        let small : decimal 0 (take n (drop start s)) < 2 ^ 63 = rw same at fit.1 in
-        record {
-          is = rw (at-start, of_digit (drop start s) start l d, same, ends, lt-ltb (decimal 0 (take n (drop start s))) (2 ^ 63) small);
-          word =
-              record {
-                kind = kind-digit t (part-begins letter (next - start) low ∙ l) (part-begins digit (next - start) low ∙ d);
-                value = value-digit t (part-begins digit (next - start) low ∙ d) fit.0;
-                small = omega arith;
-                behind = omega (arith, e);
-                next = omega arith;
-                inside = λ h. omega (arith, run_le digit (drop start s), length-drop start s);
-                on = λ h. omega (arith, e);
-              };
-        }
+    module _ (p : letter b ≡ false) where
+      module _ (q : digit b ≡ true) {next : ℕ} (ends : next ≡ start + run digit (drop start s)) {t : List ℕ} (text : t ≡ name s start (next - start)) where
+        pub word-digit : {v : ℕ} {o : Option ℕ} → o ≡ fitting (decimal 0 t) → o ≡ Some v
+            → Lexes s at (Ok (record { token = T.Number v; start = start; len = next - start; next = next }))
+        word-digit {v = v} known of =
+            let l = begins_by letter p in
+            let d = begins_by digit q in
+            let n = run digit (drop start s) in
+            let pos = run-pos digit (drop start s) d in
+            let low : 0 < next - start = omega arith in
+            let fit = fits (decimal 0 t) (sym of ∙ known) in
+            let same = text-is n next ends in
+            let small : decimal 0 (take n (drop start s)) < 2 ^ 63 = rw (text, same) at fit.1 in
+            let value : v ≡ decimal 0 (name s start (next - start)) = fit.0 ∙ ap (decimal 0) text in
+            record {
+              is = rw (at-start, of_digit (drop start s) start l d, same, ends, lt-ltb (decimal 0 (take n (drop start s))) (2 ^ 63) small);
+              word =
+                  record {
+                    token =
+                        token-digit (name s start (next - start)) (part-begins letter (next - start) low ∙ l) (part-begins digit (next - start) low ∙ d) value;
+                    small = λ m g. let z : m ≡ v = cc in omega (arith, fit.0, fit.1);
+                    behind = omega (arith, e);
+                    next = omega arith;
+                    inside = λ h. omega (arith, run_le digit (drop start s), length-drop start s);
+                    on = λ h. omega (arith, e);
+                  };
+            }
 
-    pub word_over : {r r' : Bool} {next : ℕ} {q : Number} → r ≡ letter (get_or s start 0) → r ≡ false → r' ≡ digit (get_or s start 0) → r' ≡ true
-        → next ≡ start + run digit (drop start s) → q ≡ fitting (decimal 0 (name s start (next - start))) → q ≡ Over → Lexes s at (Refused 4)
-    word_over {next = next} p q p' q' ends known of =
-        let n = run digit (drop start s) in
-        let same = text-is n next ends in
-        let large = rw same at (over (decimal 0 (name s start (next - start))) (sym of ∙ known)) in
-        record {
-          is =
-              rw (
-                at-start,
-                of_digit (drop start s) start (begins_by letter p q) (begins_by digit p' q'),
-                le-ltb (decimal 0 (take n (drop start s))) (2 ^ 63) large,
-              );
-          word = tt;
-        }
+        pub word_over : {o : Option ℕ} → o ≡ fitting (decimal 0 t) → o ≡ None → Lexes s at (Err R.NumberTooLarge)
+        word_over known of =
+            let n = run digit (drop start s) in
+            let same = text-is n next ends in
+            let large = rw (text, same) at (over (decimal 0 t) (sym of ∙ known)) in
+            record {
+              is =
+                  rw (
+                    at-start,
+                    of_digit (drop start s) start (begins_by letter p) (begins_by digit q),
+                    le-ltb (decimal 0 (take n (drop start s))) (2 ^ 63) large,
+                  );
+              word = tt;
+            }
 
-    pub word-sign : {r r' r'' : Bool} → r ≡ letter (get_or s start 0) → r ≡ false → r' ≡ digit (get_or s start 0) → r' ≡ false
-        → r'' ≡ sign (get_or s start 0) → r'' ≡ true
-        → Lexes s at (Found (record { kind = get_or s start 0; value = 0; start = start; len = 1; next = start + 1 }))
-    unfolding name
-    word-sign p q p' q' p'' q'' =
-        let one = drop-cons s start 0 inside in
-        record {
-          is =
-              rw (at-start, of_sign (drop start s) start (begins_by letter p q) (begins_by digit p' q') (begins_by sign p'' q''));
-          word =
-              record {
-                kind = rw one (kind-sign (get_or s start 0) (sym p'' ∙ q''));
-                value = rw one (value-other (get_or s start 0 ∷ []) (sym p' ∙ q'));
-                small = omega arith;
-                behind = omega (arith, e);
-                next = refl;
-                inside = λ h. omega arith;
-                on = λ h. omega (arith, e);
-              };
-        }
+        pub glance_digit : {o : Option ℕ} {r : Bool} → o ≡ fitting (decimal 0 t) → is_some o ≡ not r → r ≡ false → Glances s at (Ok None)
+        glance_digit {o = o} known f g = go o refl (f ∙ ap not g)
+          where
+            go : (x : Option ℕ) → o ≡ x → is_some x ≡ true → Glances s at (Ok None)
+            go (Some v) of h = record { word = _; lexes = word-digit known of; is = refl }
+            go None of h = cc
 
-    pub word_none : {r r' r'' : Bool} → r ≡ letter (get_or s start 0) → r ≡ false → r' ≡ digit (get_or s start 0) → r' ≡ false
-        → r'' ≡ sign (get_or s start 0) → r'' ≡ false → Lexes s at (Refused 3)
-    word_none p q p' q' p'' q'' =
-        record {
-          is =
-              rw (
-                at-start,
-                drop-cons s start 0 inside,
-                of_none (get_or s start 0) (drop (suc start) s) start (sym p ∙ q) (sym p' ∙ q') (sym p'' ∙ q''),
-              );
-          word = tt;
-        }
+        pub glance_over : {o : Option ℕ} {r : Bool} → o ≡ fitting (decimal 0 t) → is_some o ≡ not r → r ≡ true → Glances s at (Err R.NumberTooLarge)
+        glance_over {o = o} known f g = go o refl (f ∙ ap not g)
+          where
+            go : (x : Option ℕ) → o ≡ x → is_some x ≡ false → Glances s at (Err R.NumberTooLarge)
+            go (Some v) of h = cc
+            go None of h = record { word = _; lexes = word_over known of; is = refl }
+
+      module _ (q : digit b ≡ false) where
+        pub word-sign : sign b ≡ true → Lexes s at (Ok (record { token = T.Sign b; start = start; len = 1; next = start + 1 }))
+        unfolding name
+        word-sign r =
+            record {
+              is = rw (at-start, of_sign (drop start s) start (begins_by letter p) (begins_by digit q) (begins_by sign r));
+              word =
+                  record {
+                    token = rw begins (token-sign b r);
+                    small = λ n h. cc;
+                    behind = omega (arith, e);
+                    next = refl;
+                    inside = λ h. omega arith;
+                    on = λ h. omega (arith, e);
+                  };
+            }
+
+        pub word_none : sign b ≡ false → Lexes s at (Err R.UnknownByte)
+        word_none r = record { is = rw (at-start, begins, of_none b (drop (suc start) s) start p q r); word = tt }
+
+        pub glance_sign : sign b ≡ true → Glances s at (Ok (Some (b, start + 1)))
+        glance_sign r = record { word = _; lexes = word-sign r; is = refl }
+
+        pub glance_none : sign b ≡ false → Glances s at (Err R.UnknownByte)
+        glance_none r = record { word = _; lexes = word_none r; is = refl }
 
     -- the same of a glance
-    pub glance_letter : {r : Bool} → r ≡ letter (get_or s start 0) → r ≡ true → Glances s at Glimpse.Other
-    glance_letter p q =
-        record { word = _; lexes = word-letter p q refl refl; is = rw (kind-low (name s start (start + run in_word (drop start s) - start))) }
-
-    pub glance_digit : {r r' : Bool} {next v : ℕ} {q : Number} → r ≡ letter (get_or s start 0) → r ≡ false → r' ≡ digit (get_or s start 0) → r' ≡ true
-        → next ≡ start + run digit (drop start s) → q ≡ fitting (decimal 0 (name s start (next - start))) → q ≡ Of v → Glances s at Glimpse.Other
-    glance_digit p q p' q' ends known of = record { word = _; lexes = word-digit p q p' q' ends known of; is = refl }
-
-    pub glance_over : {r r' : Bool} {next : ℕ} {q : Number} → r ≡ letter (get_or s start 0) → r ≡ false → r' ≡ digit (get_or s start 0) → r' ≡ true
-        → next ≡ start + run digit (drop start s) → q ≡ fitting (decimal 0 (name s start (next - start))) → q ≡ Over → Glances s at (Glimpse.Refused 4)
-    glance_over p q p' q' ends known of = record { word = _; lexes = word_over p q p' q' ends known of; is = refl }
-
-    pub glance_sign : {r r' r'' : Bool} → r ≡ letter (get_or s start 0) → r ≡ false → r' ≡ digit (get_or s start 0) → r' ≡ false
-        → r'' ≡ sign (get_or s start 0) → r'' ≡ true → Glances s at (Glimpse.Sign (get_or s start 0) (start + 1))
-    glance_sign p q p' q' p'' q'' =
-        record { word = _; lexes = word-sign p q p' q' p'' q''; is = rw (sign_high (get_or s start 0) (sym p'' ∙ q'')) }
-
-    pub glance_none : {r r' r'' : Bool} → r ≡ letter (get_or s start 0) → r ≡ false → r' ≡ digit (get_or s start 0) → r' ≡ false
-        → r'' ≡ sign (get_or s start 0) → r'' ≡ false → Glances s at (Glimpse.Refused 3)
-    glance_none p q p' q' p'' q'' = record { word = _; lexes = word_none p q p' q' p'' q''; is = refl }
+    pub glance_letter : letter b ≡ true → Glances s at (Ok None)
+    glance_letter p =
+        let next = start + run in_word (drop start s) in
+        record { word = _; lexes = word-letter p refl refl refl; is = rw (kept_unsigned (name s start (next - start)) next) }
 
 -- ---- what a glance told, of the word
 
-pub record Signed (r : Lexed) (k n : ℕ) : Type 0 where
+pub record Signed (r : Result Word Refusal) (b n : ℕ) : Type 0 where
   pub word : Word
-  pub found : r ≡ Found word
-  pub kind : word.kind ≡ k
+  pub found : r ≡ Ok word
+  pub token : word.token ≡ T.Sign b
   pub next : word.next ≡ n
 
-pub record Unsigned (r : Lexed) : Type 0 where
+pub record Unsigned (r : Result Word Refusal) : Type 0 where
   pub word : Word
-  pub found : r ≡ Found word
-  pub low : word.kind < 10
+  pub found : r ≡ Ok word
+  pub other : (b : ℕ) → word.token ≡ T.Sign b → ⊥
 
-pub signed : (r : Lexed) {k n : ℕ} → Glimpse.Sign k n ≡ glimpse_of r → Signed r k n
-signed (Found w) {k} {n} e =
-    by_test (λ t. Glimpse.Sign k n ≡ cond t Glimpse.Other (Glimpse.Sign w.kind w.next) → Signed (Found w) k n) (ltb w.kind 10)
-    (λ _ f. let z : ◌≡◌ {A = ℕ} 0 1 = cc in absurd (omega arith)) (λ _ f. record { word = w; found = refl; kind = cc; next = cc }) e
-signed (Refused m) e = let z : ◌≡◌ {A = ℕ} 0 1 = cc in absurd (omega arith)
+sign-there : (k : Token) {m b n : ℕ} → Some (b, n) ≡ sign_in k m → (k ≡ T.Sign b) × (m ≡ n)
+sign-there T.EndOfText e = cc
+sign-there T.Name e = cc
+sign-there (T.Number v) e = cc
+sign-there T.Def e = cc
+sign-there T.Class e = cc
+sign-there T.End e = cc
+sign-there T.Return e = cc
+sign-there T.If e = cc
+sign-there T.Else e = cc
+sign-there T.AttrAccessor e = cc
+sign-there (T.Sign a) {m} {b} {n} e =
+    let q : ◌≡◌ {A = ℕ × ℕ} (a, m) (b, n) = cc in
+    (ap (λ (x : ℕ × ℕ). T.Sign x.0) q, ap (λ (x : ℕ × ℕ). x.1) q)
 
-pub unsigned : (r : Lexed) → Glimpse.Other ≡ glimpse_of r → Unsigned r
-unsigned (Found w) e =
-    by_test (λ t. Glimpse.Other ≡ cond t Glimpse.Other (Glimpse.Sign w.kind w.next) → Unsigned (Found w)) (ltb w.kind 10)
-    (λ h f. record { word = w; found = refl; low = ltb-true w.kind 10 h }) (λ _ f. let z : ◌≡◌ {A = ℕ} 0 1 = cc in absurd (omega arith)) e
-unsigned (Refused m) e = let z : ◌≡◌ {A = ℕ} 0 1 = cc in absurd (omega arith)
+pub signed : (r : Result Word Refusal) {b n : ℕ} → Ok (Some (b, n)) ≡ glimpse_of r → Signed r b n
+signed (Ok w) {b} {n} e = let h = sign-there w.token {m = w.next} {b = b} {n = n} cc in record { word = w; found = refl; token = h.0; next = h.1 }
+signed (Err m) e = cc
 
-pub unseen : (r : Lexed) {n : ℕ} → Glimpse.Refused n ≡ glimpse_of r → r ≡ Refused n
-unseen (Found w) {n} e =
-    by_test (λ t. Glimpse.Refused n ≡ cond t Glimpse.Other (Glimpse.Sign w.kind w.next) → Found w ≡ Refused n) (ltb w.kind 10) (λ _ f. cc) (λ _ f. cc) e
-unseen (Refused m) e = cc
+pub unsigned : (r : Result Word Refusal) → Ok None ≡ glimpse_of r → Unsigned r
+unsigned (Ok w) e =
+    record {
+      word = w;
+      found = refl;
+      other = λ b h. let f : sign_in w.token w.next ≡ Some (b, w.next) = rw h in let z : ◌≡◌ {A = Option (ℕ × ℕ)} None (Some (b, w.next)) = cc in cc;
+    }
+unsigned (Err m) e = cc
+
+pub unseen : (r : Result Word Refusal) {x : Refusal} → Err x ≡ glimpse_of r → r ≡ Err x
+unseen (Ok w) {x} e = cc
+unseen (Err m) e = cc

@@ -1,5 +1,4 @@
 pub mod Names
 pub mod Runs
 pub mod Texts
-pub mod Same
 pub mod Lexes

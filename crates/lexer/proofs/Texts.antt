@@ -1,11 +1,12 @@
--- The kinds of texts: what the tables of kinds say of any text, in the rules' words. Assumes nothing.
+-- The tokens of texts: what the tables say of any text, in the rules' words. Assumes nothing.
 use mathlib.Core.Bool.{Bool, true, false, not, cond, ◌&&◌, ◌||◌}
 use mathlib.Core.Path.{◌≡◌, refl, sym, ap₂, ◌∙◌}
 use mathlib.Core.List.{List, [], ◌∷◌, ◌++◌}
 use Prim.Native.Nat.{ℕ, zero, suc, ◌<◌}
 use native.Mathlib.Nat.{le_of_suc-le-suc, not-suc-le-zero}
 use native.Mathlib.Omega.{arith}
-use lib.Dec.{ltb, leb, eqb}
+use lib.Dec.{leb, eqb}
+use Rattle.std.specs.Prelude.{None}
 use lib.ListN.{length, get_or, take}
 use borrow.Author.Tests.{eq-eqb, eqb-true, leb-true, lt-leb, not-true}
 use Rattle.rules.specs.Lists.{same, any, all}
@@ -13,7 +14,9 @@ use Rattle.rules.specs.Words.{letter, digit, sign, starts_by, is_literal, is_ide
 use Rattle.rules.specs.Words as W
 use Rattle.rules.proofs.Exactness.Promise.{and_left, and_right}
 use Rattle.rules.proofs.Wellformed.Tests.{all_map}
-use Rattle.lexer.specs.Lexed.{Fixed, fixed, kept_words, signs, kind_in, other_kind, kind_of, value_of}
+use Rattle.lexer.specs.Lexed.{rank, content, same_token, Fixed, fixed, kept_words, signs, token_in, kept_token, other_token, token_of, sign_in, Small}
+use Rattle.lexer.specs.declared.Token.{Token}
+use Rattle.lexer.specs.declared.Token.TheVariants as T
 use Rattle.lexer.proofs.Names.{by_test}
 
 pub same_eq : (x y : List ℕ) → same x y ≡ true → x ≡ y
@@ -23,34 +26,72 @@ same_eq (a ∷ x) [] e = cc
 same_eq (a ∷ x) (b ∷ y) e =
     ap₂ {C = List ℕ} (λ c z. c ∷ z) (eqb-true a b (and_left (eqb a b) (same x y) e)) (same_eq x y (and_right (eqb a b) (same x y) e))
 
+-- ---- the test of tokens
+
+token_from : ℕ → ℕ → Token
+token_from r c =
+    cond (eqb r 0) T.EndOfText
+    (cond (eqb r 1) T.Name
+    (cond (eqb r 2) (T.Number c)
+    (cond (eqb r 3) T.Def
+    (cond (eqb r 4) T.Class
+    (cond (eqb r 5) T.End
+    (cond (eqb r 6) T.Return (cond (eqb r 7) T.If (cond (eqb r 8) T.Else (cond (eqb r 9) T.AttrAccessor (T.Sign c))))))))))
+
+token_back : (a : Token) → token_from (rank a) (content a) ≡ a
+unfolding token_from
+token_back T.EndOfText = refl
+token_back T.Name = refl
+token_back (T.Number n) = refl
+token_back T.Def = refl
+token_back T.Class = refl
+token_back T.End = refl
+token_back T.Return = refl
+token_back T.If = refl
+token_back T.Else = refl
+token_back T.AttrAccessor = refl
+token_back (T.Sign b) = refl
+
+pub token-true : (a b : Token) → same_token a b ≡ true → a ≡ b
+token-true a b e =
+    let r = eqb-true (rank a) (rank b) (and_left _ _ e) in
+    let c = eqb-true (content a) (content b) (and_right (eqb (rank a) (rank b)) _ e) in
+    sym (token_back a) ∙ ap₂ {C = Token} token_from r c ∙ token_back b
+
+pub token-yes : (a b : Token) → a ≡ b → same_token a b ≡ true
+token-yes a b e = rw (e, eq-eqb (rank b) (rank b) refl, eq-eqb (content b) (content b) refl)
+
+pub token-no : (a b : Token) → (a ≡ b → ⊥) → same_token a b ≡ false
+token-no a b e = by_test (λ t. t ≡ false) (same_token a b) (λ h. absurd (e (token-true a b h))) (λ _. refl)
+
 -- ---- tables
 
 -- every text that the table does not have gets d; so does one that begins as no text of the table does
-pub kind_default : (f : ℕ → Bool) (l : List Fixed) (t : List ℕ) (d : ℕ) → all (λ (x : Fixed). not (starts_by f x.text)) l ≡ true → starts_by f t ≡ true
-    → kind_in l t d ≡ d
-kind_default f [] t d a h = refl
-kind_default f (x ∷ l) t d a h =
-    by_test (λ b. cond b x.kind (kind_in l t d) ≡ d) (same t x.text)
+pub token_default : (f : ℕ → Bool) (l : List Fixed) (t : List ℕ) (d : Token) → all (λ (x : Fixed). not (starts_by f x.text)) l ≡ true → starts_by f t ≡ true
+    → token_in l t d ≡ d
+token_default f [] t d a h = refl
+token_default f (x ∷ l) t d a h =
+    by_test (λ b. cond b x.token (token_in l t d) ≡ d) (same t x.text)
     (λ e.
     let n = not-true (starts_by f x.text) (and_left (not (starts_by f x.text)) (all (λ (y : Fixed). not (starts_by f y.text)) l) a) in
     let z = rw (same_eq t x.text e) at h in
     cc)
-    (λ e. kind_default f l t d (and_right (not (starts_by f x.text)) (all (λ (y : Fixed). not (starts_by f y.text)) l) a) h)
+    (λ e. token_default f l t d (and_right (not (starts_by f x.text)) (all (λ (y : Fixed). not (starts_by f y.text)) l) a) h)
 
--- what holds of the table's kinds and of d holds of every text's kind
-pub kind-all : (f : ℕ → Bool) (l : List Fixed) (t : List ℕ) (d : ℕ) → all (λ (x : Fixed). f x.kind) l ≡ true → f d ≡ true → f (kind_in l t d) ≡ true
-kind-all f [] t d a h = h
-kind-all f (x ∷ l) t d a h =
-    by_test (λ b. f (cond b x.kind (kind_in l t d)) ≡ true) (same t x.text) (λ e. and_left (f x.kind) (all (λ (y : Fixed). f y.kind) l) a)
-    (λ e. kind-all f l t d (and_right (f x.kind) (all (λ (y : Fixed). f y.kind) l) a) h)
+-- what holds of the table's tokens and of d holds of every text's token
+pub token-all : (f : Token → Bool) (l : List Fixed) (t : List ℕ) (d : Token) → all (λ (x : Fixed). f x.token) l ≡ true → f d ≡ true → f (token_in l t d) ≡ true
+token-all f [] t d a h = h
+token-all f (x ∷ l) t d a h =
+    by_test (λ b. f (cond b x.token (token_in l t d)) ≡ true) (same t x.text) (λ e. and_left (f x.token) (all (λ (y : Fixed). f y.token) l) a)
+    (λ e. token-all f l t d (and_right (f x.token) (all (λ (y : Fixed). f y.token) l) a) h)
 
--- no text gets a kind that neither the table has nor d is
-pub kind-not : (l : List Fixed) (t : List ℕ) (d k : ℕ) → all (λ (x : Fixed). not (eqb x.kind k)) l ≡ true → eqb d k ≡ false → eqb (kind_in l t d) k ≡ false
-kind-not l t d k a h = not-true (eqb (kind_in l t d) k) (kind-all (λ j. not (eqb j k)) l t d a (rw h))
+-- no text gets a token that neither the table has nor d is
+pub token-not : (l : List Fixed) (t : List ℕ) (d k : Token) → all (λ (x : Fixed). not (same_token x.token k)) l ≡ true → same_token d k ≡ false → same_token (token_in l t d) k ≡ false
+token-not l t d k a h = not-true (same_token (token_in l t d) k) (token-all (λ j. not (same_token j k)) l t d a (rw h))
 
--- neither a text nor a kind stands in the table twice
+-- neither a text nor a token stands in the table twice
 abbrev pub apart : Fixed → Fixed → Bool
-apart x y = not (same x.text y.text) && (not (eqb x.kind y.kind) && not (eqb y.kind x.kind))
+apart x y = not (same x.text y.text) && (not (same_token x.token y.token) && not (same_token y.token x.token))
 
 abbrev pub plain : List Fixed → Bool
 plain [] = true
@@ -61,47 +102,49 @@ all-at f [] i d a h = absurd (not-suc-le-zero h)
 all-at f (x ∷ l) zero d a h = and_left (f x) (all f l) a
 all-at f (x ∷ l) (suc i) d a h = all-at f l i d (and_right (f x) (all f l) a) (le_of_suc-le-suc h)
 
--- a text is that of a table's entry just where its kind is that entry's
-entry-kind : (l : List Fixed) (t : List ℕ) (d i : ℕ) (e : Fixed) → plain l ≡ true → all (λ (x : Fixed). not (eqb d x.kind)) l ≡ true → i < length l
-    → same t (get_or l i e).text ≡ eqb (kind_in l t d) (get_or l i e).kind
-entry-kind [] t d i e p a h = absurd (not-suc-le-zero h)
-entry-kind (x ∷ l) t d zero e p a h =
-    by_test (λ b. b ≡ eqb (cond b x.kind (kind_in l t d)) x.kind) (same t x.text) (λ f. sym (eq-eqb x.kind x.kind refl))
+-- a text is that of a table's entry just where its token is that entry's
+entry-token : (l : List Fixed) (t : List ℕ) (d : Token) (i : ℕ) (e : Fixed) → plain l ≡ true → all (λ (x : Fixed). not (same_token d x.token)) l ≡ true → i < length l
+    → same t (get_or l i e).text ≡ same_token (token_in l t d) (get_or l i e).token
+entry-token [] t d i e p a h = absurd (not-suc-le-zero h)
+entry-token (x ∷ l) t d zero e p a h =
+    by_test (λ b. b ≡ same_token (cond b x.token (token_in l t d)) x.token) (same t x.text) (λ f. sym (token-yes x.token x.token refl))
     (λ f.
     sym
-    (kind-not l t d x.kind
-    (all_map (apart x) (λ (y : Fixed). not (eqb y.kind x.kind)) l
-    (λ y g. and_right (not (eqb x.kind y.kind)) _ (and_right (not (same x.text y.text)) _ g))
+    (token-not l t d x.token
+    (all_map (apart x) (λ (y : Fixed). not (same_token y.token x.token)) l
+    (λ y g. and_right (not (same_token x.token y.token)) _ (and_right (not (same x.text y.text)) _ g))
     (and_left (all (apart x) l) (plain l) p))
-    (not-true (eqb d x.kind) (and_left (not (eqb d x.kind)) _ a))))
-entry-kind (x ∷ l) t d (suc i) e p a h =
+    (not-true (same_token d x.token) (and_left (not (same_token d x.token)) _ a))))
+entry-token (x ∷ l) t d (suc i) e p a h =
     let y = get_or l i e in
-    by_test (λ b. same t y.text ≡ eqb (cond b x.kind (kind_in l t d)) y.kind) (same t x.text)
+    by_test (λ b. same t y.text ≡ same_token (cond b x.token (token_in l t d)) y.token) (same t x.text)
     (λ f.
     let g = all-at (apart x) l i e (and_left (all (apart x) l) (plain l) p) (le_of_suc-le-suc h) in
     rw (
       same_eq t x.text f,
       not-true (same x.text y.text) (and_left _ _ g),
-      not-true (eqb x.kind y.kind) (and_left _ _ (and_right (not (same x.text y.text)) _ g)),
+      not-true (same_token x.token y.token) (and_left _ _ (and_right (not (same x.text y.text)) _ g)),
     ))
-    (λ f. entry-kind l t d i e (and_right (all (apart x) l) (plain l) p) (and_right (not (eqb d x.kind)) _ a) (le_of_suc-le-suc h))
+    (λ f. entry-token l t d i e (and_right (all (apart x) l) (plain l) p) (and_right (not (same_token d x.token)) _ a) (le_of_suc-le-suc h))
 
 -- ---- all texts
 
 abbrev pub table : List Fixed
 table = kept_words ++ signs
 
--- the kind of a text of neither table
-other_cases : (P : ℕ → Type 0) → P 1 → P 2 → P 255 → (t : List ℕ) → P (other_kind t)
+-- the token of a text of neither table
+other_cases : (P : Token → Type 0) → P T.Name → ((n : ℕ) → P (T.Number n)) → P (T.Sign 255) → (t : List ℕ) → P (other_token t)
 other_cases P a b c t =
-    by_test (λ l. P (cond l 1 (cond (starts_by digit t) 2 255))) (starts_by letter t) (λ _. a)
-    (λ _. by_test (λ d. P (cond d 2 255)) (starts_by digit t) (λ _. b) (λ _. c))
+    by_test (λ l. P (cond l T.Name (cond (starts_by digit t) (T.Number (W.decimal 0 t)) (T.Sign 255)))) (starts_by letter t) (λ _. a)
+    (λ _. by_test (λ d. P (cond d (T.Number (W.decimal 0 t)) (T.Sign 255))) (starts_by digit t) (λ _. b (W.decimal 0 t)) (λ _. c))
 
--- the i-th fixed word, by its kind: at 0 this is `same t (bytes "def") ≡ eqb (kind_of t) 3`
-pub fixed-kind : (t : List ℕ) (i : ℕ) → i < length table → same t (get_or table i (fixed [] 0)).text ≡ eqb (kind_of t) (get_or table i (fixed [] 0)).kind
-unfolding kind_of
-fixed-kind t i h =
-    entry-kind table t (other_kind t) i (fixed [] 0) refl (other_cases (λ d. all (λ (x : Fixed). not (eqb d x.kind)) table ≡ true) refl refl refl t) h
+-- the i-th fixed word, by its token: at 0 this is `same t (bytes "def") ≡ same_token (token_of t) T.Def`
+pub fixed-token : (t : List ℕ) (i : ℕ) → i < length table
+    → same t (get_or table i (fixed [] T.EndOfText)).text ≡ same_token (token_of t) (get_or table i (fixed [] T.EndOfText)).token
+unfolding token_of
+fixed-token t i h =
+    entry-token table t (other_token t) i (fixed [] T.EndOfText) refl
+    (other_cases (λ d. all (λ (x : Fixed). not (same_token d x.token)) table ≡ true) refl (λ n. refl) refl t) h
 
 -- no byte is both a letter and a digit
 letter-digit : (b : ℕ) → letter b ≡ true → digit b ≡ false
@@ -120,17 +163,17 @@ pub starts-letter : (t : List ℕ) → starts_by letter t ≡ true → starts_by
 starts-letter [] e = refl
 starts-letter (b ∷ l) e = letter-digit b e
 
-kind-name : (t : List ℕ) → starts_by letter t ≡ true → kind_of t ≡ kind_in kept_words t 1
-unfolding kind_of
-kind-name t e = rw (kind_default letter signs t (other_kind t) refl e, e)
+kept-is : (t : List ℕ) → starts_by letter t ≡ true → token_of t ≡ kept_token t
+unfolding token_of
+kept-is t e = rw (token_default letter signs t (other_token t) refl e, e)
 
 -- of a word that begins with a letter, with a digit, of a sign and of the end of text
-pub kind-letter : (t : List ℕ) {k : ℕ} → starts_by letter t ≡ true → k ≡ kind_in kept_words t 1 → k ≡ kind_of t
-kind-letter t e f = f ∙ sym (kind-name t e)
+pub token-letter : (t : List ℕ) {k : Token} → starts_by letter t ≡ true → k ≡ kept_token t → k ≡ token_of t
+token-letter t e f = f ∙ sym (kept-is t e)
 
-pub kind-digit : (t : List ℕ) → starts_by letter t ≡ false → starts_by digit t ≡ true → 2 ≡ kind_of t
-unfolding kind_of
-kind-digit t e f = rw (kind_default digit table t (other_kind t) refl f, e, f)
+pub token-digit : (t : List ℕ) {v : ℕ} → starts_by letter t ≡ false → starts_by digit t ≡ true → v ≡ W.decimal 0 t → T.Number v ≡ token_of t
+unfolding token_of
+token-digit t e f g = rw (token_default digit table t (other_token t) refl f, e, f, g)
 
 any-all : (f : ℕ → Bool) (l : List ℕ) (b : ℕ) → all f l ≡ true → any (eqb b) l ≡ true → f b ≡ true
 any-all f [] b a e = cc
@@ -138,22 +181,44 @@ any-all f (x ∷ l) b a e =
     by_test (λ t. (t || any (eqb b) l) ≡ true → f b ≡ true) (eqb b x) (λ g h. rw (eqb-true b x g) (and_left (f x) (all f l) a))
     (λ g h. any-all f l b (and_right (f x) (all f l) a) h) e
 
-pub kind-sign : (b : ℕ) → sign b ≡ true → b ≡ kind_of (b ∷ [])
-unfolding kind_of
-kind-sign b e = sym (eqb-true (kind_of (b ∷ [])) b (any-all (λ c. eqb (kind_of (c ∷ [])) c) (Rattle.rules.specs.Lists.bytes "(),+-*=<.:@") b refl e))
+pub token-sign : (b : ℕ) → sign b ≡ true → T.Sign b ≡ token_of (b ∷ [])
+unfolding token_of
+token-sign b e =
+    token-true (T.Sign b) (token_of (b ∷ [])) (any-all (λ c. same_token (T.Sign c) (token_of (c ∷ []))) (Rattle.rules.specs.Lists.bytes "(),+-*=<.:@") b refl e)
 
--- the kinds of words that begin with a letter lie below those of signs
-pub kind-low : (t : List ℕ) → ltb (kind_in kept_words t 1) 10 ≡ true
-kind-low t = kind-all (λ k. ltb k 10) kept_words t 1 refl refl
+pub token-end : T.EndOfText ≡ token_of []
+unfolding token_of
+token-end = refl
 
-pub sign_high : (b : ℕ) → sign b ≡ true → ltb b 10 ≡ false
-sign_high b e = not-true (ltb b 10) (any-all (λ c. not (ltb c 10)) (Rattle.rules.specs.Lists.bytes "(),+-*=<.:@") b refl e)
+-- a word that begins with a letter is no sign
+pub kept_unsigned : (t : List ℕ) (n : ℕ) → sign_in (kept_token t) n ≡ None
+kept_unsigned t n =
+    by_token (kept_token t) (token-all (λ k. not (eqb (rank k) 10)) kept_words t T.Name refl refl)
+  where
+    by_token : (k : Token) → not (eqb (rank k) 10) ≡ true → sign_in k n ≡ None
+    by_token T.EndOfText h = refl
+    by_token T.Name h = refl
+    by_token (T.Number v) h = refl
+    by_token T.Def h = refl
+    by_token T.Class h = refl
+    by_token T.End h = refl
+    by_token T.Return h = refl
+    by_token T.If h = refl
+    by_token T.Else h = refl
+    by_token T.AttrAccessor h = refl
+    by_token (T.Sign b) h = cc
 
-pub kind-end : 0 ≡ kind_of []
-unfolding kind_of
-kind-end = refl
+pub kept_small : (t : List ℕ) {k : Token} → k ≡ kept_token t → Small k
+kept_small t {k} e n p =
+    let h : eqb (rank (T.Number n)) 2 ≡ true = refl in
+    let g = token-all (λ j. not (eqb (rank j) 2)) kept_words t T.Name refl refl in
+    let q : kept_token t ≡ T.Number n = cc in
+    let z = rw q at g in
+    cc
 
-seven : (a b c d e f g : Bool) → cond (a || b || c || d || e || f || g) false true ≡ eqb (cond a 3 (cond b 4 (cond c 5 (cond d 6 (cond e 7 (cond f 8 (cond g 9 1))))))) 1
+seven : (a b c d e f g : Bool)
+    → cond (a || b || c || d || e || f || g) false true
+    ≡ same_token (cond a T.Def (cond b T.Class (cond c T.End (cond d T.Return (cond e T.If (cond f T.Else (cond g T.AttrAccessor T.Name))))))) T.Name
 seven true b c d e f g = refl
 seven false true c d e f g = refl
 seven false false true d e f g = refl
@@ -163,42 +228,76 @@ seven false false false false false true g = refl
 seven false false false false false false true = refl
 seven false false false false false false false = refl
 
--- a name is a word of kind 1, a literal one of kind 2
-pub ident_kind : (w : W.Word) → is_ident w ≡ eqb (kind_of w.text) 1
-unfolding kind_of
-ident_kind w =
-    by_test (λ l. starts_by letter w.text ≡ l → (l && cond (W.kept w) false true) ≡ eqb (kind_of w.text) 1) (starts_by letter w.text)
-    (λ _ e. rw (kind-name w.text e) (seven (W.is w "def") (W.is w "class") (W.is w "end") (W.is w "return") (W.is w "if") (W.is w "else") (W.is w "attr_accessor")))
+-- which words are names, and which are literals
+pub ident_token : (w : W.Word) → is_ident w ≡ same_token (token_of w.text) T.Name
+unfolding token_of
+ident_token w =
+    by_test (λ l. starts_by letter w.text ≡ l → (l && cond (W.kept w) false true) ≡ same_token (token_of w.text) T.Name) (starts_by letter w.text)
+    (λ _ e. rw (kept-is w.text e) (seven (W.is w "def") (W.is w "class") (W.is w "end") (W.is w "return") (W.is w "if") (W.is w "else") (W.is w "attr_accessor")))
     (λ _ e.
     sym
-    (kind-not table w.text (other_kind w.text) 1 refl
-    (rw e (by_test (λ d. eqb (cond d 2 255) 1 ≡ false) (starts_by digit w.text) (λ _. refl) (λ _. refl)))))
+    (token-not table w.text (other_token w.text) T.Name refl
+    (rw e (by_test (λ d. same_token (cond d (T.Number (W.decimal 0 w.text)) (T.Sign 255)) T.Name ≡ false) (starts_by digit w.text) (λ _. refl) (λ _. refl)))))
     refl
 
-pub literal_kind : (w : W.Word) → is_literal w ≡ eqb (kind_of w.text) 2
-unfolding kind_of
-literal_kind w =
-    by_test (λ d. starts_by digit w.text ≡ d → d ≡ eqb (kind_of w.text) 2) (starts_by digit w.text)
+pub literal_token : (w : W.Word) → is_literal w ≡ eqb (rank (token_of w.text)) 2
+unfolding token_of
+literal_token w =
+    by_test (λ d. starts_by digit w.text ≡ d → d ≡ eqb (rank (token_of w.text)) 2) (starts_by digit w.text)
     (λ _ e.
-    by_test (λ l. starts_by letter w.text ≡ l → true ≡ eqb (kind_of w.text) 2) (starts_by letter w.text)
+    by_test (λ l. starts_by letter w.text ≡ l → true ≡ eqb (rank (token_of w.text)) 2) (starts_by letter w.text)
     (λ _ f. let z = starts-letter w.text f in cc)
-    (λ _ f. rw (← kind-digit w.text f e))
+    (λ _ f. rw (← token-digit w.text f e refl))
     refl)
     (λ _ e.
     sym
-    (kind-not table w.text (other_kind w.text) 2 refl
-    (rw e (by_test (λ l. eqb (cond l 1 255) 2 ≡ false) (starts_by letter w.text) (λ _. refl) (λ _. refl)))))
+    (not-true (eqb (rank (token_in table w.text (other_token w.text))) 2)
+    (token-all (λ k. not (eqb (rank k) 2)) table w.text (other_token w.text) refl
+    (rw e (by_test (λ l. not (eqb (rank (cond l T.Name (T.Sign 255))) 2) ≡ true) (starts_by letter w.text) (λ _. refl) (λ _. refl))))))
     refl
 
--- ---- values
+-- a literal's value is the number that it writes
+pub number_value : (t : List ℕ) {n : ℕ} → T.Number n ≡ token_of t → n ≡ W.decimal 0 t
+number_value t {n} e =
+    by_test (λ d. starts_by digit t ≡ d → n ≡ W.decimal 0 t) (starts_by digit t)
+    (λ _ f.
+    by_test (λ l. starts_by letter t ≡ l → n ≡ W.decimal 0 t) (starts_by letter t)
+    (λ _ g. let z = starts-letter t g in cc)
+    (λ _ g. let h : T.Number n ≡ T.Number (W.decimal 0 t) = e ∙ sym (token-digit t g f refl) in cc)
+    refl)
+    (λ _ f. let h = literal_token (record { text = t; next = 0 }) in let k : eqb (rank (token_of t)) 2 ≡ true = rw (← e) refl in cc)
+    refl
 
-pub value-other : (t : List ℕ) → starts_by digit t ≡ false → 0 ≡ value_of t
-unfolding value_of
-value-other t e = rw e
+-- the byte of a sign; no sign has 0
+abbrev pub byte_of : Token → ℕ
+byte_of (T.Sign b) = b
+byte_of _ = 0
 
-pub value-digit : (t : List ℕ) {v : ℕ} → starts_by digit t ≡ true → v ≡ W.decimal 0 t → v ≡ value_of t
-unfolding value_of
-value-digit t e f = rw e f
+pub same_sign : (k : Token) (b : ℕ) → eqb 0 b ≡ false → same_token k (T.Sign b) ≡ eqb (byte_of k) b
+same_sign T.EndOfText b e = sym e
+same_sign T.Name b e = sym e
+same_sign (T.Number n) b e = sym e
+same_sign T.Def b e = sym e
+same_sign T.Class b e = sym e
+same_sign T.End b e = sym e
+same_sign T.Return b e = sym e
+same_sign T.If b e = sym e
+same_sign T.Else b e = sym e
+same_sign T.AttrAccessor b e = sym e
+same_sign (T.Sign a) b e = refl
+
+pub byte_none : (k : Token) → ((b : ℕ) → k ≡ T.Sign b → ⊥) → byte_of k ≡ 0
+byte_none T.EndOfText f = refl
+byte_none T.Name f = refl
+byte_none (T.Number n) f = refl
+byte_none T.Def f = refl
+byte_none T.Class f = refl
+byte_none T.End f = refl
+byte_none T.Return f = refl
+byte_none T.If f = refl
+byte_none T.Else f = refl
+byte_none T.AttrAccessor f = refl
+byte_none (T.Sign a) f = absurd (f a refl)
 
 -- a part of a text begins as the text does
 pub starts-take : (f : ℕ → Bool) (n : ℕ) (l : List ℕ) → 0 < n → starts_by f (take n l) ≡ starts_by f l

@@ -1,60 +1,88 @@
--- What the word reader gives, in the words of the rules, and the table of the kinds of words. Assumes nothing.
-use Rattle.std.specs.Prelude.{cond, ◌≡◌, List, [], ◌∷◌, ℕ, ◌+◌, ◌≤◌, ◌<◌, ◌^◌, ltb, length}
+-- What the word reader gives, in the words of the rules, and the table of the words. Assumes nothing.
+use Rattle.std.specs.Prelude.{Bool, cond, ◌&&◌, ◌≡◌, List, [], ◌∷◌, ℕ, ◌+◌, ◌≤◌, ◌<◌, ◌^◌, eqb, ltb, length}
+use Rattle.std.specs.Prelude.{Option, Some, None, Result, Ok, Err}
+use Rattle.refusals.specs.declared.Refusal.{Refusal}
+use Rattle.refusals.specs.Refusals.{number_of}
 use Rattle.rules.specs.Actions.{Answer, answered, refused}
 use Rattle.rules.specs.Lists.{bytes, same}
 use Rattle.rules.specs.Words.{letter, digit, decimal, starts_by, word_at}
 use Rattle.rules.specs.Words as W
 use Rattle.lexer.specs.Names.{name}
+use Rattle.lexer.specs.declared.Token.{Token}
+use Rattle.lexer.specs.declared.Token.TheVariants as T
 use Rattle.lexer.specs.declared.Word.{Word}
-use Rattle.lexer.specs.declared.Lexed.{Lexed}
-use Rattle.lexer.specs.declared.Lexed.TheVariants.{Found, Refused}
-use Rattle.lexer.specs.declared.Glimpse.{Glimpse}
-use Rattle.lexer.specs.declared.Number.{Number}
-use Rattle.lexer.specs.declared.Number.TheVariants.{Of, Over}
 
--- ---- kinds
+-- ---- tokens
 
--- a text, and the kind of the word that has it
+-- which sort of word a token is, and what stands beside it
+abbrev pub rank : Token → ℕ
+rank T.EndOfText = 0
+rank T.Name = 1
+rank (T.Number n) = 2
+rank T.Def = 3
+rank T.Class = 4
+rank T.End = 5
+rank T.Return = 6
+rank T.If = 7
+rank T.Else = 8
+rank T.AttrAccessor = 9
+rank (T.Sign b) = 10
+
+abbrev pub content : Token → ℕ
+content (T.Number n) = n
+content (T.Sign b) = b
+content _ = 0
+
+-- the two are one token
+abbrev pub same_token : Token → Token → Bool
+same_token a b = eqb (rank a) (rank b) && eqb (content a) (content b)
+
+-- a text, and the token of the word that has it
 pub record Fixed : Type 0 where
   pub text : List ℕ
-  pub kind : ℕ
+  pub token : Token
 
-abbrev pub fixed : List ℕ → ℕ → Fixed
-fixed t k = record { text = t; kind = k }
+abbrev pub fixed : List ℕ → Token → Fixed
+fixed t k = record { text = t; token = k }
 
 -- the kept words
 abbrev pub kept_words : List Fixed
 kept_words =
-    fixed (bytes "def") 3 ∷ fixed (bytes "class") 4 ∷ fixed (bytes "end") 5 ∷ fixed (bytes "return") 6 ∷ fixed (bytes "if") 7 ∷ fixed (bytes "else") 8
-    ∷ fixed (bytes "attr_accessor") 9 ∷ []
+    fixed (bytes "def") T.Def ∷ fixed (bytes "class") T.Class ∷ fixed (bytes "end") T.End ∷ fixed (bytes "return") T.Return ∷ fixed (bytes "if") T.If
+    ∷ fixed (bytes "else") T.Else ∷ fixed (bytes "attr_accessor") T.AttrAccessor ∷ []
 
--- the end of text is 0; the kind of a sign is its byte
+-- the end of text has no bytes; the token of a sign has its byte
 abbrev pub signs : List Fixed
 signs =
-    fixed (bytes "") 0 ∷ fixed (bytes "(") 40 ∷ fixed (bytes ")") 41 ∷ fixed (bytes ",") 44 ∷ fixed (bytes "+") 43 ∷ fixed (bytes "-") 45
-    ∷ fixed (bytes "*") 42 ∷ fixed (bytes "=") 61 ∷ fixed (bytes "<") 60 ∷ fixed (bytes ".") 46 ∷ fixed (bytes ":") 58 ∷ fixed (bytes "@") 64 ∷ []
+    fixed (bytes "") T.EndOfText ∷ fixed (bytes "(") (T.Sign 40) ∷ fixed (bytes ")") (T.Sign 41) ∷ fixed (bytes ",") (T.Sign 44)
+    ∷ fixed (bytes "+") (T.Sign 43) ∷ fixed (bytes "-") (T.Sign 45) ∷ fixed (bytes "*") (T.Sign 42) ∷ fixed (bytes "=") (T.Sign 61)
+    ∷ fixed (bytes "<") (T.Sign 60) ∷ fixed (bytes ".") (T.Sign 46) ∷ fixed (bytes ":") (T.Sign 58) ∷ fixed (bytes "@") (T.Sign 64) ∷ []
 
--- the kind that a table has for a text, else d
-abbrev pub kind_in : List Fixed → List ℕ → ℕ → ℕ
-kind_in [] t d = d
-kind_in (x ∷ l) t d = cond (same t x.text) x.kind (kind_in l t d)
+-- the token that a table has for a text, else d
+abbrev pub token_in : List Fixed → List ℕ → Token → Token
+token_in [] t d = d
+token_in (x ∷ l) t d = cond (same t x.text) x.token (token_in l t d)
 
--- a text in neither table: 1 a name, 2 a number; no word has 255
-abbrev pub other_kind : List ℕ → ℕ
-other_kind t = cond (starts_by letter t) 1 (cond (starts_by digit t) 2 255)
+-- the token of a word that begins with a letter
+abbrev pub kept_token : List ℕ → Token
+kept_token t = token_in kept_words t T.Name
 
-unfoldable pub kind_of : List ℕ → ℕ
-kind_of t = kind_in kept_words t (kind_in signs t (other_kind t))
+-- a text in neither table: a name, or the number that it writes; no word has another, and no sign has the byte 255
+abbrev pub other_token : List ℕ → Token
+other_token t = cond (starts_by letter t) T.Name (cond (starts_by digit t) (T.Number (decimal 0 t)) (T.Sign 255))
 
--- the number that a literal writes, 0 of any other word
-unfoldable pub value_of : List ℕ → ℕ
-value_of t = cond (starts_by digit t) (decimal 0 t) 0
+unfoldable pub token_of : List ℕ → Token
+token_of t = token_in kept_words t (token_in signs t (other_token t))
 
 -- ---- answers
 
 -- question 4, asked of a number
-unfoldable pub fitting : ℕ → Number
-fitting n = cond (ltb n (2 ^ 63)) (Of n) Over
+unfoldable pub fitting : ℕ → Option ℕ
+fitting n = cond (ltb n (2 ^ 63)) (Some n) None
+
+-- a test of bytes that the results of a call are
+abbrev pub Passes : (ℕ → Bool) → (ℕ → Bool → Type 0) → Type 0
+Passes f R = (b : ℕ) (r : Bool) → b < 2 ^ 8 → R b r → r ≡ f b
 
 -- the text of a word, and the word as the rules have it
 abbrev pub text_of : List ℕ → Word → List ℕ
@@ -63,35 +91,42 @@ text_of s w = name s w.start w.len
 abbrev pub word_in : List ℕ → Word → W.Word
 word_in s w = record { text = text_of s w; next = w.next }
 
-abbrev pub answer_of : List ℕ → Lexed → Answer W.Word
-answer_of s (Found w) = answered (word_in s w)
-answer_of s (Refused n) = refused n
+abbrev pub answer_of : List ℕ → Result Word Refusal → Answer W.Word
+answer_of s (Ok w) = answered (word_in s w)
+answer_of s (Err e) = refused (number_of e)
 
--- the kind and the value of a word that was read from place `at` on, and where it ends
+-- a literal's value is below 2^63
+abbrev pub Small : Token → Type 0
+Small k = (n : ℕ) → k ≡ T.Number n → n < 2 ^ 63
+
+-- the token of a word that was read from place `at` on, and where it ends
 pub record LexerReads (s : List ℕ) (at : ℕ) (w : Word) : Type 0 where
-  pub kind : w.kind ≡ kind_of (text_of s w)
-  pub value : w.value ≡ value_of (text_of s w)
-  pub small : w.value < 2 ^ 63
+  pub token : w.token ≡ token_of (text_of s w)
+  pub small : Small w.token
   pub behind : at ≤ w.start
   pub next : w.next ≡ w.start + w.len
   pub inside : at ≤ length s → w.next ≤ length s
-  pub on : (w.kind ≡ 0 → ⊥) → at < w.next
+  pub on : (w.token ≡ T.EndOfText → ⊥) → at < w.next
 
-abbrev pub ReadsWord : List ℕ → ℕ → Lexed → Type 0
-ReadsWord s at (Found w) = LexerReads s at w
-ReadsWord s at (Refused n) = Unit {0}
+abbrev pub ReadsWord : List ℕ → ℕ → Result Word Refusal → Type 0
+ReadsWord s at (Ok w) = LexerReads s at w
+ReadsWord s at (Err e) = Unit {0}
 
 -- what the word reader promises: the rules' answer, and of a word what stands in it
-pub record Lexes (s : List ℕ) (at : ℕ) (r : Lexed) : Type 0 where
+pub record Lexes (s : List ℕ) (at : ℕ) (r : Result Word Refusal) : Type 0 where
   pub is : answer_of s r ≡ word_at s at
   pub word : ReadsWord s at r
 
--- what a glance tells of a word: which sign it is, else nothing
-abbrev pub glimpse_of : Lexed → Glimpse
-glimpse_of (Found w) = cond (ltb w.kind 10) Glimpse.Other (Glimpse.Sign w.kind w.next)
-glimpse_of (Refused n) = Glimpse.Refused n
+-- what a glance tells of a word: which sign it is and where it ends, else nothing
+abbrev pub sign_in : Token → ℕ → Option (ℕ × ℕ)
+sign_in (T.Sign b) n = Some (b, n)
+sign_in _ n = None
 
-pub record Glances (s : List ℕ) (at : ℕ) (r : Glimpse) : Type 0 where
-  pub word : Lexed
+abbrev pub glimpse_of : Result Word Refusal → Result (Option (ℕ × ℕ)) Refusal
+glimpse_of (Ok w) = Ok (sign_in w.token w.next)
+glimpse_of (Err e) = Err e
+
+pub record Glances (s : List ℕ) (at : ℕ) (r : Result (Option (ℕ × ℕ)) Refusal) : Type 0 where
+  pub word : Result Word Refusal
   pub lexes : Lexes s at word
   pub is : r ≡ glimpse_of word

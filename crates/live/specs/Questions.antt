@@ -1,5 +1,5 @@
 -- The line that `live` writes to standard error on a refusal. Assumes nothing.
-use Rattle.std.specs.Prelude.{◌≡◌, List, [], ◌∷◌, ◌++◌, ℕ, ◌+◌, ◌≤◌, length, get_or, take}
+use Rattle.std.specs.Prelude.{List, [], ◌∷◌, ◌++◌, ℕ, get_or}
 use Prim.Native.String.{String}
 use Rattle.rules.specs.Lists.{bytes}
 
@@ -35,17 +35,3 @@ words_of n = bytes (get_or questions n "") ++ 10 ∷ []
 
 unfoldable pub line_of : ℕ → List ℕ
 line_of n = bytes "live: question " ++ words_of n
-
--- no question's words are longer, and no line
-abbrev pub words_most : ℕ
-words_most = 64
-
-abbrev pub line_most : ℕ
-line_most = 96
-
--- the text t stands from place `at` on, behind what stood before it, up to place n
-pub record QuestionPut (t : List ℕ) (at : ℕ) (d : List ℕ) (n : ℕ) (d' : List ℕ) : Type 0 where
-  pub text : take n d' ≡ take at d ++ t
-  pub end : n ≡ at + length t
-  pub fits : n ≤ length d'
-  pub count : n ≡ length (take n d')

@@ -1,7 +1,7 @@
 -- An attribute that is declared. Assumes nothing.
-use mathlib.Core.Bool.{true, false}
+use mathlib.Core.Bool.{Bool, true, false}
 use mathlib.Core.Path.{◌≡◌, refl, sym, ap, ap₂, ◌∙◌}
-use mathlib.Core.Option.{Option, some}
+use Rattle.std.proofs.Common.{Option, Some, None, Ok, Err, is_some}
 use mathlib.Core.List.{List, [], ◌∷◌, ◌++◌}
 use Prim.Native.Nat.{ℕ, ◌+◌, ◌*◌, ◌≤◌, ◌<◌}
 use native.Mathlib.Omega.{arith}
@@ -19,7 +19,7 @@ use Rattle.program.specs.Tab.{tab}
 use Rattle.program.specs.Rows.{name_in, class_at, ivar_at, ivars_of}
 use Rattle.program.specs.View.{program_view, classes_of, ProgramReady, Small}
 use Rattle.program.specs.declared.Counts.{Counts}
-use Rattle.program.specs.declared.Limits.{Limits}
+use Rattle.program.specs.declared.bounds.Limits.{Limits}
 use Rattle.program.specs.declared.Name.{Name}
 use Rattle.program.proofs.Tables.{tab_ext, tab-more, tab-set, tab-length}
 use Rattle.program.proofs.Viewing.{Keeps, owns-same, opnds-end, insn_keep, fun_keep, instructions-keep, functions-keep, blocks-keep}
@@ -27,9 +27,7 @@ use Rattle.program.proofs.Adding.{terminated-same, listed_same}
 use Rattle.memory.specs.Layout.{classes_most, ivars_most}
 use Rattle.program.specs.Layout.{blocks_at, classes_at, ivars_at, program_size, class_words, ivar_row_words}
 use Rattle.lookups.specs.Look.{ivar_row, PutsIvar, Declares, ivar_found}
-use Rattle.lookups.specs.declared.Declared.TheVariants.{Done, Refused}
-use Rattle.lookups.specs.declared.FoundIvar.{FoundIvar}
-use Rattle.lookups.specs.declared.FoundIvar.TheVariants.{At, Nothing}
+use Rattle.refusals.specs.declared.Refusal.TheVariants.{NameTaken, OverLimit}
 use Rattle.lookups.proofs.Rows.{ivars_are, class-is}
 
 -- the three stores
@@ -160,7 +158,7 @@ module _ {m m' : List ℕ} {c : Counts} {k : ℕ} (n : Name) (r : ProgramReady m
         instructions = same-instructions s i;
       }
 
-  ivar_ready : ProgramReady m' c
+  pub ivar_ready : ProgramReady m' c
   ivar_ready =
       record {
         len_mem = rw p.len_same r.len_mem;
@@ -188,30 +186,34 @@ module _ {m m' : List ℕ} {c : Counts} {k : ℕ} (n : Name) (r : ProgramReady m
 
 -- ---- the rules' action
 
-has_some : {o : Option ℕ} {j : ℕ} → o ≡ some j → has o ≡ true
-has_some e = rw e
+found_has : (o : Option ℕ) {r : Bool} → r ≡ is_some o → has (ivar_found o) ≡ r
+found_has (Some j) e = sym e
+found_has None e = sym e
 
 count-is : (s m : List ℕ) (c : Counts) (k : ℕ) → k < c.classes → length (P.class (program_view s m c) k).ivars ≡ ivars_of m k
 count-is s m c k h = ap length (ivars_are s m c k h) ∙ tab-length (ivar_row s m k) (ivars_of m k)
 
-module _ (l : Limits) (s m : List ℕ) (c : Counts) (k : ℕ) (n : Name) {q : FoundIvar} (found : ivar_found q ≡ ivar_named (program_view s m c) k (name_in s n)) where
-  pub ivar_taken : {j : ℕ} → q ≡ At j → Declares l k n s m c m (Refused 7)
+module _ (l : Limits) (s m : List ℕ) (c : Counts) (k : ℕ) (n : Name) (q : Option ℕ) {t : Bool} {s' m' : List ℕ} {c' : Counts} (es : s' ≡ s) (em : m' ≡ m) (ec : c' ≡ c)
+    (found : ivar_found q ≡ ivar_named (program_view s' m' c') k (name_in s' n)) (tested : t ≡ is_some q) where
+  has-is : has (ivar_named (program_view s m c) k (name_in s n)) ≡ t
+  has-is =
+      let same : ivar_named (program_view s' m' c') k (name_in s' n) ≡ ivar_named (program_view s m c) k (name_in s n) = λ i. ivar_named (program_view (es i) (em i) (ec i)) k (name_in (es i) n) in
+      ap (has {A = ℕ}) (sym same ∙ sym found) ∙ found_has q tested
+
+  pub ivar_taken : t ≡ true → Declares l k n s m c m (Err NameTaken)
   unfolding push_ivar
-  ivar_taken e = record { is = λ r. rw (has_some (sym found ∙ ap ivar_found e)); ok = tt }
+  ivar_taken e = record { is = λ r. rw (has-is ∙ e); ok = tt }
 
-  module _ (e : q ≡ Nothing) (hk : k < c.classes) where
-    free : has (ivar_named (program_view s m c) k (name_in s n)) ≡ false
-    free = ap (has {A = ℕ}) (sym found ∙ ap ivar_found e)
-
-    pub ivar_full : l.ivars ≤ ivars_of m k → Declares l k n s m c m (Refused 11)
+  module _ (e : t ≡ false) (hk : k < c.classes) where
+    pub ivar_full : l.ivars ≤ ivars_of m k → Declares l k n s m c m (Err OverLimit)
     unfolding push_ivar
-    ivar_full h = record { is = λ r. rw (free, count-is s m c k hk, le-ltb (ivars_of m k) l.ivars h); ok = tt }
+    ivar_full h = record { is = λ r. rw (has-is ∙ e, count-is s m c k hk, le-ltb (ivars_of m k) l.ivars h); ok = tt }
 
-    pub ivar_done : {m' : List ℕ} → ProgramReady m c → Small l → ivars_of m k < l.ivars → PutsIvar k (ivars_of m k) n m m' → Declares l k n s m c m' Done
+    pub ivar_done : {m' : List ℕ} → ProgramReady m c → Small l → ivars_of m k < l.ivars → PutsIvar k (ivars_of m k) n m m' → Declares l k n s m c m' (Ok tt)
     unfolding push_ivar
     ivar_done ready small h p =
         let few : ivars_of m k < ivars_most = omega (arith, small.ivars) in
         record {
-          is = λ r. rw (free, count-is s m c k hk, lt-ltb (ivars_of m k) l.ivars h) (ap (λ (v : P.Program). answered (tt, with_program v r)) (ivar_view n ready hk few p s));
+          is = λ r. rw (has-is ∙ e, count-is s m c k hk, lt-ltb (ivars_of m k) l.ivars h) (ap (λ (v : P.Program). answered (tt, with_program v r)) (ivar_view n ready hk few p s));
           ok = ivar_ready n ready hk few p;
         }

@@ -1,44 +1,39 @@
 -- What look-ups find, and an attribute that is declared. Assumes nothing.
-use Rattle.std.specs.Prelude.{Bool as 𝔹, not, ◌&&◌, ◌≡◌, List, ℕ, ◌+◌, ◌*◌, length, get_or}
-use Rattle.std.proofs.Math.Option.{Option, none, some}
+use Rattle.std.specs.Prelude.{Bool as 𝔹, not, ◌&&◌, ◌≡◌, List, ℕ, ◌+◌, ◌*◌, length, get_or, Option, Some, None, Result, Ok, Err}
+use Rattle.std.proofs.Math.Option as M
+use Rattle.std.proofs.Math.Option.{none, some}
+use Rattle.ids.specs.declared.ClassId.{ClassId}
+use Rattle.ids.specs.declared.FunId.{FunId}
+use Rattle.refusals.specs.Refusals.{number_of}
+use Rattle.refusals.specs.declared.Refusal.{Refusal}
 use Rattle.rules.specs.Actions.{Answer, answered, refused}
 use Rattle.rules.specs.Lists.{bytes, same, has, is_just}
 use Rattle.rules.specs.Program as P
 use Rattle.rules.specs.Program.{terminated, constructor_of}
 use Rattle.rules.specs.Reading.{Parser, with_program, with_class, class_named, push_ivar}
 use Rattle.program.specs.declared.Name.{Name}
-use Rattle.program.specs.declared.Owner.{Owner}
-use Rattle.program.specs.declared.Limits.{Limits}
+use Rattle.program.specs.declared.bounds.Limits.{Limits}
 use Rattle.program.specs.declared.Counts.{Counts}
 use Rattle.program.specs.Rows.{name_in, owner_in, fun_at, function_in, ivar_at, ivars_of}
 use Rattle.program.specs.View.{program_view, ProgramReady, limits_of}
 use Rattle.program.specs.Layout.{classes_at, ivars_at, class_words, ivar_row_words}
-use Rattle.lookups.specs.declared.FoundFun.{FoundFun}
-use Rattle.lookups.specs.declared.FoundFun.TheVariants as F
-use Rattle.lookups.specs.declared.Constructor.{Constructor}
-use Rattle.lookups.specs.declared.Constructor.TheVariants as K
-use Rattle.lookups.specs.declared.FoundClass.{FoundClass}
-use Rattle.lookups.specs.declared.FoundClass.TheVariants as C
-use Rattle.lookups.specs.declared.FoundIvar.{FoundIvar}
-use Rattle.lookups.specs.declared.FoundIvar.TheVariants as I
-use Rattle.lookups.specs.declared.Declared.{Declared}
-use Rattle.lookups.specs.declared.Declared.TheVariants.{Done, Refused}
 
-abbrev pub fun_found : FoundFun → Option ℕ
-fun_found (F.At f) = some f.0
-fun_found F.Nothing = none
+-- what was found, in the rules' words
+abbrev pub fun_found : Option FunId → M.Option ℕ
+fun_found (Some f) = some f.0
+fun_found None = none
 
-abbrev pub constructor_found : Constructor → Option ℕ
-constructor_found (K.At f n) = some f.0
-constructor_found K.Nothing = none
+abbrev pub constructor_found : Option (FunId × Name) → M.Option ℕ
+constructor_found (Some p) = some p.0.0
+constructor_found None = none
 
-abbrev pub class_found : FoundClass → Option ℕ
-class_found (C.At c) = some c.0
-class_found C.Nothing = none
+abbrev pub ivar_found : Option ℕ → M.Option ℕ
+ivar_found (Some j) = some j
+ivar_found None = none
 
-abbrev pub ivar_found : FoundIvar → Option ℕ
-ivar_found (I.At j) = some j
-ivar_found I.Nothing = none
+-- the name that stands at a word of the tables
+abbrev pub name_at : List ℕ → ℕ → Name
+name_at m i = record { start = get_or m i 0; len = get_or m (i + 1) 0 }
 
 -- rows, and the tests of them
 unfoldable pub fun_row : List ℕ → List ℕ → ℕ → P.Function
@@ -63,15 +58,15 @@ unfoldable pub is_ivar : List ℕ → List ℕ → 𝔹
 is_ivar n m = same m n
 
 -- the class being read is not yet known
-pub record LookKnown (s m : List ℕ) (c : Counts) (k : Owner) (n : Name) (r : FoundClass) : Type 0 where
-  pub is : (p : Parser) → class_found r ≡ class_named (with_class (owner_in k) (with_program (program_view s m c) p)) (name_in s n)
+pub record LookKnown (s m : List ℕ) (c : Counts) (k : Option ClassId) (n : Name) (r : Option ClassId) : Type 0 where
+  pub is : (p : Parser) → owner_in r ≡ class_named (with_class (owner_in k) (with_program (program_view s m c) p)) (name_in s n)
 
 -- a constructor is found with the place of its name
-abbrev pub IsNamed : List ℕ → Constructor → Type 0
-IsNamed s (K.At f n) = name_in s n ≡ bytes "initialize"
-IsNamed s K.Nothing = Unit {0}
+abbrev pub IsNamed : List ℕ → Option (FunId × Name) → Type 0
+IsNamed s (Some p) = name_in s p.1 ≡ bytes "initialize"
+IsNamed s None = Unit {0}
 
-pub record Constructs (s m : List ℕ) (c : Counts) (k : ℕ) (r : Constructor) : Type 0 where
+pub record Constructs (s m : List ℕ) (c : Counts) (k : ℕ) (r : Option (FunId × Name)) : Type 0 where
   pub is : constructor_found r ≡ constructor_of (program_view s m c) k
   pub named : IsNamed s r
 
@@ -87,14 +82,14 @@ pub record PutsIvar (k j : ℕ) (n : Name) (m m' : List ℕ) : Type 0 where
   pub here : ivar_at m' k j ≡ n
   pub count : ivars_of m' k ≡ j + 1
 
-abbrev pub declares : List ℕ → List ℕ → Counts → Declared → Parser → Answer (Unit {0} × Parser)
-declares s m c Done r = answered (tt, with_program (program_view s m c) r)
-declares s m c (Refused e) r = refused e
+abbrev pub declares : List ℕ → List ℕ → Counts → Result (Unit {0}) Refusal → Parser → Answer (Unit {0} × Parser)
+declares s m c (Ok u) r = answered (tt, with_program (program_view s m c) r)
+declares s m c (Err e) r = refused (number_of e)
 
-abbrev pub LookReadyIf : List ℕ → Counts → Declared → Type 0
-LookReadyIf m c Done = ProgramReady m c
-LookReadyIf m c (Refused e) = Unit {0}
+abbrev pub LookReadyIf : List ℕ → Counts → Result (Unit {0}) Refusal → Type 0
+LookReadyIf m c (Ok u) = ProgramReady m c
+LookReadyIf m c (Err e) = Unit {0}
 
-pub record Declares (l : Limits) (k : ℕ) (n : Name) (s m : List ℕ) (c : Counts) (m' : List ℕ) (d : Declared) : Type 0 where
+pub record Declares (l : Limits) (k : ℕ) (n : Name) (s m : List ℕ) (c : Counts) (m' : List ℕ) (d : Result (Unit {0}) Refusal) : Type 0 where
   pub is : (r : Parser) → declares s m' c d r ≡ push_ivar (limits_of l) k (name_in s n) (with_program (program_view s m c) r)
   pub ok : LookReadyIf m' c d

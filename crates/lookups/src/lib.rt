@@ -1,316 +1,197 @@
 // Look-ups in the program's tables by name, and attributes, which are looked up before they are declared.
 #![tactic(auto)]
 
-ghost use Rattle.std.specs.Prelude.{◌≡◌, ◌+◌, ◌*◌, ◌≤◌, ◌<◌, min, length};
-ghost use Rattle.rules.specs.Lists.{bytes, or_else};
+ghost use Rattle.std.specs.Prelude.{◌≡◌, true, ◌+◌, ◌*◌, ◌≤◌, ◌<◌, min, length, IfSome};
+ghost use Rattle.rules.specs.Lists.{bytes, or_else, same};
 ghost use Rattle.rules.specs.Program.{function_named, method_named, ivar_named, main_function};
 ghost use Rattle.program.specs.Rows.{name_in, owner_in, class_at};
-ghost use Rattle.program.specs.View.{program_view, ProgramReady, Small};
+ghost use Rattle.program.specs.View.{program_view, ProgramReady};
+ghost use Rattle.program.specs.Drafts.{DraftKept};
 ghost use Rattle.memory.specs.Layout.{functions_most, classes_most, ivars_most};
 ghost use Rattle.program.specs.Layout.{program_size};
-ghost use Rattle.lookups.specs.Look.{fun_found, ivar_found, fun_row, ivar_row, is_fun, is_method, is_main, is_class, is_ivar, LookKnown, Constructs, LookTells, PutsIvar, Declares};
+ghost use Rattle.lookups.specs.Look.{name_at, fun_found, ivar_found, fun_row, ivar_row, is_fun, is_method, is_main, is_class, is_ivar, LookKnown, Constructs, LookTells, PutsIvar, Declares};
 
 use ids::{BlockId, ClassId, FunId};
-use program::{Counts, Limits, Name, Owner};
-
-#[derive(Clone, Copy)]
-pub enum FoundFun {
-    At(FunId),
-    Nothing,
-}
-
-#[derive(Clone, Copy)]
-pub enum Constructor {
-    At(FunId, Name),
-    Nothing,
-}
-
-#[derive(Clone, Copy)]
-pub enum FoundClass {
-    At(ClassId),
-    Nothing,
-}
-
-// An attribute's place in its class.
-#[derive(Clone, Copy)]
-pub enum FoundIvar {
-    At(usize),
-    Nothing,
-}
-
-#[derive(Clone, Copy)]
-pub enum Declared {
-    Done,
-    Refused(usize),
-}
+use program::{Draft, Name, Program};
+use refusals::Refusal;
 
 // ---- tests of a row
 
-fn fun_is(script: &[u8], program: &[usize], f: FunId, n: Name) -> bool
-    requires program_size_in_bounds { program_size ≤ length program.now }
-    requires f_lt_functions_most { f.0 < functions_most }
-    ensures { result ≡ is_fun (name_in script.now n) (fun_row script.now program.now f.0) }
+// Whether the name that stands at a word of the tables has these bytes.
+fn spells_at(program: &Program, at: usize, wanted: &[u8]) -> bool
+    requires { at + 1 < length program.now.words.now }
+    ensures { result ≡ same (name_in program.now.script.now (name_at program.now.words.now at)) wanted.now }
+{
+    lexer::spells(
+        program.script,
+        program.words[at],
+        program.words[at + 1],
+        wanted,
+    )
+}
+
+fn is_fun(program: &Program, f: FunId, wanted: &[u8]) -> bool
+    requires { f.0 < functions_most }
+    ensures { result ≡ is_fun wanted.now (fun_row program.now.script.now program.now.words.now f.0) }
+{
+    spells_at(
+        program,
+        program::FUNCTIONS + program::FUNCTION_WORDS * (f.0 as usize),
+        wanted,
+    )
+}
+
+fn is_method(program: &Program, f: FunId, k: ClassId, wanted: &[u8]) -> bool
+    requires { f.0 < functions_most }
+    ensures { result ≡ is_method k.0 wanted.now (fun_row program.now.script.now program.now.words.now f.0) }
 {
     let at = program::FUNCTIONS + program::FUNCTION_WORDS * (f.0 as usize);
-    lexer::same_name(script, program[at], program[at + 1], n.start, n.len)
+    program::is_owned(program.words[at + 2], k) && spells_at(program, at, wanted)
 }
 
-fn method_is(
-    script: &[u8],
-    program: &[usize],
-    counts: Counts,
-    f: FunId,
-    k: ClassId,
-    n: Name,
-) -> bool
-    requires program_ready { ProgramReady program.now counts }
-    requires f_lt_functions { f.0 < counts.functions }
-    ensures { result ≡ is_method k.0 (name_in script.now n) (fun_row script.now program.now f.0) }
+fn is_main(program: &Program, f: FunId) -> bool
+    requires { f.0 < program.now.counts.functions }
+    ensures { result ≡ is_main (fun_row program.now.script.now program.now.words.now f.0) }
 {
-    let at = program::FUNCTIONS + program::FUNCTION_WORDS * (f.0 as usize);
-    if program::is_owned(program[at + 2], k) {
-        return lexer::same_name(script, program[at], program[at + 1], n.start, n.len);
-    }
-    false
+    is_fun(program, f, b"main") && program.fun(f).class.is_none()
 }
 
-fn constructor_is(script: &[u8], program: &[usize], counts: Counts, f: FunId, k: ClassId) -> bool
-    requires program_ready { ProgramReady program.now counts }
-    requires f_lt_functions { f.0 < counts.functions }
-    ensures { result ≡ is_method k.0 (bytes "initialize") (fun_row script.now program.now f.0) }
+fn is_class(program: &Program, k: ClassId, wanted: &[u8]) -> bool
+    requires { k.0 < classes_most }
+    ensures { result ≡ is_class wanted.now (class_at program.now.script.now program.now.words.now k.0) }
 {
-    let at = program::FUNCTIONS + program::FUNCTION_WORDS * (f.0 as usize);
-    if program::is_owned(program[at + 2], k) {
-        return lexer::spells(script, program[at], program[at + 1], b"initialize");
-    }
-    false
+    spells_at(
+        program,
+        program::CLASSES + program::CLASS_WORDS * (k.0 as usize),
+        wanted,
+    )
 }
 
-fn main_is(script: &[u8], program: &[usize], counts: Counts, f: FunId) -> bool
-    requires program_ready { ProgramReady program.now counts }
-    requires f_lt_functions { f.0 < counts.functions }
-    ensures { result ≡ is_main (fun_row script.now program.now f.0) }
+fn is_ivar(program: &Program, k: ClassId, j: usize, wanted: &[u8]) -> bool
+    requires { (k.0 < classes_most) × (j < ivars_most) }
+    ensures { result ≡ is_ivar wanted.now (ivar_row program.now.script.now program.now.words.now k.0 j) }
 {
-    let row = program::read_fun(program, counts, f);
-    let class = row.class;
-    let name = row.name;
-    if lexer::spells(script, name.start, name.len, b"main") {
-        match class {
-            Owner::Class(_) => false,
-            Owner::Nobody => true,
-        }
-    } else {
-        false
-    }
-}
-
-fn class_is(script: &[u8], program: &[usize], k: ClassId, n: Name) -> bool
-    requires program_size_in_bounds { program_size ≤ length program.now }
-    requires k_lt_classes_most { k.0 < classes_most }
-    ensures { result ≡ is_class (name_in script.now n) (class_at script.now program.now k.0) }
-{
-    let at = program::CLASSES + program::CLASS_WORDS * (k.0 as usize);
-    lexer::same_name(script, program[at], program[at + 1], n.start, n.len)
-}
-
-fn ivar_is(script: &[u8], program: &[usize], k: ClassId, j: usize, n: Name) -> bool
-    requires program_size_in_bounds { program_size ≤ length program.now }
-    requires k_lt_classes_most { (k.0 < classes_most) × (j < ivars_most) }
-    ensures { result ≡ is_ivar (name_in script.now n) (ivar_row script.now program.now k.0 j) }
-{
-    let at = program::IVARS + program::IVAR_ROW_WORDS * (k.0 as usize) + 2 * j;
-    lexer::same_name(script, program[at], program[at + 1], n.start, n.len)
+    let at = program::IVARS + program::IVAR_ROW_WORDS * (k.0 as usize) + program::NAME_WORDS * j;
+    spells_at(program, at, wanted)
 }
 
 // ---- look-ups
 
 // The latest function of a name, methods too.
-pub fn function_named(script: &[u8], program: &[usize], counts: Counts, n: Name) -> FoundFun
-    requires { ProgramReady program.now counts }
-    ensures { fun_found result ≡ function_named (program_view script.now program.now counts) (name_in script.now n) }
+pub fn function_named(program: &Program, n: Name) -> Option<FunId>
+    ensures { fun_found result ≡ function_named (program_view program.now.script.now program.now.words.now program.now.counts) (name_in program.now.script.now n) }
 {
-    let mut i = counts.functions;
-    while 0 < i {
-        i -= 1;
-        let f = FunId(i as u32);
-        if fun_is(script, program, f, n) {
-            return FoundFun::At(f);
-        }
-    }
-    FoundFun::Nothing
+    let wanted = lexer::bytes_at(program.script, n.start, n.len);
+    let i = (0..program.counts.functions)
+        .rev()
+        .find(|i| is_fun(program, FunId(*i as u32), wanted))?;
+    Some(FunId(i as u32))
+}
+
+// The method of a class whose name has these bytes.
+fn method(program: &Program, k: ClassId, wanted: &[u8]) -> Option<FunId>
+    ensures is { fun_found result ≡ method_named (program_view program.now.script.now program.now.words.now program.now.counts) k.0 wanted.now }
+    ensures here { IfSome result (λ f. (f.0 < program.now.counts.functions) × (is_method k.0 wanted.now (fun_row program.now.script.now program.now.words.now f.0) ≡ true)) }
+{
+    let from = program.first_function(k);
+    let i = (from..program.counts.functions).find(|i| is_method(
+        program,
+        FunId(*i as u32),
+        k,
+        wanted,
+    ))?;
+    Some(FunId(i as u32))
 }
 
 // The method of a class.
-pub fn method_named(
-    script: &[u8],
-    program: &[usize],
-    counts: Counts,
-    k: ClassId,
-    n: Name,
-) -> FoundFun
-    requires { ProgramReady program.now counts }
-    ensures { fun_found result ≡ method_named (program_view script.now program.now counts) k.0 (name_in script.now n) }
+pub fn method_named(program: &Program, k: ClassId, n: Name) -> Option<FunId>
+    ensures { fun_found result ≡ method_named (program_view program.now.script.now program.now.words.now program.now.counts) k.0 (name_in program.now.script.now n) }
 {
-    let most = counts.functions;
-    let mut i = program::first_function(program, counts, k);
-    while i < most {
-        let f = FunId(i as u32);
-        if method_is(script, program, counts, f, k, n) {
-            return FoundFun::At(f);
-        }
-        i += 1;
-    }
-    FoundFun::Nothing
+    method(program, k, lexer::bytes_at(program.script, n.start, n.len))
 }
 
 // The constructor of a class, and the place of its name, which a call of it bears.
-pub fn constructor_of(script: &[u8], program: &[usize], counts: Counts, k: ClassId) -> Constructor
-    requires { ProgramReady program.now counts }
-    ensures { Constructs script.now program.now counts k.0 result }
+pub fn constructor_of(program: &Program, k: ClassId) -> Option<(FunId, Name)>
+    ensures { Constructs program.now.script.now program.now.words.now program.now.counts k.0 result }
 {
-    let most = counts.functions;
-    let mut i = program::first_function(program, counts, k);
-    while i < most {
-        let f = FunId(i as u32);
-        if constructor_is(script, program, counts, f, k) {
-            let row = program::read_fun(program, counts, f);
-            let name = row.name;
-            return Constructor::At(f, name);
-        }
-        i += 1;
-    }
-    Constructor::Nothing
+    let f = method(program, k, b"initialize")?;
+    Some((f, program.fun(f).name))
 }
 
 // The last `main` outside of classes, else function 0.
-pub fn main_function(script: &[u8], program: &[usize], counts: Counts) -> FunId
-    requires { ProgramReady program.now counts }
-    ensures { result.0 ≡ main_function (program_view script.now program.now counts) }
+pub fn main_function(program: &Program) -> FunId
+    ensures { result.0 ≡ main_function (program_view program.now.script.now program.now.words.now program.now.counts) }
 {
-    let mut i = counts.functions;
-    while 0 < i {
-        i -= 1;
-        let f = FunId(i as u32);
-        if main_is(script, program, counts, f) {
-            return f;
-        }
-    }
-    FunId(0)
+    let found = (0..program.counts.functions)
+        .rev()
+        .find(|i| is_main(program, FunId(*i as u32)));
+    FunId(found.unwrap_or(0) as u32)
 }
 
-// How many classes a look-up knows: while a class is read, those before it.
-fn known(counts: Counts, k: Owner) -> usize
-    ensures { result ≡ min (or_else (owner_in k) counts.classes) counts.classes }
+// How many of n classes a look-up knows: while a class is read, those before it.
+fn known(n: usize, k: Option<ClassId>) -> usize
+    ensures { result ≡ min (or_else (owner_in k) n) n }
 {
-    let most = counts.classes;
-    match k {
-        Owner::Class(x) => {
-            let i = x.0 as usize;
-            if i < most {
-                return i;
-            }
-            most
-        }
-        Owner::Nobody => most,
-    }
+    k.map_or(n, |k| n.min(k.0 as usize))
 }
 
 // The latest class of a name; `k` is the class being read, which is not yet known.
-pub fn class_named(
-    script: &[u8],
-    program: &[usize],
-    counts: Counts,
-    k: Owner,
-    n: Name,
-) -> FoundClass
-    requires { ProgramReady program.now counts }
-    ensures { LookKnown script.now program.now counts k n result }
+pub fn class_named(program: &Program, k: Option<ClassId>, n: Name) -> Option<ClassId>
+    ensures { LookKnown program.now.script.now program.now.words.now program.now.counts k n result }
 {
-    let most = known(counts, k);
-    let mut i = most;
-    while 0 < i {
-        i -= 1;
-        let x = ClassId(i as u32);
-        if class_is(script, program, x, n) {
-            return FoundClass::At(x);
-        }
-    }
-    FoundClass::Nothing
+    let wanted = lexer::bytes_at(program.script, n.start, n.len);
+    let i = (0..known(program.counts.classes, k))
+        .rev()
+        .find(|i| is_class(program, ClassId(*i as u32), wanted))?;
+    Some(ClassId(i as u32))
 }
 
 // The place of a class's attribute.
-pub fn ivar_named(
-    script: &[u8],
-    program: &[usize],
-    counts: Counts,
-    k: ClassId,
-    n: Name,
-) -> FoundIvar
-    requires program_ready { ProgramReady program.now counts }
-    requires k_lt_classes { k.0 < counts.classes }
-    ensures { ivar_found result ≡ ivar_named (program_view script.now program.now counts) k.0 (name_in script.now n) }
+pub fn ivar_named(program: &Program, k: ClassId, n: Name) -> Option<usize>
+    requires { k.0 < program.now.counts.classes }
+    ensures { ivar_found result ≡ ivar_named (program_view program.now.script.now program.now.words.now program.now.counts) k.0 (name_in program.now.script.now n) }
 {
     let at = program::CLASSES + program::CLASS_WORDS * (k.0 as usize);
-    let most = program[at + 2];
-    let mut j = 0;
-    while j < most {
-        if ivar_is(script, program, k, j, n) {
-            return FoundIvar::At(j);
-        }
-        j += 1;
-    }
-    FoundIvar::Nothing
+    let wanted = lexer::bytes_at(program.script, n.start, n.len);
+    (0..program.words[at + 2]).find(|j| is_ivar(program, k, *j, wanted))
 }
 
-pub fn is_terminated(program: &[usize], counts: Counts, b: BlockId) -> bool
-    requires program_ready { ProgramReady program.now counts }
-    requires b_lt_blocks { b.0 < counts.blocks }
-    ensures { LookTells program.now counts b.0 result }
+pub fn is_terminated(program: &Program, b: BlockId) -> bool
+    requires { b.0 < program.now.counts.blocks }
+    ensures { LookTells program.now.words.now program.now.counts b.0 result }
 {
-    let at = program::BLOCKS + 2 * (b.0 as usize);
-    program[at + 1] != 0
+    let at = program::BLOCKS + program::BLOCK_WORDS * (b.0 as usize);
+    program.words[at + 1] != 0
 }
 
 // ---- attributes
 
-fn put_ivar(program: &mut [usize], k: ClassId, j: usize, n: Name)
-    requires program_size_in_bounds { program_size ≤ length program.old }
+fn put_ivar(words: &mut [usize], k: ClassId, j: usize, n: Name)
+    requires program_size_in_bounds { program_size ≤ length words.old }
     requires k_lt_classes_most { (k.0 < classes_most) × (j < ivars_most) }
-    ensures { PutsIvar k.0 j n program.old program.new }
+    ensures { PutsIvar k.0 j n words.old words.new }
 {
     let x = k.0 as usize;
-    let at = program::IVARS + program::IVAR_ROW_WORDS * x + 2 * j;
-    let row = program::CLASSES + program::CLASS_WORDS * x;
-    program[at] = n.start;
-    program[at + 1] = n.len;
-    program[row + 2] = j + 1;
+    let at = program::IVARS + program::IVAR_ROW_WORDS * x + program::NAME_WORDS * j;
+    words[at] = n.start;
+    words[at + 1] = n.len;
+    words[program::CLASSES + program::CLASS_WORDS * x + 2] = j + 1;
 }
 
 // An attribute of class k, or 7 or 11.
-pub fn push_ivar(
-    script: &[u8],
-    program: &mut [usize],
-    counts: Counts,
-    limits: Limits,
-    k: ClassId,
-    n: Name,
-) -> Declared
-    requires program_ready { ProgramReady program.old counts }
-    requires small { Small limits }
-    requires k_lt_classes { k.0 < counts.classes }
-    ensures { Declares limits k.0 n script.now program.old counts program.new result }
+pub fn push_ivar(draft: &mut Draft, script: &[u8], k: ClassId, n: Name) -> Result<(), Refusal>
+    requires { k.0 < draft.old.counts.classes }
+    ensures kept { DraftKept draft.old draft.new }
+    ensures counts { draft.new.counts ≡ draft.old.counts }
+    ensures declares { Declares draft.old.limits k.0 n script.now draft.old.words.now draft.old.counts draft.new.words.now result }
 {
-    match ivar_named(script, program, counts, k, n) {
-        FoundIvar::At(_) => {
-            return Declared::Refused(7);
-        }
-        FoundIvar::Nothing => {}
+    if ivar_named(&draft.program(script), k, n).is_some() {
+        return Err(Refusal::NameTaken);
     }
-    let row = program::CLASSES + program::CLASS_WORDS * (k.0 as usize);
-    let j = program[row + 2];
-    if limits.ivars <= j {
-        return Declared::Refused(11);
+    let j = draft.words[program::CLASSES + program::CLASS_WORDS * (k.0 as usize) + 2];
+    if draft.limits.ivars <= j {
+        return Err(Refusal::OverLimit);
     }
-    put_ivar(program, k, j, n);
-    Declared::Done
+    put_ivar(draft.words, k, j, n);
+    Ok(())
 }

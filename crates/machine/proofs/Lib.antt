@@ -1,3 +1,2 @@
-pub mod Fitting
 pub mod Storing
 pub mod States

@@ -8,10 +8,10 @@ use lib.ListN.{length, get_or, take}
 use lib.Seq.{slice, length-slice, get_or-drop, get_or-take, ext_get_or}
 use Rattle.kinds.specs.declared.Kind.{Kind}
 use Rattle.kinds.specs.declared.Kind.TheVariants.{Empty}
-use Rattle.kinds.specs.declared.Joined.{Joined}
-use Rattle.kinds.specs.declared.Joined.TheVariants.{Of, Refused}
+use Rattle.std.specs.Prelude.{Result, Ok, Err}
+use Rattle.refusals.specs.declared.Refusal.{Refusal}
 use Rattle.kinds.specs.Kinds.{same_kind}
-use Rattle.kinds.specs.Union.{union_of}
+use Rattle.kinds.specs.Union.{Joined, union_of}
 use Rattle.rules.specs.Lists.{cons_if, places_from}
 use Rattle.rules.specs.Program.{Program, Instruction}
 use Rattle.rules.specs.Uses.{uses}
@@ -23,17 +23,15 @@ use Rattle.program.specs.declared.Row.{Row}
 use Rattle.program.proofs.Tables.{tab-at, tab-length}
 use Rattle.uses.specs.Users.{words}
 use Rattle.state.specs.declared.Sizes.{Sizes}
-use Rattle.state.specs.declared.Regs.{Regs}
-use Rattle.state.specs.declared.Acted.{Acted}
-use Rattle.state.specs.declared.Acted.TheVariants.{On, Refused as No}
-use Rattle.state.specs.View as Held
+use Rattle.state.specs.declared.State.{State}
 use Rattle.state.specs.View.{Attrs, kinds_of}
-use Rattle.state.specs.Changes.{StatePut, StateDid, Every, Listing, Homes, HomesOf, UsersOf, push_where, push_live}
-use Rattle.state.proofs.Wakes.{store-refused, store_same, store-new}
+use Rattle.state.specs.Changes.{Listing, HomesOf, push_live}
+use Rattle.state.specs.Methods.{view, Put, Did}
+use Rattle.state.proofs.Wakes.{keep_no, keep-old, keep-new}
+use Rattle.state.proofs.Methods.{along_start, along_put, along_last, along_end, along_refused}
 use Rattle.answer.specs.Layout.{starts_at, users_at}
 use Rattle.memory.specs.Layout.{uses_most}
 use Rattle.machine.specs.Analysed.{MachineSized, homes_of, Users, TablesOf}
-use Rattle.machine.proofs.Fitting.{did-fits}
 
 -- ---- lists
 
@@ -66,16 +64,6 @@ module _ (p : List ℕ) (c : Counts) (z : Sizes) (r : ProgramReady p c) (e : Mac
   unfolding homes_of
   home_at i h = tab-at (λ i. (insn_at p i).block.0) c.insns i 0 h
 
-  homes_long : length (homes_of p c) ≡ c.insns
-  unfolding homes_of
-  homes_long = tab-length (λ i. (insn_at p i).block.0) c.insns
-
-  pub homes_are : Homes z (homes_of p c)
-  homes_are = record {
-    long = omega (arith, homes_long, e.insns);
-    below = λ i h. let k : i < c.insns = omega (arith, e.insns) in rw (home_at i k) (omega (arith, r.inside i k, e.blocks));
-  }
-
   pub homes_of_lem : (s : List ℕ) (v : Attrs) → HomesOf z (homes_of p c) (program_view s p c) v
   unfolding instructions_of instruction_at
   homes_of_lem s v = record {
@@ -83,13 +71,8 @@ module _ (p : List ℕ) (c : Counts) (z : Sizes) (r : ProgramReady p c) (e : Mac
   }
 
   -- the block that a row has
-  pub at_home : {m w : List ℕ} {q : Regs} {x : Acted} {j : ℕ} {row : Row} → j < z.insns → ReadsInsn p c j row → StateDid z Every (λ L P. push_where L P row.block.0 j) m q w x
-      → StateDid z Every (λ L P. push_where L P (get_or (homes_of p c) j 0) j) m q w x
-  at_home {m} {w} {q} {x} {j} {row} h g d =
-      subst (λ (b : ℕ). StateDid z Every (λ L P. push_where L P b j) m q w x) (ap (λ (y : Row). y.block.0) g.row ∙ sym (home_at j (omega (arith, e.insns)))) d
-
-  pub row_below : {j : ℕ} → j < z.insns → j < c.insns
-  row_below h = omega (arith, e.insns)
+  pub at_home : {j : ℕ} {row : Row} → j < z.insns → ReadsInsn p c j row → row.block.0 ≡ get_or (homes_of p c) j 0
+  at_home {j} h g = ap (λ (y : Row). y.block.0) g.row ∙ sym (home_at j (omega (arith, e.insns)))
 
   pub block-below : {j : ℕ} {row : Row} → ReadsInsn p c j row → row.block.0 < z.blocks
   block-below g = omega (arith, g.inside, e.blocks)
@@ -146,32 +129,30 @@ module _ (p : List ℕ) (c : Counts) (u : List ℕ) (g : Users p c u) where
     pub users-listed : (z : Sizes) → MachineSized c z → Listing z u (users_at + get_or u (starts_at + i) 0) (users_at + get_or u (starts_at + (i + 1)) 0)
     users-listed z e = record { order = omega (arith, g.rises i h); last = inside; below = λ k a b. omega (arith, user_at k a b, e.insns) }
 
-    pub users_of_lem : (z : Sizes) → ProgramReady p c → MachineSized c z → (P : Program) (v : Attrs) → TablesOf p c P v → UsersOf z u from to (homes_of p c) i P v
-    users_of_lem z r e P v t =
-        subst (λ (Q : Program). UsersOf z u from to (homes_of p c) i Q v) (sym t.is) (record { users = users_are t.script; blocks = homes_of_lem p c z r e t.script v })
+  pub users_listed_at : (z : Sizes) → MachineSized c z → (i : ℕ) → i < z.insns → Listing z u (users_at + get_or u (starts_at + i) 0) (users_at + get_or u (starts_at + (i + 1)) 0)
+  users_listed_at z e i h = users-listed i (omega (arith, e.insns)) z e
 
 -- ---- the ways through store
 
-module _ (p : List ℕ) (c : Counts) (u : List ℕ) (z : Sizes) (g : Users p c u) (r : ProgramReady p c) (e : MachineSized c z) (m : List ℕ) (q : Regs) (i : ℕ) (k : Kind) (h : i < z.insns)
-    {o : Kind} {j : Joined} (eo : o ≡ get_or (kinds_of z m) i Empty) (ej : j ≡ union_of o k) where
-  lt : i < c.insns
-  lt = omega (arith, e.insns)
+module _ (p : List ℕ) (c : Counts) (u : List ℕ) (s : State) (g : Users p c u) (r : ProgramReady p c) (e : MachineSized c s.sizes) (i : ℕ) (k : Kind) (h : i < s.sizes.insns)
+    {o : Kind} {j : Joined} (eo : o ≡ get_or (kinds_of s.sizes s.words.now) i Empty) (ej : j ≡ union_of o k) where
+  joined : {x : Joined} → j ≡ x → union_of (get_or (kinds_of s.sizes s.words.now) i Empty) k ≡ x
+  joined f = ap (λ (x : Kind). union_of x k) (sym eo) ∙ sym ej ∙ f
 
-  abbrev a : ℕ
-  a = users_at + get_or u (starts_at + i) 0
+  told : (w : Kind) {t : 𝔹} → same_kind w o ≡ t → same_kind w (get_or (kinds_of s.sizes s.words.now) i Empty) ≡ t
+  told w q = ap (same_kind w) (sym eo) ∙ q
 
-  abbrev b : ℕ
-  b = users_at + get_or u (starts_at + (i + 1)) 0
+  pub refused_way : (n : Refusal) → j ≡ Err n → Did (TablesOf p c) (λ L P. store L P i k) s s (Err n)
+  refused_way n f = along_refused (along_start s) n (λ L room P v t. keep_no L P k i (view v s) n (joined f))
 
-  pub refused_way : (n : ℕ) → j ≡ Refused n → StateDid z (TablesOf p c) (λ L P. store L P i k) m q m (No n)
-  refused_way n f = did-fits (users_of_lem p c u g i lt z r e) (store-refused z m q i k eo ej u (homes_of p c) a b n f)
+  pub same_way : (w : Kind) → j ≡ Ok w → same_kind w o ≡ true → Did (TablesOf p c) (λ L P. store L P i k) s s (Ok tt)
+  same_way w f q = along_end (along_start s) (λ L room P v t. keep-old L P k i (view v s) w (joined f) (told w q))
 
-  pub same_way : Held.StateReady z m q → (w : Kind) {t : 𝔹} → j ≡ Of w → t ≡ same_kind w o → t ≡ true → StateDid z (TablesOf p c) (λ L P. store L P i k) m q m (On q)
-  same_way ok w f s t = did-fits (users_of_lem p c u g i lt z r e) (store_same z m q i k eo ej u (homes_of p c) a b ok w f s t)
-
-  pub new_way : (w : Kind) {t : 𝔹} {m' m'' : List ℕ} {x : Acted} → j ≡ Of w → t ≡ same_kind w o → t ≡ false → StatePut z (set_kind i k) m m'
-      → StateDid z (HomesOf z (homes_of p c)) (λ L P. push_live L P (slice a b u)) m' q m'' x → StateDid z (TablesOf p c) (λ L P. store L P i k) m q m'' x
-  new_way w f s t put d = did-fits (users_of_lem p c u g i lt z r e) (store-new z m q i k eo ej u (homes_of p c) a b w f s t put d)
-
-pub put-ready : {z : Sizes} {i : ℕ} {k : Kind} {m w : List ℕ} {q : Regs} → StatePut z (set_kind i k) m w → Held.StateReady z m q → Held.StateReady z w q
-put-ready {q = q} s r = s.ok q r
+  pub new_way : (w : Kind) {t x : State} (a : Result (Unit {0}) Refusal) → j ≡ Ok w → same_kind w o ≡ false → Put (set_kind i k) s t
+      → Did (HomesOf t.sizes (homes_of p c)) (λ L P. push_live L P (slice (users_at + get_or u (starts_at + i) 0) (users_at + get_or u (starts_at + (i + 1)) 0) u)) t x a
+      → Did (TablesOf p c) (λ L P. store L P i k) s x a
+  new_way w {t} a f q put d =
+      let lt : i < c.insns = omega (arith, e.insns) in
+      along_last (along_put (along_start s) (λ L P. push_live L P (uses P i)) put (λ L room P v _. keep-new L P k i (view v s) w (joined f) (told w q))) a d
+      (λ P v y. rw put.lent.sizes (subst (λ (Q : Program). HomesOf s.sizes (homes_of p c) Q v) (sym y.is) (homes_of_lem p c s.sizes r e y.script v)))
+      (λ L room P v y. ap (λ (l : List ℕ). push_live L P l (view v t)) (sym (users_are p c u g i lt y.script ∙ ap (λ (Q : Program). uses Q i) (sym y.is))))

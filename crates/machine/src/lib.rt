@@ -4,19 +4,21 @@
 pub mod blocks;
 pub mod opnds;
 pub mod receivers;
+pub mod tables;
 
 ghost use Rattle.std.specs.Prelude.{◌≡◌, ◌<◌};
 ghost use Rattle.std.proofs.Math.Seq.{slice};
 ghost use Rattle.rules.specs.Machine.{store as stored};
-ghost use Rattle.program.specs.View.{ProgramReady};
-ghost use Rattle.state.specs.View.{StateReady};
-ghost use Rattle.state.specs.Changes.{StateDid, Listing, HomesOf, push_live};
+ghost use Rattle.state.specs.Changes.{Listing, HomesOf, push_live};
+ghost use Rattle.state.specs.Methods.{Did};
 ghost use Rattle.machine.specs.Analysed.{sizes_of, MachineSized, homes_of, Users, TablesOf};
 
 use ids::InsnId;
-use kinds::{Joined, Kind};
-use program::Counts;
-use state::{Acted, Regs, Sizes};
+use kinds::Kind;
+use program::{Counts, Program};
+use refusals::Refusal;
+use state::{Sizes, State};
+pub use tables::{Code, Tables};
 
 pub fn sizes(counts: Counts) -> Sizes
     ensures { result ≡ sizes_of counts }
@@ -31,71 +33,45 @@ pub fn sizes(counts: Counts) -> Sizes
 
 // The instructions of a part of a list wait whose blocks are live, or 20.
 fn push_users(
-    program: &[usize],
-    counts: Counts,
+    program: &Program,
     users: &[usize],
     from: usize,
     to: usize,
-    state: &mut [usize],
-    sizes: Sizes,
-    regs: Regs,
-) -> Acted
-    requires state_ready { StateReady sizes state.old regs }
-    requires program_ready { ProgramReady program.now counts }
-    requires machine_sized { MachineSized counts sizes }
-    requires listing { Listing sizes users.now from to }
-    ensures { StateDid sizes (HomesOf sizes (homes_of program.now counts)) (λ L P. push_live L P (slice from to users.now))
-        state.old regs state.new result }
+    state: &mut State,
+) -> Result<(), Refusal>
+    requires machine_sized { MachineSized program.now.counts state.old.sizes }
+    requires listing { Listing state.old.sizes users.now from to }
+    ensures { Did (HomesOf state.old.sizes (homes_of program.now.words.now program.now.counts)) (λ L P. push_live L P (slice from to users.now))
+        state.old state.new result }
 {
-    let mut at = regs;
-    let mut k = from;
-    while k < to {
+    for k in from..to {
         let j = InsnId(users[k] as u32);
-        let row = program::read_insn(program, counts, j);
-        let b = row.block;
-        match state::push_live(state, sizes, at, b, j) {
-            Acted::On(next) => {
-                at = next;
-            }
-            Acted::Refused(n) => {
-                return Acted::Refused(n);
-            }
-        }
-        k += 1;
+        state.push_live(program.insn(j).block, j)?;
     }
-    Acted::On(at)
+    Ok(())
 }
 
+// Stays: the sizes' clause is no ghost field, since tables and state are lent apart: so no change of the state has to promise that the tables stay.
 // Kind k is stored for instruction i, and its users in live blocks wait, if the union with the old kind is another.
 pub fn store(
-    program: &[usize],
-    counts: Counts,
+    program: &Program,
     users: &[usize],
-    state: &mut [usize],
-    sizes: Sizes,
-    regs: Regs,
+    state: &mut State,
     i: InsnId,
     k: Kind,
-) -> Acted
-    requires state_ready { StateReady sizes state.old regs }
-    requires program_ready { ProgramReady program.now counts }
-    requires machine_sized { MachineSized counts sizes }
-    requires users { Users program.now counts users.now }
-    requires i_lt_insns { i.0 < sizes.insns }
-    ensures { StateDid sizes (TablesOf program.now counts) (λ L P. stored L P i.0 k) state.old regs state.new result }
+) -> Result<(), Refusal>
+    requires machine_sized { MachineSized program.now.counts state.old.sizes }
+    requires users { Users program.now.words.now program.now.counts users.now }
+    requires i_lt_insns { i.0 < state.old.sizes.insns }
+    ensures { Did (TablesOf program.now.words.now program.now.counts) (λ L P. stored L P i.0 k) state.old state.new result }
 {
-    let old = state::kind_at(state, sizes, i);
-    match kinds::union(old, k) {
-        Joined::Of(w) => {
-            if w.same(old) {
-                return Acted::On(regs);
-            }
-            state::set_kind(state, sizes, i, k);
-            let n = i.0 as usize;
-            let from = answer::USERS + users[answer::STARTS + n];
-            let to = answer::USERS + users[answer::STARTS + (n + 1)];
-            push_users(program, counts, users, from, to, state, sizes, regs)
-        }
-        Joined::Refused(n) => Acted::Refused(n),
+    let old = state.kind_at(i);
+    if kinds::union(old, k)? == old {
+        return Ok(());
     }
+    state.set_kind(i, k);
+    let n = i.0 as usize;
+    let from = answer::USERS + users[answer::STARTS + n];
+    let to = answer::USERS + users[answer::STARTS + (n + 1)];
+    push_users(program, users, from, to, state)
 }

@@ -5,8 +5,7 @@ use mathlib.Core.List.{List, [], ◌∷◌, ◌++◌, append_assoc, append-nil}
 use native.Mathlib.Decide.{ℕ_discrete, dec_lt}
 use native.Mathlib.Omega.{arith}
 use lib.ListN.{length, get_or, set, take, drop, length-set, length-replicate, length-append, length-take, length-drop, replicate-append-replicate, take-append-drop, get_or-append}
-use lib.Seq.{get_or-set_same, get_or-set_other, take_all, take_at, drop_at, drop-length, get_or-drop, get_or-take, get_or-append-add, length-take-le, ext_get_or}
-use borrow.Author.Fill.{fill_none, fill_more}
+use lib.Seq.{get_or-set_same, get_or-set_other, take_all, take_at, drop_at, get_or-drop, get_or-take, get_or-append-add, length-take-le, ext_get_or}
 use Rattle.memory.specs.Memory.{zeros, Blank, over, filled}
 
 -- ---- cleared places
@@ -69,32 +68,6 @@ grow_table t u a a' at k n lt le ea e =
     let s : k + n ≡ length u + (m + n) = omega arith in
     let g : a' ≡ (t ++ u) ++ zeros (m + n) = grow t u a a' at (length u) (m + n) lt refl (rw s at ea) e in
     g ∙ rw (zeros_split m n, ← append_assoc (t ++ u) (zeros m) (zeros n), append_assoc t u (zeros m))
-
--- ---- clear
-
--- at its loop's head the first i places are cleared
-pub record Clearing (d₀ d : List ℕ) (i : ℕ) : Type 0 where
-  pub in_range : i ≤ length d₀
-  pub len_same : length d ≡ length d₀
-  pub is : d ≡ zeros i ++ drop i d₀
-
-pub clearing_start : (d : List ℕ) → Clearing d d 0
-unfolding zeros
-clearing_start d = record { in_range = omega arith; len_same = refl; is = fill_none d 0 }
-
-module _ {d₀ d : List ℕ} {i : ℕ} (g : Clearing d₀ d i) where
-  pub clearing_more : i < length d → Clearing d₀ (set d i 0) (i + 1)
-  unfolding zeros
-  clearing_more lt = record {
-    in_range = omega arith;
-    len_same = length-set d i 0 ∙ g.len_same;
-    is = rw g.is (fill_more i 0 d₀ (omega arith));
-  }
-
-  pub clearing_done : length d ≤ i → d ≡ zeros (length d₀)
-  clearing_done le =
-      let e : i ≡ length d₀ = omega arith in
-      g.is ∙ rw (e, drop-length) (append-nil (zeros (length d₀)))
 
 -- ---- tables that lie apart
 

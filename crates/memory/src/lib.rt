@@ -33,12 +33,9 @@ pub const BLOCKS_ROOM: usize = 1024;
 pub const ROW_WORDS: usize = INSTRUCTIONS_MOST / 64;
 
 // Every place becomes 0.
+#[tactic(auto, unfolding(crate::specs::Memory::zeros))]
 pub fn clear(words: &mut [usize])
     ensures { words.new ≡ zeros (length words.old) }
 {
-    let mut i = 0;
-    while i < words.len() {
-        words[i] = 0;
-        i += 1;
-    }
+    words.fill(0);
 }

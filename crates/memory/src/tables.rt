@@ -4,13 +4,6 @@ ghost use Rattle.memory.specs.Layout.{instructions_most, row_words};
 ghost use Rattle.memory.specs.tables.Tables.{listed};
 ghost use Rattle.memory.specs.tables.Bits.{bit_at, with_bit, Next, RowWord, LowestBit};
 
-// The next set bit of a row.
-#[derive(Clone, Copy)]
-pub enum FoundBit {
-    At(usize),
-    Nothing,
-}
-
 // The lowest bit of a word, and the word without it.
 #[derive(Clone, Copy)]
 pub struct Lowest {
@@ -36,7 +29,8 @@ pub fn set_bit(words: &mut [usize], base: usize, i: usize)
 }
 
 // The first set bit from `from` on, among the first n bits of the row.
-pub fn next_bit(words: &[usize], base: usize, from: usize, n: usize) -> FoundBit
+// Stays: a search through the row's words would have the first word, cut below `from`, as a case of its own.
+pub fn next_bit(words: &[usize], base: usize, from: usize, n: usize) -> Option<usize>
     requires { (n ≤ instructions_most) × (base + row_words ≤ length words.now) }
     ensures { Next (bit_at words.now base) n from result }
 {
@@ -45,16 +39,15 @@ pub fn next_bit(words: &[usize], base: usize, from: usize, n: usize) -> FoundBit
         let passed = i % 64;
         let rest = words[base + i / 64] >> passed;
         if rest != 0 {
-            let zeros = u64::trailing_zeros(rest as u64);
-            let j = i + zeros as usize;
+            let j = i + rest.trailing_zeros() as usize;
             if j < n {
-                return FoundBit::At(j);
+                return Some(j);
             }
-            return FoundBit::Nothing;
+            return None;
         }
         i = i - passed + 64;
     }
-    FoundBit::Nothing
+    None
 }
 
 // Word k of a row of n bits; what stands behind them in memory is left out.
@@ -79,9 +72,8 @@ pub fn lowest_bit(w: usize) -> Lowest
     requires { 0 < w }
     ensures { LowestBit w result.place result.rest }
 {
-    let zeros = u64::trailing_zeros(w as u64);
     Lowest {
-        place: zeros as usize,
+        place: w.trailing_zeros() as usize,
         rest: w & (w - 1),
     }
 }

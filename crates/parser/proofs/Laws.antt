@@ -10,21 +10,21 @@ use Rattle.rules.proofs.Wellformed.Whole.{finished}
 use Rattle.rules.proofs.Demand.{limits_usable, usable_sane}
 use Rattle.program.specs.View as View
 use Rattle.program.specs.declared.Counts.{Counts}
-use Rattle.program.specs.declared.Limits.{Limits}
+use Rattle.program.specs.declared.bounds.Limits.{Limits}
 use Rattle.memory.specs.Layout.{script_most}
-use Rattle.parser.specs.declared.ReadOutcome.{ReadOutcome}
-use Rattle.parser.specs.declared.ReadOutcome.TheVariants.{Finished}
+use Rattle.std.specs.Prelude.{Result, Ok}
+use Rattle.refusals.specs.declared.Refusal.{Refusal}
 use Rattle.parser.specs.Outcomes.{ReadsWithin, ReadsScript}
 
 -- the built-in limits
-pub script-small : {l : Limits} → (View.limits_of l ≡ P.limits) × View.Small l → l.script ≤ script_most
-script-small e = let h = ap (λ (x : P.Limits). x.script) e.0 in omega arith
+pub script-small : (l : Limits) → View.limits_of l ≡ P.limits → l.script ≤ script_most
+script-small l e = let h = ap (λ (x : P.Limits). x.script) e in omega arith
 
-pub reads_limited : {s t : List ℕ} {l : Limits} {r : ReadOutcome} → (View.limits_of l ≡ P.limits) × View.Small l → ReadsWithin l s t r → ReadsScript s t r
-reads_limited {s} e g = record { is = g.is ∙ ap (λ L. parse_program L s) e.0; ok = g.ok }
+pub reads_limited : {s t : List ℕ} {l : Limits} {r : Result Counts Refusal} → View.limits_of l ≡ P.limits → ReadsWithin l s t r → ReadsScript s t r
+reads_limited {s} e g = record { is = g.is ∙ ap (λ L. parse_program L s) e; ok = g.ok }
 
-pub read-ready : {s m : List ℕ} {r : ReadOutcome} {c : Counts} → ReadsScript s m r → r ≡ Finished c → View.ProgramReady m c
+pub read-ready : {s m : List ℕ} {r : Result Counts Refusal} {c : Counts} → ReadsScript s m r → r ≡ Ok c → View.ProgramReady m c
 read-ready a e = let b = rw e at a in b.ok
 
-pub read-finished : {s m : List ℕ} {r : ReadOutcome} {c : Counts} → ReadsScript s m r → r ≡ Finished c → F.Finished P.limits (View.program_view s m c)
+pub read-finished : {s m : List ℕ} {r : Result Counts Refusal} {c : Counts} → ReadsScript s m r → r ≡ Ok c → F.Finished P.limits (View.program_view s m c)
 read-finished {s} {m} {r} {c} a e = let b = rw e at a in finished P.limits (usable_sane P.limits limits_usable) s (View.program_view s m c) (sym b.is)

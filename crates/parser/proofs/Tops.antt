@@ -17,79 +17,78 @@ use Rattle.variables.specs.Memory.{made}
 use Rattle.variables.proofs.Rooms.{room-none}
 use Rattle.program.specs.View as View
 use Rattle.program.specs.declared.Counts.{Counts}
-use Rattle.program.specs.declared.Limits.{Limits}
-use Rattle.program.specs.declared.Owner.TheVariants.{Nobody}
-use Rattle.lexer.specs.declared.Lexed.{Lexed}
-use Rattle.lexer.specs.declared.Lexed.TheVariants as W
+use Rattle.program.specs.declared.bounds.Limits.{Limits}
+use Rattle.std.specs.Prelude.{Result, Ok, Err, None}
+use Rattle.refusals.specs.declared.Refusal.{Refusal}
+use Rattle.refusals.specs.declared.Refusal.TheVariants as Q
+use Rattle.refusals.specs.Refusals.{number_of}
+use Rattle.lexer.specs.declared.Token.TheVariants as K
 use Rattle.lexer.specs.declared.Word.{Word}
-use Rattle.lexer.proofs.Texts.{fixed-kind}
-use Rattle.cursor.specs.Cursor.{parser_of, move_cur}
+use Rattle.lexer.proofs.Texts.{fixed-token}
+use Rattle.cursor.specs.Cursor.{Cursor, parser_of, move_cur}
 use Rattle.cursor.specs.Promises.{Sees, Spelt, moved_of}
-use Rattle.cursor.specs.declared.Cursor.{Cursor}
-use Rattle.cursor.specs.declared.Moved.{Moved}
-use Rattle.cursor.specs.declared.Moved.TheVariants.{On, Refused}
+use Rattle.cursor.specs.outcomes.Moved.{Moved, On, Refused}
 use Rattle.cursor.proofs.Wording.{is-yes, is_no, word_read, next-none}
 use Rattle.functions.specs.params.Promises.{funned_of}
-use Rattle.functions.specs.declared.params.OpenedFun.{OpenedFun}
+use Rattle.functions.specs.outcomes.OpenedFun.{OpenedFun}
 use Rattle.functions.specs.Bodies.{Rests, Takes, Taken}
 use Rattle.memory.specs.Layout.{script_most}
 use Rattle.cursor.specs.Layout.{scratch_size}
-use Rattle.parser.specs.declared.classes.Turned.{Turned}
-use Rattle.parser.specs.declared.classes.Turned.TheVariants as T
+use Rattle.parser.specs.classes.Turned.{Turned}
+use Rattle.parser.specs.classes.Turned as T
 use Rattle.parser.specs.classes.Turning.{Turns}
 use Rattle.parser.proofs.classes.Loops.{word_on, word_rests, thing_no, thing_on, next-is}
 use Rattle.parser.proofs.classes.Members.{spelt_nothing, spelt_def}
-use Rattle.parser.specs.declared.ReadOutcome.TheVariants as O
 use Rattle.parser.specs.Outcomes.{start_cur, ReadsWithin}
 
 -- ---- parse_top
 
-spelt_class : Spelt 4 "class"
-spelt_class x = fixed-kind x 1 (omega arith)
+spelt_class : Spelt K.Class "class"
+spelt_class x = fixed-token x 1 (omega arith)
 
-module _ (l : Limits) {s m w : List ℕ} {c : Cursor} (g : Rests s m w c) {r : Lexed} (v : Sees s c r) where
+module _ (l : Limits) {s m w : List ℕ} {c : Cursor} (g : Rests s m w c) {r : Result Word Refusal} (v : Sees s c r) where
   abbrev Top : List ℕ → List ℕ → Turned → Type 0
   Top m' w' t = Turns (parse_top (View.limits_of l) s tt) s m w c m' w' t
 
-  pub top_none : {e : ℕ} → r ≡ W.Refused e → Top m w (T.Refused e)
+  pub top_none : {e : Refusal} → r ≡ Err e → Top m w (T.Refused (number_of e))
   unfolding parse_top
   top_none f = record { takes = record { is = rw (← next-none v m w f); ok = tt }; further = tt }
 
-  module _ {x : Word} (f : r ≡ W.Found x) {c1 : Cursor} (e : c1 ≡ move_cur x.next c) where
-    pub top_nobody : c.class ≡ Nobody → c1.class ≡ Nobody
+  module _ {x : Word} (f : r ≡ Ok x) {c1 : Cursor} (e : c1 ≡ move_cur x.next c) where
+    pub top_nobody : c.class ≡ None → c1.class ≡ None
     top_nobody h = ap (λ (z : Cursor). z.class) e ∙ h
 
-    pub top_ends : x.kind ≡ 0 → Top m w (T.Ends c1)
+    pub top_ends : x.token ≡ K.EndOfText → Top m w (T.Ends c1)
     unfolding parse_top
     top_ends z = record { takes = record { is = rw (← next-is v f e m w, is-yes x (word_read v f) "" spelt_nothing z); ok = (word_rests g v f e, word_on g v f e) }; further = tt }
 
-    module _ (n0 : x.kind ≡ 0 → ⊥) where
-      def_is : x.kind ≡ 3 → if_answered {B = Turn (Unit {0}) (Unit {0}) × Parser} (parse_fun (View.limits_of l) s (parser_of s m w c1)) (λ r. answered (again tt, r.1))
+    module _ (n0 : x.token ≡ K.EndOfText → ⊥) where
+      def_is : x.token ≡ K.Def → if_answered {B = Turn (Unit {0}) (Unit {0}) × Parser} (parse_fun (View.limits_of l) s (parser_of s m w c1)) (λ r. answered (again tt, r.1))
           ≡ parse_top (View.limits_of l) s tt (parser_of s m w c)
       unfolding parse_top
       def_is z = rw (← next-is v f e m w, is_no x (word_read v f) "" spelt_nothing n0, is-yes x (word_read v f) "def" spelt_def z)
 
-      module _ (z : x.kind ≡ 3) {m1 w1 : List ℕ} {y : OpenedFun} (b : Taken l s m w c1 m1 w1 y) where
+      module _ (z : x.token ≡ K.Def) {m1 w1 : List ℕ} {y : OpenedFun} (b : Taken l s m w c1 m1 w1 y) where
         pub top_def_no : {n : ℕ} → y ≡ OpenedFun.Refused n → Top m1 w1 (T.Refused n)
         top_def_no i = thing_no (parse_top (View.limits_of l) s tt) (word_on g v f e) (def_is z) b.takes (ap funned_of i)
 
         pub top_def : {c2 : Cursor} {k : FunId} → y ≡ OpenedFun.Done c2 k → Top m1 w1 (T.Again c2)
         top_def i = thing_on (parse_top (View.limits_of l) s tt) (word_on g v f e) (def_is z) b.takes (ap funned_of i)
 
-      module _ (n3 : x.kind ≡ 3 → ⊥) where
-        class-is : x.kind ≡ 4 → if_answered {B = Turn (Unit {0}) (Unit {0}) × Parser} (parse_class (View.limits_of l) s (parser_of s m w c1)) (λ r. answered (again tt, r.1))
+      module _ (n3 : x.token ≡ K.Def → ⊥) where
+        class-is : x.token ≡ K.Class → if_answered {B = Turn (Unit {0}) (Unit {0}) × Parser} (parse_class (View.limits_of l) s (parser_of s m w c1)) (λ r. answered (again tt, r.1))
             ≡ parse_top (View.limits_of l) s tt (parser_of s m w c)
         unfolding parse_top
         class-is z = rw (← next-is v f e m w, is_no x (word_read v f) "" spelt_nothing n0, is_no x (word_read v f) "def" spelt_def n3, is-yes x (word_read v f) "class" spelt_class z)
 
-        module _ (z : x.kind ≡ 4) {m1 w1 : List ℕ} {y : Moved} (b : Takes (parse_class (View.limits_of l) s) 1 s m w c1 m1 w1 (moved_of y)) where
+        module _ (z : x.token ≡ K.Class) {m1 w1 : List ℕ} {y : Moved} (b : Takes (parse_class (View.limits_of l) s) 1 s m w c1 m1 w1 (moved_of y)) where
           pub top_class_no : {n : ℕ} → y ≡ Refused n → Top m1 w1 (T.Refused n)
           top_class_no i = thing_no (parse_top (View.limits_of l) s tt) (word_on g v f e) (class-is z) b (ap moved_of i)
 
           pub top_class : {c2 : Cursor} → y ≡ On c2 → Top m1 w1 (T.Again c2)
           top_class i = thing_on (parse_top (View.limits_of l) s tt) (word_on g v f e) (class-is z) b (ap moved_of i)
 
-        pub top_other : (x.kind ≡ 4 → ⊥) → Top m w (T.Refused 5)
+        pub top_other : (x.token ≡ K.Class → ⊥) → Top m w (T.Refused 5)
         unfolding parse_top
         top_other n4 =
             record {
@@ -107,11 +106,8 @@ module _ (l : Limits) {s m w : List ℕ} {c : Cursor} (g : Rests s m w c) {r : L
 
 -- ---- read
 
-pub start_nobody : {d : Counts} {c : Cursor} → c ≡ start_cur d → c.class ≡ Nobody
-start_nobody e = ap (λ (z : Cursor). z.class) e
-
 module _ (l : Limits) (s : List ℕ) where
-  pub read-long : (m : List ℕ) → l.script < length s → ReadsWithin l s m (O.Refused 1)
+  pub read-long : (m : List ℕ) → l.script < length s → ReadsWithin l s m (Err Q.ScriptTooLong)
   unfolding parse_program
   read-long m h = record { is = let z : leb (length s) l.script ≡ false = lt-leb (length s) l.script h in rw z; ok = tt }
 
@@ -132,9 +128,9 @@ module _ (l : Limits) (s : List ℕ) where
     whole = let z : leb (length s) l.script ≡ true = le-leb (length s) l.script h in rw (z, start_is)
 
     module _ {m1 w1 : List ℕ} {y : Moved} (b : Takes (loop (parse_top (View.limits_of l) s) (turns s) tt) 0 s m w c m1 w1 (moved_of y)) where
-      pub read_no : {n : ℕ} → y ≡ Refused n → ReadsWithin l s m1 (O.Refused n)
+      pub read_no : {n : Refusal} → y ≡ Refused (number_of n) → ReadsWithin l s m1 (Err n)
       read_no i = record { is = let h = rw i at b.is in rw (← h) at whole; ok = tt }
 
-      pub read-yes : {c1 : Cursor} → y ≡ On c1 → ReadsWithin l s m1 (O.Finished c1.counts)
+      pub read-yes : {c1 : Cursor} → y ≡ On c1 → ReadsWithin l s m1 (Ok c1.counts)
       unfolding parser_of
       read-yes i = let h = rw i at b in record { is = rw (← h.is) at whole; ok = h.ok.0.ready.tables }

@@ -1,3 +1,4 @@
 pub mod Loops
 pub mod Members
 pub mod Classes
+pub mod Readers

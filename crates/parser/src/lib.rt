@@ -3,41 +3,80 @@
 
 pub mod classes;
 
-ghost use Rattle.std.specs.Prelude.{◌≡◌, ◌≤◌, length};
+ghost use Rattle.std.specs.Prelude.{◌≡◌, ◌≤◌, length, None};
 ghost use Rattle.rules.specs.Actions.{loop as loop_of};
 ghost use Rattle.rules.specs.Reading.{parse_top, turns};
-ghost use Rattle.program.specs.View.{Small, limits_of};
-ghost use Rattle.program.specs.declared.Owner.TheVariants.{Nobody};
-ghost use Rattle.cursor.specs.Promises.{moved_of};
-ghost use Rattle.functions.specs.Bodies.{Rests, Takes};
+ghost use Rattle.functions.specs.Parsers.{Resting, through, ParserTakes};
 ghost use Rattle.memory.specs.Layout.{script_most};
 ghost use Rattle.program.specs.Layout.{program_size};
 ghost use Rattle.cursor.specs.Layout.{scratch_size};
-ghost use Rattle.parser.specs.classes.Turning.{Turns};
+ghost use Rattle.parser.specs.classes.Turning.{ParserTurns};
+ghost use Rattle.program.specs.View.{Starts};
+ghost use Rattle.cursor.specs.Parsers.{cursor_of};
 ghost use Rattle.parser.specs.Outcomes.{start_cur, ReadsWithin, ReadsScript};
 
-use classes::Turned;
-use cursor::{Cursor, Moved, SelfAt};
-use functions::params::OpenedFun;
+use cursor::Parser;
 use ids::BlockId;
-use lexer::Lexed;
-use program::{Counts, Limits, Owner};
+use lexer::Token;
+use program::{Counts, Draft, Limits};
+use refusals::Refusal;
 
-// The tables' counts, or the number of a refusal.
-#[derive(Clone, Copy)]
-pub enum ReadOutcome {
-    Finished(Counts),
-    Refused(usize),
+// One thing at top level: whether there was one. At the end of text there is none.
+fn parse_top(p: &mut Parser) -> Result<bool, Refusal>
+    requires rests { Resting p.old }
+    requires class_value { p.old.class ≡ None }
+    ensures { ParserTurns (λ L s. parse_top L s tt) p.old p.new result }
+{
+    let x = p.peek()?;
+    p.at = x.next;
+    match x.token {
+        Token::EndOfText => Ok(false),
+        Token::Def => {
+            functions::parse_fun(p)?;
+            Ok(true)
+        }
+        Token::Class => {
+            classes::parse_class(p)?;
+            Ok(true)
+        }
+        _ => Err(Refusal::UnexpectedWord),
+    }
 }
 
-fn start(counts: Counts) -> Cursor
-    ensures { result ≡ start_cur counts }
+// What stands at top level, up to the end of text.
+fn parse_program(p: &mut Parser) -> Result<(), Refusal>
+    requires rests { Resting p.old }
+    requires class_value { p.old.class ≡ None }
+    ensures { ParserTakes (λ L s. loop_of (parse_top L s) (turns s) tt) 0 p.old p.new (through p.new result) }
 {
-    Cursor {
+    while parse_top(p)? {}
+    Ok(())
+}
+
+// Before the first word.
+fn start<'a>(
+    script: &'a [u8],
+    program: &'a mut [usize],
+    scratch: &'a mut [usize],
+    limits: Limits,
+) -> Parser<'a>
+    requires { program_size ≤ length program.old }
+    ensures words_loan { result.program.words.ghost_name ≡ program.entry.ghost_name }
+    ensures scratch_loan { result.scratch.ghost_name ≡ scratch.entry.ghost_name }
+    ensures script { result.script.now ≡ script.now }
+    ensures limits { result.program.limits ≡ limits }
+    ensures scratch { result.scratch.now ≡ scratch.old }
+    ensures starts { Starts result.program.words.now result.program.counts }
+    ensures cursor { cursor_of result ≡ start_cur result.program.counts }
+{
+    let draft = Draft::no_program(program, limits);
+    Parser {
+        script,
+        program: draft,
+        scratch,
         at: 0,
-        counts,
-        class: Owner::Nobody,
-        receiver: SelfAt::Nobody,
+        class: None,
+        receiver: None,
         block: BlockId(0),
         vars: 0,
         aside: variables::BINDINGS_MOST,
@@ -45,71 +84,42 @@ fn start(counts: Counts) -> Cursor
     }
 }
 
-// One thing at top level, or the end of text.
-fn parse_top(
-    script: &[u8],
-    program: &mut [usize],
-    scratch: &mut [usize],
-    cursor: Cursor,
-    limits: Limits,
-) -> Turned
-    requires rests { Rests script.now program.old scratch.old cursor }
-    requires small { Small limits }
-    requires class_value { cursor.class ≡ Nobody }
-    ensures { Turns (parse_top (limits_of limits) script.now tt) script.now program.old
-        scratch.old cursor program.new scratch.new result }
-{
-    match cursor::peek(script, cursor) {
-        Lexed::Refused(e) => Turned::Refused(e),
-        Lexed::Found(x) => {
-            let c1 = cursor::move_to(cursor, x.next);
-            if x.kind == lexer::END_OF_TEXT {
-                return Turned::Ends(c1);
-            }
-            if x.kind == lexer::DEF {
-                return match functions::parse_fun(script, program, scratch, c1, limits) {
-                    OpenedFun::Done(c2, _) => Turned::Again(c2),
-                    OpenedFun::Refused(e) => Turned::Refused(e),
-                };
-            }
-            if x.kind == lexer::CLASS {
-                return match classes::parse_class(script, program, scratch, c1, limits) {
-                    Moved::On(c2) => Turned::Again(c2),
-                    Moved::Refused(e) => Turned::Refused(e),
-                };
-            }
-            Turned::Refused(5)
-        }
-    }
+// The tables' words behind a reading, and what it came to.
+#[derive(Drop)]
+struct Reading<'a> {
+    words: &'a mut [usize],
+    read: Result<Counts, Refusal>,
 }
 
-// What stands at top level, up to the end of text.
-fn parse_program(
-    script: &[u8],
-    program: &mut [usize],
-    scratch: &mut [usize],
-    cursor: Cursor,
+// A script that is not too long is read. The words are taken out of the parser, since what lies in a struct within a struct is
+// not known behind its end.
+fn read_words<'a>(
+    script: &'a [u8],
+    program: &'a mut [usize],
+    scratch: &'a mut [usize],
     limits: Limits,
-) -> Moved
-    requires rests { Rests script.now program.old scratch.old cursor }
-    requires small { Small limits }
-    requires class_value { cursor.class ≡ Nobody }
-    ensures { Takes (loop_of (parse_top (limits_of limits) script.now) (turns script.now) tt) 0 script.now
-        program.old scratch.old cursor program.new scratch.new (moved_of result) }
+) -> Reading<'a>
+    requires program_size_in_bounds { program_size ≤ length program.old }
+    requires scratch_size_in_bounds { scratch_size ≤ length scratch.old }
+    requires script_le_script_most { limits.script ≤ script_most }
+    requires script_in_limits { length script.now ≤ limits.script }
+    ensures loan { result.words.ghost_name ≡ program.entry.ghost_name }
+    ensures reads { ReadsWithin limits script.now result.words.now result.read }
 {
-    let mut cur = cursor;
-    loop {
-        match parse_top(script, program, scratch, cur, limits) {
-            Turned::Refused(e) => {
-                return Moved::Refused(e);
-            }
-            Turned::Ends(c1) => {
-                return Moved::On(c1);
-            }
-            Turned::Again(c1) => {
-                cur = c1;
-            }
-        }
+    let mut p = start(script, program, scratch, limits);
+    let r = parse_program(&mut p);
+    let Parser { program: draft, .. } = p;
+    let counts = draft.counts;
+    let words = draft.words;
+    match r {
+        Ok(_) => Reading {
+            words,
+            read: Ok(counts),
+        },
+        Err(e) => Reading {
+            words,
+            read: Err(e),
+        },
     }
 }
 
@@ -119,33 +129,24 @@ fn read_within(
     program: &mut [usize],
     scratch: &mut [usize],
     limits: Limits,
-) -> ReadOutcome
+) -> Result<Counts, Refusal>
     requires program_size_in_bounds { program_size ≤ length program.old }
     requires scratch_size_in_bounds { scratch_size ≤ length scratch.old }
-    requires small { Small limits }
     requires script_le_script_most { limits.script ≤ script_most }
     ensures { ReadsWithin limits script.now program.new result }
 {
     if limits.script < script.len() {
-        return ReadOutcome::Refused(1);
+        return Err(Refusal::ScriptTooLong);
     }
-    let counts = program::no_program(program);
-    let c = start(counts);
-    match parse_program(script, program, scratch, c, limits) {
-        Moved::On(c1) => {
-            let read = c1.counts;
-            ReadOutcome::Finished(read)
-        }
-        Moved::Refused(e) => ReadOutcome::Refused(e),
-    }
+    let reading = read_words(script, program, scratch, limits);
+    reading.read
 }
 
 // Reads a script into the tables. Both memories may hold anything.
-pub fn read(script: &[u8], program: &mut [usize], scratch: &mut [usize]) -> ReadOutcome
+pub fn read(script: &[u8], program: &mut [usize], scratch: &mut [usize]) -> Result<Counts, Refusal>
     requires program_size_in_bounds { program_size ≤ length program.old }
     requires scratch_size_in_bounds { scratch_size ≤ length scratch.old }
     ensures { ReadsScript script.now program.new result }
 {
-    let l = Limits::built_in();
-    read_within(script, program, scratch, l)
+    read_within(script, program, scratch, Limits::built_in())
 }

@@ -3,66 +3,31 @@
 
 ghost use Rattle.std.specs.Prelude.{◌≡◌, ◌+◌, ◌≤◌, ◌<◌, length};
 ghost use Rattle.lexer.specs.Names.{name};
-ghost use Rattle.variables.specs.Scopes.{Sorted};
-ghost use Rattle.variables.specs.Memory.{row};
-ghost use Rattle.variables.specs.Promises.{opnd_of as stored_of, NotesBoth};
+ghost use Rattle.variables.specs.Promises.{opnd_of as stored_of, Lies, BothAside, NotesBoth};
+ghost use Rattle.program.specs.Drafts.{DraftKept};
 ghost use Rattle.program.specs.Rows.{opnd_of};
-ghost use Rattle.program.specs.View.{ProgramReady, Small};
 ghost use Rattle.memory.specs.Layout.{script_most};
 ghost use Rattle.variables.specs.Layout.{bindings_most, entries_most, variables_size};
-ghost use Rattle.phis.specs.Joining.{IsStored, PhisSets, PhisFinds, Phis, One, Fit, Rows, Arms, IfEnd};
+ghost use Rattle.phis.specs.Joining.{PhisSets, PhisFinds, Phis, One, RowsJoined, Arms, IfEnd};
 
-use ids::{BlockId, InsnId};
-use program::{Counts, Given, Limits, NewInsn, Op, Opnd};
-use variables::{FoundVar, Joint, NextJoin, Stored};
-
-#[derive(Clone, Copy)]
-pub enum Var {
-    At(Opnd),
-    Unbound,
-}
-
-// An operand and the counts after it, or the number of a refusal.
-#[derive(Clone, Copy)]
-pub enum NewPhi {
-    Of(Opnd, Counts),
-    Refused(usize),
-}
-
-// How many bindings there are, and the counts, or the number of a refusal.
-#[derive(Clone, Copy)]
-pub enum JoinedVars {
-    On(usize, Counts),
-    Refused(usize),
-}
+use ids::BlockId;
+use program::{Draft, Given, Op, Opnd};
+use refusals::Refusal;
+use variables::{Joint, Row, Rows, Scope, Stored};
 
 // ---- stored operands
 
 fn load(o: Stored) -> Opnd
     ensures { opnd_of result ≡ stored_of o }
 {
-    let t = o.tag;
-    let x = o.bits;
-    if t == 10 {
-        Opnd::Insn(InsnId((x % 4294967296) as u32))
-    } else {
-        Opnd::Const(kinds::kind_from(t, x))
-    }
+    program::opnd_from(o.tag, o.bits)
 }
 
 fn store(o: Opnd) -> Stored
-    ensures { IsStored o result }
+    ensures { stored_of result ≡ opnd_of o }
 {
-    match o {
-        Opnd::Const(k) => Stored {
-            tag: k.tag(),
-            bits: k.payload(),
-        },
-        Opnd::Insn(i) => Stored {
-            tag: 10,
-            bits: i.0 as usize,
-        },
-    }
+    let (tag, bits) = program::opnd_words(o);
+    Stored { tag, bits }
 }
 
 // ---- variables
@@ -73,19 +38,17 @@ pub fn set_var(scratch: &mut [usize], n: usize, a: usize, k: usize, o: Opnd)
     requires a_le_script_most { (a ≤ script_most) × (k ≤ script_most) }
     ensures { PhisSets n a k o scratch.old scratch.new }
 {
-    let w = store(o);
-    variables::bind(scratch, n, a, k, w.tag, w.bits);
+    variables::bind(scratch, n, a, k, store(o));
 }
 
 // What the name of k bytes at a is among n bindings.
-pub fn get_var(script: &[u8], scratch: &[usize], n: usize, a: usize, k: usize) -> Var
+pub fn get_var(script: &[u8], scratch: &[usize], n: usize, a: usize, k: usize) -> Option<Opnd>
     requires { (variables_size ≤ length scratch.now) × (n ≤ entries_most) }
     ensures { PhisFinds script.now scratch.now n (name script.now a k) result }
 {
-    match variables::find(script, scratch, n, a, k) {
-        FoundVar::At(o) => Var::At(load(o)),
-        FoundVar::Nothing => Var::Unbound,
-    }
+    let scope = Scope { script, scratch };
+    let o = scope.find(n, a, k)?;
+    Some(load(o))
 }
 
 // ---- joins
@@ -101,156 +64,115 @@ pub struct Blocks {
     pub right: BlockId,
 }
 
-// Two rows that are set aside: where each begins, and how many entries it has.
+// What the arms of an `if` bound: of n bindings the first mark are older than it, and the right arm's are still in force;
+// the left arm's row is set aside.
 #[derive(Clone, Copy)]
 pub struct Sides {
-    pub lo: usize,
-    pub ln: usize,
-    pub hi: usize,
-    pub rn: usize,
+    pub mark: usize,
+    pub n: usize,
+    pub left: Row,
 }
 
 // v on the left side and w on the right are joined: two equal operands need no instruction.
-pub fn phi(
-    program: &mut [usize],
-    counts: Counts,
-    limits: Limits,
-    q: Blocks,
-    v: Opnd,
-    w: Opnd,
-) -> NewPhi
-    requires program_ready { ProgramReady program.old counts }
-    requires small { Small limits }
-    requires at_lt_blocks { q.at.0 < counts.blocks }
-    ensures { Phis limits q v w program.old counts program.new result }
+pub fn phi(draft: &mut Draft, q: Blocks, v: Opnd, w: Opnd) -> Result<Opnd, Refusal>
+    requires at_lt_blocks { q.at.0 < draft.old.counts.blocks }
+    ensures kept { DraftKept draft.old draft.new }
+    ensures did { Phis draft.old.limits q v w draft.old.words.now draft.old.counts draft.new.words.now draft.new.counts result }
 {
-    if program::same_opnd(v, w) {
-        return NewPhi::Of(v, counts);
+    if v == w {
+        return Ok(v);
     }
-    let at = q.at;
-    let b = q.left;
-    let e = q.right;
-    match program::push_insn(program, counts, limits, at, Op::Phi(b, e), Given::Two(v, w)) {
-        NewInsn::Added(i, d) => NewPhi::Of(Opnd::Insn(i), d),
-        NewInsn::Refused(k) => NewPhi::Refused(k),
-    }
+    let i = draft.push_insn(q.at, Op::Phi(q.left, q.right), Given::Two(v, w))?;
+    Ok(Opnd::Insn(i))
 }
 
-// One name is joined, and bound as binding n.
+// One name is joined, and bound as binding n: how many bindings there are then.
 fn join_one(
     scratch: &mut [usize],
-    program: &mut [usize],
-    counts: Counts,
-    limits: Limits,
+    draft: &mut Draft,
     q: Blocks,
     n: usize,
     x: Joint,
-) -> JoinedVars
-    requires program_ready { ProgramReady program.old counts }
-    requires small { Small limits }
-    requires at_lt_blocks { q.at.0 < counts.blocks }
+) -> Result<usize, Refusal>
+    requires at_lt_blocks { q.at.0 < draft.old.counts.blocks }
     requires variables_size_in_bounds { (variables_size ≤ length scratch.old) × (n < bindings_most) }
-    ensures { One limits q n x scratch.old program.old counts scratch.new program.new result }
+    ensures kept { DraftKept draft.old draft.new }
+    ensures did { One draft.old.limits q n x scratch.old draft.old.words.now draft.old.counts scratch.new draft.new.words.now draft.new.counts result }
 {
-    let left = x.left;
-    let right = x.right;
-    let v = load(left);
-    let w = load(right);
-    match phi(program, counts, limits, q, v, w) {
-        NewPhi::Of(o, d) => {
-            let t = store(o);
-            variables::bind_again(scratch, n, x.word, t.tag, t.bits);
-            JoinedVars::On(n + 1, d)
-        }
-        NewPhi::Refused(k) => JoinedVars::Refused(k),
-    }
+    let o = phi(draft, q, load(x.left), load(x.right))?;
+    variables::bind_again(scratch, n, x.word, store(o));
+    Ok(n + 1)
 }
 
 // What the two rows set over base bindings is joined, in rising order of names; g has the rows' notes, or is empty.
+// How many bindings there are then.
 fn join_rows(
     script: &[u8],
     scratch: &mut [usize],
-    program: &mut [usize],
+    draft: &mut Draft,
     g: &[u16],
-    counts: Counts,
-    limits: Limits,
     q: Blocks,
     base: usize,
-    x: Sides,
-) -> JoinedVars
-    requires program_ready { ProgramReady program.old counts }
-    requires small { Small limits }
-    requires at_lt_blocks { q.at.0 < counts.blocks }
+    rows: Rows,
+) -> Result<usize, Refusal>
+    requires at_lt_blocks { q.at.0 < draft.old.counts.blocks }
     requires variables_size_in_bounds { variables_size ≤ length scratch.old }
-    requires fit { Fit base x }
-    requires sorted { Sorted (row script.now scratch.old x.lo x.ln) × Sorted (row script.now scratch.old x.hi x.rn) }
-    requires notes_both { NotesBoth script.now scratch.old base x.lo x.ln x.hi x.rn g.now }
-    ensures { Rows script.now limits q base x scratch.old program.old counts scratch.new program.new result }
+    requires aside { BothAside script.now scratch.old rows }
+    requires room { base + (rows.left.len + rows.right.len) ≤ bindings_most }
+    requires notes_both { NotesBoth script.now scratch.old base rows.left.lo rows.left.len rows.right.lo rows.right.len g.now }
+    ensures kept { DraftKept draft.old draft.new }
+    ensures did { RowsJoined script.now draft.old.limits q base rows
+        scratch.old draft.old.words.now draft.old.counts scratch.new draft.new.words.now draft.new.counts result }
 {
     let mut n = base;
-    let mut d = counts;
-    let mut lo = x.lo;
-    let mut ln = x.ln;
-    let mut hi = x.hi;
-    let mut rn = x.rn;
-    loop {
-        match variables::next_join(script, scratch, g, base, lo, ln, hi, rn) {
-            NextJoin::Join(y) => {
-                match join_one(scratch, program, d, limits, q, n, y) {
-                    JoinedVars::On(n1, d1) => {
-                        n = n1;
-                        d = d1;
-                    }
-                    JoinedVars::Refused(k) => {
-                        return JoinedVars::Refused(k);
-                    }
-                }
-                lo += y.lefts;
-                ln -= y.lefts;
-                hi += y.rights;
-                rn -= y.rights;
-            }
-            NextJoin::Done => {
-                return JoinedVars::On(n, d);
-            }
-        }
+    let mut rest = rows;
+    while let Some(x) = (Scope {
+        script,
+        scratch: &*scratch,
+    })
+    .next_join(g, base, rest)
+    {
+        n = join_one(scratch, draft, q, n, x)?;
+        rest.left.lo += x.lefts;
+        rest.left.len -= x.lefts;
+        rest.right.lo += x.rights;
+        rest.right.len -= x.rights;
     }
+    Ok(n)
 }
 
-// The end of an `if`: of n bindings the first mark are older than it. What the right arm bound is still in force; the left arm's row of ln entries lies at top.
+// The end of an `if`. How many bindings there are then.
 pub fn join_arms(
     script: &[u8],
     scratch: &mut [usize],
-    program: &mut [usize],
-    counts: Counts,
-    limits: Limits,
+    draft: &mut Draft,
     q: Blocks,
-    mark: usize,
-    n: usize,
-    top: usize,
-    ln: usize,
-) -> JoinedVars
-    requires program_ready { ProgramReady program.old counts }
-    requires small { Small limits }
-    requires at_lt_blocks { q.at.0 < counts.blocks }
+    sides: Sides,
+) -> Result<usize, Refusal>
+    requires at_lt_blocks { q.at.0 < draft.old.counts.blocks }
     requires variables_size_in_bounds { variables_size ≤ length scratch.old }
-    requires arms { Arms mark n top ln }
-    requires sorted { Sorted (row script.now scratch.old top ln) }
-    ensures { IfEnd script.now limits q mark n top ln scratch.old program.old counts scratch.new program.new result }
+    requires arms { Arms sides.mark sides.n sides.left.lo sides.left.len }
+    requires lies { Lies script.now scratch.old sides.left }
+    ensures kept { DraftKept draft.old draft.new }
+    ensures did { IfEnd script.now draft.old.limits q sides.mark sides.n sides.left.lo sides.left.len
+        scratch.old draft.old.words.now draft.old.counts scratch.new draft.new.words.now draft.new.counts result }
 {
-    let hi = top + ln;
+    let Sides { mark, n, left } = sides;
+    let hi = left.lo + left.len;
     let rn = variables::set_aside(script, scratch, mark, n - mark, hi);
-    let x = Sides {
-        lo: top,
-        ln,
-        hi,
-        rn,
+    let rows = Rows {
+        left,
+        right: Row { lo: hi, len: rn },
     };
-    if ln + rn <= FEW {
-        let none = [0u16; 0];
-        return join_rows(script, scratch, program, &none, counts, limits, q, mark, x);
+    if left.len + rn <= FEW {
+        return join_rows(script, scratch, draft, &[], q, mark, rows);
     }
+    // Stays: there is no heap, so the notes have a fixed array.
     let mut g = [0u16; variables::BINDINGS_MOST];
-    variables::note_rows(script, scratch, &mut g, mark, top, ln, hi, rn);
-    join_rows(script, scratch, program, &g, counts, limits, q, mark, x)
+    let scope = Scope {
+        script,
+        scratch: &*scratch,
+    };
+    scope.note_rows(&mut g, mark, rows);
+    join_rows(script, scratch, draft, &g, q, mark, rows)
 }

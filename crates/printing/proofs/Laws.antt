@@ -1,12 +1,14 @@
 -- Pieces handed over one behind the other are all the frames, and these are the rules' frames of the script. Assumes nothing.
-use Rattle.std.proofs.Common.{Bool as 𝔹, true, ◌≡◌, ℕ, ◌+◌, ◌*◌, ◌≤◌, ◌<◌, List, ◌++◌, Option, arith, length, take, drop, sym, ap, ◌∙◌, subst, refl}
+use Rattle.std.proofs.Common.{true, ◌≡◌, ℕ, ◌+◌, ◌*◌, ◌≤◌, ◌<◌, List, Option, None, Some, Result, Ok, Err, arith, length, take, drop, sym, ap, ◌∙◌, subst, refl, le_refl}
 use Rattle.std.specs.Io.KnownBytes.{Appends}
 use Rattle.std.proofs.KnownBytes.{Appends-trans}
 use lib.ListN.{length-append}
-use lib.Seq.{drop-drop, drop_at, take-add, take-append-le, take-take}
+use lib.Seq.{drop-drop, drop_at, take-add, take-append-le}
 use Rattle.frames.specs.declared.NextFrame.{NextFrame}
 use Rattle.frames.specs.declared.NextFrame.TheVariants.{Totals}
-use Rattle.frames.specs.Text.{rest_of, more_of, left_of}
+use Rattle.frames.specs.Text.{rest_of, rest_at, left_of, left_at, Piece}
+use Rattle.streams.specs.declared.Unwritten.{Unwritten}
+use Rattle.streams.specs.Moved.{taken_of}
 use Rattle.std.proofs.Math.Option.{none, some}
 use lib.Seq.{take_all}
 use borrow.Author.Tests.{le-leb}
@@ -15,60 +17,79 @@ use Rattle.rules.specs.Program.{limits}
 use Rattle.rules.specs.Frames.{Analysis, analyze, frames, refusal_frame, live}
 use Rattle.answer.specs.Layout.{answer_length}
 use Rattle.answer.proofs.Answered.{answer-published}
-use Rattle.frames.proofs.Frames.{image_frames}
-use Rattle.call.specs.declared.Outcome.{Outcome}
-use Rattle.call.specs.declared.Outcome.TheVariants.{Answered as Yes, Refused as No}
+use Rattle.frames.proofs.Written.{image_frames}
+use Rattle.refusals.specs.declared.Refusal.{Refusal}
+use Rattle.refusals.specs.Refusals.{number_of as number-is}
 use Rattle.call.specs.Call.{number_of, CallLeft, lent, left, long_enough, after}
 use Rattle.call.proofs.Facts as Facts
 use Rattle.call.proofs.Written.{refusal_frame_lem}
 use Rattle.state.specs.Layout.{state_length}
 use Rattle.chains.specs.Layout.{program_length}
 use Rattle.printing.specs.declared.Told.{Told}
-use Rattle.printing.specs.declared.Piece.{Piece}
-use Rattle.printing.specs.Sent.{Handed, number_in, SentTells}
+use Rattle.printing.specs.Sent.{Sends, number_in, number_told, SentTells, told_of}
 
--- ---- the loop of `write_frames`: what was handed over, with what is left at the cursor, is all
+-- ---- the loop of `write_frames`: what was handed over, with what is left, is all
 
-pub record Sending (a out : List ℕ) (c : NextFrame) (done : ℕ) : Type 0 where
-  pub all : done + length (rest_of a c) ≡ length (rest_of a Totals)
-  pub few : done + 65536 * left_of c ≤ 65536 * left_of Totals
+pub record Sending (a out : List ℕ) (c : Option NextFrame) (done : ℕ) : Type 0 where
+  pub rest : drop done (rest_of a Totals) ≡ rest_at a c
+  pub all : done + length (rest_at a c) ≡ length (rest_of a Totals)
+  pub few : done + 65536 * left_at c ≤ 65536 * left_of Totals
   pub room : length out ≡ 65536
 
-module _ {a out : List ℕ} {c : NextFrame} {done : ℕ} (g : Sending a out c done) where
-  module _ {p : Piece} {out' : List ℕ} (h : Handed a c out p out') where
-    piece-all : p.len + length (rest_of a p.next) ≡ length (rest_of a c)
-    piece-all = omega (arith, ap length h.piece.text, length-append (take p.len out') (rest_of a p.next), h.piece.count)
+module _ {a out : List ℕ} {c : Option NextFrame} {done : ℕ} (g : Sending a out c done) where
+  module _ {c' : Option NextFrame} {n : ℕ} {out' : List ℕ} (p : Piece a c out c' n out') (l : length out' ≡ length out) where
+    piece-all : n + length (rest_at a c') ≡ length (rest_at a c)
+    piece-all = omega (arith, ap length p.text, length-append (take n out') (rest_at a c'), p.count)
 
-    module _ {b : 𝔹} (m : b ≡ more_of c) (t : b ≡ true) where
-      pub sending_less : left_of p.next < left_of c
-      sending_less = h.piece.onward (sym m ∙ t)
+    pub sending_less : (n ≡ 0 → ⊥) → left_at c' < left_at c
+    sending_less h = go c p
+      where
+        go : (c : Option NextFrame) → Piece a c out c' n out' → left_at c' < left_at c
+        go (Some x) q = q.onward
+        go None q = absurd (h (omega (arith, ap length q.text, length-append (take n out') (rest_at a c'), q.count)))
 
-      module _ (l : length out' ≡ length out) where
-        sending_few : done + p.len + 65536 * left_of p.next ≤ 65536 * left_of Totals
-        sending_few = omega (arith, g.few, g.room, l, h.piece.fits, sending_less)
+    pub sending_more : (n ≡ 0 → ⊥) → Sending a out' c' (done + n)
+    sending_more h =
+        record {
+          rest = sym (drop-drop n done (rest_of a Totals)) ∙ ap (drop n) (g.rest ∙ p.text) ∙ drop_at (take n out') (rest_at a c') n (sym p.count);
+          all = omega (arith, piece-all, g.all);
+          few = omega (arith, g.few, g.room, l, p.fits, sending_less h);
+          room = l ∙ g.room;
+        }
 
-        pub sending_more : p.len ≤ p.taken → Sending a out' p.next (done + p.taken)
-        sending_more k = let e : p.taken ≡ p.len = omega (arith, h.taken) in rw e (record { all = omega (arith, piece-all, g.all); few = sending_few; room = l ∙ g.room })
+    -- a piece that was cut
+    pub sending_part : {k : ℕ} → k < n → done + k < length (rest_of a Totals)
+    sending_part h = omega (arith, piece-all, g.all)
 
--- ---- where what the output holds is known
+    -- no more is left
+    pub sending_all : n ≡ 0 → done ≡ length (rest_of a Totals)
+    sending_all e = let z : length (rest_at a c') ≡ 0 = rw (p.ended e) in omega (arith, piece-all, g.all)
 
-pub all_taken : {n len : ℕ} → n ≤ len → len ≤ n → n ≡ len
-all_taken h k = omega (arith, h, k)
+    -- what the output holds, where it is known
+    pub sending_appends : (x y z : Option (List ℕ)) (k : ℕ) → k ≤ n → Appends x y (take done (rest_of a Totals)) → Appends y z (take k (take n out'))
+        → Appends x z (take (done + k) (rest_of a Totals))
+    sending_appends x y z k h q r =
+        let T = rest_of a Totals in
+        let e : take k (drop done T) ≡ take k (take n out') =
+        ap (take k) (g.rest ∙ p.text) ∙ take-append-le k (take n out') (rest_at a c') (omega (arith, h, p.count)) in
+        subst (Appends x z) (sym (take-add done k T)) (Appends-trans x y z _ _ q (rw (← e) at r))
 
--- the text T of which `done` bytes were taken, and R is left; a piece at the start of u, and N behind it
-module _ (T R N u : List ℕ) (done len : ℕ) (e : drop done T ≡ R) (f : R ≡ take len u ++ N) (g : len ≡ length (take len u)) where
-  pub handed_left : drop (done + len) T ≡ N
-  handed_left = sym (drop-drop len done T) ∙ ap (drop len) (e ∙ f) ∙ drop_at (take len u) N len (sym g)
+    -- and where all of the piece was taken
+    pub sending_appends_all : (x y z : Option (List ℕ)) → Appends x y (take done (rest_of a Totals)) → Appends y z (take (length (take n out')) (take n out'))
+        → Appends x z (take (done + n) (rest_of a Totals))
+    sending_appends_all x y z q r = sending_appends x y z n (le_refl n) q (subst (λ m. Appends y z (take m (take n out'))) (sym p.count) r)
 
-  pub handed_more : (a b c : Option (List ℕ)) (taken : ℕ) → taken ≤ len → Appends a b (take done T) → Appends b c (take taken u) → Appends a c (take (done + taken) T)
-  handed_more a b c taken h p q =
-      let k : take taken (drop done T) ≡ take taken u =
-      ap (take taken) (e ∙ f) ∙ take-append-le taken (take len u) N (omega (arith, h, g)) ∙ take-take taken len u h in
-      subst (Appends a c) (sym (take-add done taken T)) (Appends-trans a b c _ _ p (rw (← k) at q))
+-- ---- the frames of a script
 
--- ---- what is told of a script
+told_tells : (o : Option Refusal) (t : List ℕ) (r : Result ℕ Unwritten) → Sends t r → SentTells (number_told o) t (told_of o r)
+told_tells o t (Ok n) h = (refl, h)
+told_tells o t (Err e) h = h
 
-module _ (s a p w : List ℕ) {a' p' w' : List ℕ} (x : Outcome) (la : length a ≡ answer_length) (lp : length p ≡ program_length) (lw : length w ≡ state_length)
+told_taken : (o : Option Refusal) (t : List ℕ) (r : Result ℕ Unwritten) → taken_of t (told_of o r) ≡ taken_of t r
+told_taken o t (Ok n) = refl
+told_taken o t (Err e) = refl
+
+module _ (s a p w : List ℕ) {a' p' w' : List ℕ} (x : Result (Unit {0}) Refusal) (la : length a ≡ answer_length) (lp : length p ≡ program_length) (lw : length w ≡ state_length)
     (e : after s (lent a p w) ≡ left (number_of x) (lent a' p' w')) where
   long : long_enough (lent a p w) ≡ true
   long = rw (le-leb answer_length (length a) (omega arith), le-leb program_length (length p) (omega arith), le-leb state_length (length w) (omega arith))
@@ -77,14 +98,21 @@ module _ (s a p w : List ℕ) {a' p' w' : List ℕ} (x : Outcome) (la : length a
   number = ap (λ (l : CallLeft). l.number) e
 
   -- the rules' number
-  same : (y : Answer Analysis) → Facts.number_in s (lent a p w) y ≡ number_in y
-  same (answered z) = refl
-  same (refused n) = refl
+  rules-none : x ≡ Ok tt → number_in (analyze limits s) ≡ None
+  rules-none q = go (analyze limits s) (sym (Facts.number_is s (lent a p w) long) ∙ number ∙ ap number_of q)
+    where
+      go : (y : Answer Analysis) → Facts.number_in s (lent a p w) y ≡ none → number_in y ≡ None
+      go (answered y) h = refl
+      go (refused m) h = let z : ◌≡◌ {A = ℕ} 0 1 = cc in absurd (omega arith)
 
-  rules-number : number_of x ≡ number_in (analyze limits s)
-  rules-number = sym number ∙ Facts.number_is s (lent a p w) long ∙ same (analyze limits s)
+  rules-some : {n : Refusal} → x ≡ Err n → number_in (analyze limits s) ≡ Some (number-is n)
+  rules-some {n} q = go (analyze limits s) (sym (Facts.number_is s (lent a p w) long) ∙ number ∙ ap number_of q)
+    where
+      go : (y : Answer Analysis) → Facts.number_in s (lent a p w) y ≡ some (number-is n) → number_in y ≡ Some (number-is n)
+      go (answered y) h = let z : ◌≡◌ {A = ℕ} 0 1 = cc in absurd (omega arith)
+      go (refused m) h = let z : m ≡ number-is n = cc in rw z
 
-  answer_text : x ≡ Yes → length a' ≡ answer_length → rest_of a' Totals ≡ live s
+  answer_text : x ≡ Ok tt → length a' ≡ answer_length → rest_of a' Totals ≡ live s
   unfolding live
   answer_text q l =
       let z = Facts.answered_exactly s (lent a p w) (number ∙ ap number_of q) in
@@ -96,18 +124,22 @@ module _ (s a p w : List ℕ) {a' p' w' : List ℕ} (x : Outcome) (la : length a
       ap (λ (m : List ℕ). rest_of m Totals) (h ∙ z.1.held) ∙ image_frames z.0.program z.0.state u.shaped u.legal in
       rw i f
 
-  refusal_text : {n : ℕ} → x ≡ No n → refusal_frame n ≡ live s
-  refusal_text {n} q = refusal_frame_lem s (lent a p w) n long (number ∙ ap number_of q)
+  refusal_text : {n : Refusal} → x ≡ Err n → refusal_frame (number-is n) ≡ live s
+  refusal_text {n} q = refusal_frame_lem s (lent a p w) (number-is n) long (number ∙ ap number_of q)
 
-  pub answer-told : (r : Told) → x ≡ Yes → length a' ≡ answer_length → SentTells none (rest_of a' Totals) r → SentTells (number_in (analyze limits s)) (live s) r
-  answer-told r q l g = rw (sym rules-number ∙ ap number_of q, ← answer_text q l) g
+  -- an answer's frames were written, or a refusal's: m tells it, and the output holds as many bytes
+  module _ (m : Result Told Unwritten) (r : Result ℕ Unwritten) where
+    pub answer-told : m ≡ told_of None r → x ≡ Ok tt → length a' ≡ answer_length → Sends (rest_of a' Totals) r → SentTells (number_in (analyze limits s)) (live s) m
+    answer-told e q l g = rw (e, rules-none q, ← answer_text q l) (told_tells None (rest_of a' Totals) r g)
 
-  pub refusal-told : (r : Told) {n : ℕ} → x ≡ No n → SentTells (some n) (refusal_frame n) r → SentTells (number_in (analyze limits s)) (live s) r
-  refusal-told r q g = rw (sym rules-number ∙ ap number_of q, ← refusal_text q) g
+    pub refusal-told : {n : Refusal} → m ≡ told_of (Some n) r → x ≡ Err n → Sends (refusal_frame (number-is n)) r → SentTells (number_in (analyze limits s)) (live s) m
+    refusal-told {n} e q g = rw (e, rules-some q, ← refusal_text q) (told_tells (Some n) (refusal_frame (number-is n)) r g)
 
-  module _ (b c : Option (List ℕ)) (k : ℕ) where
-    pub answer_appends : x ≡ Yes → length a' ≡ answer_length → Appends b c (take k (rest_of a' Totals)) → Appends b c (take k (live s))
-    answer_appends q l g = rw (← answer_text q l) g
+    module _ (b c : Option (List ℕ)) where
+      pub answer_appends : m ≡ told_of None r → x ≡ Ok tt → length a' ≡ answer_length → Appends b c (take (taken_of (rest_of a' Totals) r) (rest_of a' Totals))
+          → Appends b c (take (taken_of (live s) m) (live s))
+      answer_appends e q l g = rw (e, told_taken None (live s) r, ← answer_text q l) g
 
-    pub refusal_appends : {n : ℕ} → x ≡ No n → Appends b c (take k (refusal_frame n)) → Appends b c (take k (live s))
-    refusal_appends q g = rw (← refusal_text q) g
+      pub refusal_appends : {n : Refusal} → m ≡ told_of (Some n) r → x ≡ Err n → Appends b c (take (taken_of (refusal_frame (number-is n)) r) (refusal_frame (number-is n)))
+          → Appends b c (take (taken_of (live s) m) (live s))
+      refusal_appends {n} e q g = rw (e, told_taken (Some n) (live s) r, ← refusal_text q) g

@@ -1,43 +1,32 @@
 -- What was handed to standard output, in bytes; no contract can say what arrived there. Assumes nothing.
-use Rattle.std.specs.Prelude.{◌≡◌, List, ℕ, ◌≤◌, ◌<◌, length}
-use Rattle.std.proofs.Math.Option.{Option, none, some}
+use Rattle.std.specs.Prelude.{◌≡◌, List, ℕ, ◌<◌, length, Option, None, Some, Result, Ok, Err}
+use Rattle.refusals.specs.declared.Refusal.{Refusal}
+use Rattle.refusals.specs.Refusals.{number_of}
 use Rattle.rules.specs.Actions.{Answer, answered, refused}
 use Rattle.rules.specs.Frames.{Analysis}
-use Rattle.frames.specs.declared.NextFrame.{NextFrame}
-use Rattle.frames.specs.Text as Text
-use Rattle.printing.specs.declared.Piece.{Piece}
-use Rattle.printing.specs.declared.Sent.{Sent}
-use Rattle.printing.specs.declared.Sent.TheVariants.{All, Part}
+use Rattle.streams.specs.declared.Unwritten.{Unwritten}
 use Rattle.printing.specs.declared.Told.{Told}
-use Rattle.printing.specs.declared.Told.TheVariants.{Answered, Refused, Stopped}
-
--- the bytes at the start of the buffer are the frames from cursor c up to the piece's next one, and the output took as many of them
-pub record Handed (a : List ℕ) (c : NextFrame) (d : List ℕ) (p : Piece) (d' : List ℕ) : Type 0 where
-  pub piece : Text.Piece a c d p.next p.len d'
-  pub taken : p.taken ≤ p.len
 
 -- of a text t: all of its bytes, or fewer
-abbrev pub Sends : List ℕ → Sent → Type 0
-Sends t (All n) = n ≡ length t
-Sends t (Part n) = n < length t
+abbrev pub Sends : List ℕ → Result ℕ Unwritten → Type 0
+Sends t (Ok n) = n ≡ length t
+Sends t (Err e) = e.taken < length t
 
 -- 01's number of an outcome; an answer has none
 abbrev pub number_in : Answer Analysis → Option ℕ
-number_in (answered a) = none
-number_in (refused n) = some n
+number_in (answered a) = None
+number_in (refused n) = Some n
+
+abbrev pub number_told : Option Refusal → Option ℕ
+number_told None = None
+number_told (Some e) = Some (number_of e)
 
 -- all of the text t is told, of an outcome with that number; or fewer bytes of it
-abbrev pub SentTells : Option ℕ → List ℕ → Told → Type 0
-SentTells o t (Answered n) = (o ≡ none) × (n ≡ length t)
-SentTells o t (Refused q n) = (o ≡ some q) × (n ≡ length t)
-SentTells o t (Stopped n) = n < length t
+abbrev pub SentTells : Option ℕ → List ℕ → Result Told Unwritten → Type 0
+SentTells o t (Ok r) = (o ≡ number_told r.refusal) × (r.bytes ≡ length t)
+SentTells o t (Err e) = e.taken < length t
 
--- how many bytes that is, from the text's start
-abbrev pub sent_count : Sent → ℕ
-sent_count (All n) = n
-sent_count (Part n) = n
-
-abbrev pub told_count : Told → ℕ
-told_count (Answered n) = n
-told_count (Refused q n) = n
-told_count (Stopped n) = n
+-- what is told where that many bytes were written, all or fewer
+abbrev pub told_of : Option Refusal → Result ℕ Unwritten → Result Told Unwritten
+told_of o (Ok n) = Ok (record { refusal = o; bytes = n })
+told_of o (Err e) = Err e

@@ -1,35 +1,36 @@
 -- Blocks, functions and classes that are added. Assumes nothing.
-use mathlib.Core.Bool.{Bool, false, ◌&&◌}
+use mathlib.Core.Bool.{Bool, true, false, ◌&&◌}
 use mathlib.Core.Path.{◌≡◌, refl, sym, ap, ap₂, ◌∙◌}
 use mathlib.Core.List.{List, [], ◌∷◌, ◌++◌}
 use Prim.Native.Nat.{ℕ, zero, suc, ◌+◌, ◌*◌, ◌≤◌, ◌<◌}
 use native.Mathlib.Omega.{arith}
 use native.Mathlib.Decide.{ℕ_discrete}
-use lib.Dec.{eqb}
+use lib.Dec.{eqb, ltb}
 use lib.ListN.{length, get_or}
 use borrow.Author.Tests.{lt-ltb, le-ltb, ne_eqb}
 use Rattle.kinds.specs.Kinds.{bit_of}
 use Rattle.ids.specs.declared.BlockId.{BlockId}
-use Rattle.rules.specs.Actions.{answered}
+use Rattle.rules.specs.Actions.{answered, refused}
 use Rattle.rules.specs.Lists.{any}
 use Rattle.rules.specs.Program as P
 use Rattle.rules.specs.Program.{is_terminator, terminated, listed_count}
-use Rattle.rules.specs.Reading.{with_program, with_class, new_block_of, new_fun, new_class}
+use Rattle.rules.specs.Reading.{Parser, with_program, with_class, new_block_of, new_fun, new_class}
 use Rattle.lexer.specs.Names.{name}
 use Rattle.memory.specs.Layout.{functions_most, ivars_most}
 use Rattle.program.specs.Layout.{classes_at, program_size, class_words}
 use Rattle.program.specs.Tab.{tab}
 use Rattle.program.specs.Rows.{insn_at, instruction_at, function_in, name_in, owner_in, class_at, ivar_at, ivars_of, first_of, flag_at}
-use Rattle.program.specs.View.{instructions_of, functions_of, classes_of, blocks_of, program_view, OwnsFrom, ProgramReady, Small, limits_of, PutsBlock, PutsFun, PutsClass, ProgramDid, DidFun, Starts}
-use Rattle.program.specs.View.{grew, stopped, block_of, block_for, class_for, unchanged, more_blocks, more_functions, more_classes}
+use Rattle.program.specs.View.{instructions_of, functions_of, classes_of, blocks_of, program_view, OwnsFrom, ProgramReady, limits_of, PutsBlock, PutsFun, PutsClass, ProgramDid, DidFun, Starts}
+use Rattle.program.specs.View.{grew, stopped, block_for, fun_for, class_for, unchanged, more_blocks, more_functions, more_classes}
 use Rattle.program.specs.declared.Counts.{Counts}
-use Rattle.program.specs.declared.Limits.{Limits}
+use Rattle.program.specs.declared.bounds.Limits.{Limits}
 use Rattle.program.specs.declared.Name.{Name}
-use Rattle.program.specs.declared.Owner.{Owner}
+use Rattle.std.specs.Prelude.{Option, Ok, Err}
+use Rattle.refusals.specs.Refusals.{number_of}
+use Rattle.refusals.specs.declared.Refusal.{Refusal}
+use Rattle.refusals.specs.declared.Refusal.TheVariants.{OverLimit}
+use Rattle.ids.specs.declared.ClassId.{ClassId}
 use Rattle.program.specs.declared.Function.{Function}
-use Rattle.program.specs.declared.NewBlock.{NewBlock}
-use Rattle.program.specs.declared.NewBlock.TheVariants as B
-use Rattle.program.specs.declared.NewFun.TheVariants as F
 use Rattle.program.proofs.Committing.{any_snoc}
 use Rattle.program.proofs.Viewing.{Keeps, owns-same, owns-more, insn_keep, fun_keep, ivars-keep, firsts-keep, instructions-keep, functions-keep, classes-keep, blocks-keep, free_blocks}
 use Rattle.program.proofs.Viewing.{free_functions, free_classes, flags-below, functions_more, classes-more, blocks_more, functions-length, classes-length, blocks-length}
@@ -60,9 +61,9 @@ old_or_new P n f g i h = elim (ℕ_discrete i n) [ yes e ↦ rw e g | no e ↦ f
 
 -- ---- a block
 
-module _ {m m' : List ℕ} {c : Counts} {l : Limits} (f : ℕ) (r : ProgramReady m c) (small : Small l) (few : c.blocks < l.blocks) (p : PutsBlock c.blocks f m m') where
+module _ {m m' : List ℕ} {c : Counts} (l : Limits) (f : ℕ) (r : ProgramReady m c) (few : c.blocks < l.blocks) (p : PutsBlock c.blocks f m m') where
   block_keeps : Keeps c m m'
-  block_keeps = free_blocks r p.only (omega (arith, small.blocks))
+  block_keeps = free_blocks r p.only (omega (arith, l.small.blocks))
 
   block_view : (s : List ℕ) → program_view s m' (more_blocks c) ≡ P.with_block f (program_view s m c)
   block_view s =
@@ -75,14 +76,14 @@ module _ {m m' : List ℕ} {c : Counts} {l : Limits} (f : ℕ) (r : ProgramReady
         p.here,
       )
 
-  block-ready : ProgramReady m' (more_blocks c)
+  pub block-ready : ProgramReady m' (more_blocks c)
   block-ready =
       let K = block_keeps in
       record {
         len_mem = rw K.len_same r.len_mem;
         functions = r.functions;
         classes = r.classes;
-        blocks = omega (arith, small.blocks);
+        blocks = omega (arith, l.small.blocks);
         insns = r.insns;
         listed = r.listed;
         opnds = r.opnds;
@@ -153,73 +154,60 @@ module _ {m m' : List ℕ} {c : Counts} (x : Function) (r : ProgramReady m c) (f
         firsts = λ k h. owns-more (firsts-keep r K k h);
       }
 
--- the block first, then the function's own question
-module _ {m m1 : List ℕ} {c : Counts} {l : Limits} {q : NewBlock} (n : Name) (k : Owner) (small : Small l)
-    (d : ProgramDid (block_for (limits_of l) c.functions) unchanged c.blocks (more_blocks c) m c m1 (block_of q)) where
-  pub fun_no_block : {e : ℕ} → q ≡ B.Refused e → DidFun l n k m c m1 (F.Refused e)
-  unfolding new_fun
-  fun_no_block e =
-      let a = rw e at d in
-      record {
-        did = record { is = λ s r. rw (functions-length s m c.functions, ← a.is s (with_class (owner_in k) r)); ok = tt };
-        entry = tt;
-      }
+-- the code asks for the function before the block; the rules ask in the other order, and both refusals are one
+module _ {m : List ℕ} {c : Counts} (l : Limits) (n : Name) (k : Option ClassId) where
+  pub fun_full : l.functions ≤ c.functions → DidFun l n k m c m c (Err OverLimit)
+  unfolding new_fun new_block_of
+  fun_full h = record { did = record { is = λ s r. go s r (ltb c.blocks l.blocks) refl; ok = tt }; entry = tt }
+    where
+      go : (s : List ℕ) (r : Parser) (t : Bool) → ltb c.blocks l.blocks ≡ t → refused 11 ≡ fun_for (limits_of l) n k s (with_program (program_view s m c) r)
+      go s r false e = rw (functions-length s m c.functions, blocks-length m c.blocks, e)
+      go s r true e = rw (functions-length s m c.functions, blocks-length m c.blocks, e, le-ltb c.functions l.functions h)
 
-  module _ {b : BlockId} {c1 : Counts} (e : q ≡ B.Added b c1) where
-    pub fun_full : l.functions ≤ c.functions → DidFun l n k m c m1 (F.Refused 11)
+  module _ {m1 : List ℕ} {c1 : Counts} where
+    pub fun_no_block : {e : Refusal} → ProgramDid (block_for (limits_of l) c.functions) unchanged c.blocks (more_blocks c) m c m1 (stopped (number_of e)) → DidFun l n k m c m1 c1 (Err e)
     unfolding new_fun
-    fun_full h =
-        let a = rw e at d in
+    fun_no_block d =
         record {
-          did =
-              record {
-                is = λ s r. rw (functions-length s m c.functions, ← a.is s (with_class (owner_in k) r), le-ltb c.functions l.functions h);
-                ok = tt;
-              };
+          did = record { is = λ s r. rw (functions-length s m c.functions, ← d.is s (with_class (owner_in k) r)); ok = tt };
           entry = tt;
         }
 
-    pub fun_grew : {m2 : List ℕ} → c.functions < l.functions → PutsFun c.functions (record { name = n; class = k; entry = b }) m1 m2
-        → DidFun l n k m c m2
-        (F.Added (record { 0 = c.functions }) b
-        (record {
-          functions = c.functions + 1;
-          classes = c1.classes;
-          blocks = c1.blocks;
-          insns = c1.insns;
-          opnds = c1.opnds;
-          listed = c1.listed;
-        }))
-    unfolding new_fun
-    fun_grew h p =
-        let a = rw e at d in
-        let counts = a.ok.counts in
-        let ready : ProgramReady m1 (more_blocks c) = rw counts at a.ok.ready in
-        let x : Function = record { name = n; class = k; entry = b } in
-        let few : c.functions < functions_most = omega (arith, small.functions) in
-        rw counts
-        (record {
-          did =
-              record {
-                is = λ s r.
-                    rw (
-                      functions-length s m c.functions,
-                      ← rw counts at (a.is s (with_class (owner_in k) r)),
-                      lt-ltb c.functions l.functions h,
-                      fun_view x ready few p s,
-                      a.ok.number,
-                    );
-                ok = record { number = refl; counts = refl; ready = fun_ready x ready few p };
-              };
-          entry = a.ok.number;
-        })
+    module _ {b : BlockId} (few : c.functions < l.functions) (d : ProgramDid (block_for (limits_of l) c.functions) unchanged c.blocks (more_blocks c) m c m1 (grew b.0 c1)) where
+      pub fun_grew : {m2 : List ℕ} → PutsFun c.functions (record { name = n; class = k; entry = b }) m1 m2
+          → DidFun l n k m c m2 (more_functions c1) (Ok (record { 0 = c.functions }, b))
+      unfolding new_fun
+      fun_grew p =
+          let counts = d.ok.counts in
+          let ready : ProgramReady m1 (more_blocks c) = rw counts at d.ok.ready in
+          let x : Function = record { name = n; class = k; entry = b } in
+          let room : c.functions < functions_most = omega (arith, l.small.functions) in
+          rw counts
+          (record {
+            did =
+                record {
+                  is = λ s r.
+                      rw (
+                        functions-length s m c.functions,
+                        ← rw counts at (d.is s (with_class (owner_in k) r)),
+                        lt-ltb c.functions l.functions few,
+                        fun_view x ready room p s,
+                        d.ok.number,
+                      );
+                  ok = record { number = refl; counts = refl; ready = fun_ready x ready room p };
+                };
+            entry = d.ok.number;
+          })
+
+      pub fun_after : {m2 : List ℕ} → PutsFun c.functions (record { name = n; class = k; entry = b }) m1 m2 → ProgramReady m2 (more_functions c1)
+      fun_after p = (fun_grew p).did.ok.ready
 
 -- ---- a class
 
-module _ {m m' : List ℕ} {c : Counts} {l : Limits} (n : Name) (r : ProgramReady m c) (small : Small l) (few : c.classes < l.classes) {a : ℕ}
+module _ {m m' : List ℕ} {c : Counts} (l : Limits) (n : Name) (r : ProgramReady m c) (few : c.classes < l.classes) {a : ℕ}
     (owns : OwnsFrom m c.functions c.classes a) (p : PutsClass c.classes n a m m') where
   class_keeps : Keeps c m m'
-  class_keeps = free_classes r p.only (omega (arith, small.classes))
+  class_keeps = free_classes r p.only (omega (arith, l.small.classes))
 
   class-new : (s : List ℕ) → class_at s m' c.classes ≡ record { name = name_in s n; ivars = [] }
   unfolding class_at tab
@@ -237,14 +225,14 @@ module _ {m m' : List ℕ} {c : Counts} {l : Limits} (n : Name) (r : ProgramRead
         class-new s,
       )
 
-  class-ready : ProgramReady m' (more_classes c)
+  pub class-ready : ProgramReady m' (more_classes c)
   class-ready =
       let K = class_keeps in
       let b = r.blocks in
       record {
         len_mem = rw K.len_same r.len_mem;
         functions = r.functions;
-        classes = omega (arith, small.classes);
+        classes = omega (arith, l.small.classes);
         blocks = r.blocks;
         insns = r.insns;
         listed = r.listed;

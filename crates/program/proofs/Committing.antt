@@ -1,5 +1,5 @@
 -- An instruction that is added: what the row and the flag make of the program. Assumes nothing.
-use mathlib.Core.Bool.{Bool, true, false, ◌&&◌, ◌||◌, or-true, or-false, or_assoc}
+use mathlib.Core.Bool.{Bool, true, false, cond, ◌&&◌, ◌||◌, or-true, or-false, or_assoc}
 use mathlib.Core.Path.{◌≡◌, refl, sym, ap, ◌∙◌}
 use mathlib.Core.List.{List, [], ◌∷◌, ◌++◌, map}
 use Prim.Native.Nat.{ℕ, ◌+◌, ◌*◌, ◌≤◌, ◌<◌}
@@ -20,10 +20,11 @@ use Rattle.program.specs.Layout.{insns_at, opnds_at, blocks_at, insn_words}
 use Rattle.program.specs.Rows.{opnds_in, opnd_of, op_in, listed_in, ends_block, insn_at, instruction_at, flag_at}
 use Rattle.program.specs.View.{program_view, ProgramReady, PutsRow, ProgramRoom, Commits, more_insns}
 use Rattle.program.specs.declared.Counts.{Counts}
+use Rattle.program.specs.declared.Row.{Row}
 use Rattle.program.specs.declared.Op.{Op}
 use Rattle.program.specs.declared.Op.TheVariants.{Jump, IfTrue, Return, SendStatic, SendDynamic, Compute, Phi, Param, SelfParam, New, GetIvar, SetIvar}
 use Rattle.program.proofs.Areas.{Same, opnds-same, given-length, same_above}
-use Rattle.program.proofs.Viewing.{Keeps, keeps_then, insn_keep, ivars-keep, firsts-keep, instructions-keep, functions-keep, classes-keep, blocks-keep, free_insns, opnds-end, flags-same}
+use Rattle.program.proofs.Viewing.{Keeps, ready-keep, keeps_then, insn_keep, ivars-keep, firsts-keep, instructions-keep, functions-keep, classes-keep, blocks-keep, free_insns, opnds-end, flags-same}
 use Rattle.program.proofs.Viewing.{instructions-more}
 
 -- ---- what the rules ask of one instruction more
@@ -168,7 +169,7 @@ module _ {m : List ℕ} {c : Counts} (b : BlockId) (o : Op) (n : ℕ) (r : Progr
         }
 
   -- an instruction that ends no block
-  pub commit_plain : {m' : List ℕ} {e : Bool} {k : ℕ} → k ≡ listed_in o n → PutsRow c.insns (record { block = b; op = o; first = c.opnds; count = n }) m m'
+  commit_plain : {m' : List ℕ} {e : Bool} {k : ℕ} → k ≡ listed_in o n → PutsRow c.insns (record { block = b; op = o; first = c.opnds; count = n }) m m'
       → e ≡ ends_block o → e ≡ false
       → Commits b.0 o n m c m' (record { functions = c.functions; classes = c.classes; blocks = c.blocks; insns = c.insns + 1; opnds = c.opnds + n; listed = c.listed + k })
   commit_plain {m' = m'} listed w p q =
@@ -189,7 +190,7 @@ module _ {m : List ℕ} {c : Counts} (b : BlockId) (o : Op) (n : ℕ) (r : Progr
       })
 
   -- one that ends its block
-  pub commit_end : {m' : List ℕ} {e : Bool} {k : ℕ} → k ≡ listed_in o n → PutsRow c.insns (record { block = b; op = o; first = c.opnds; count = n }) m m'
+  commit_end : {m' : List ℕ} {e : Bool} {k : ℕ} → k ≡ listed_in o n → PutsRow c.insns (record { block = b; op = o; first = c.opnds; count = n }) m m'
       → e ≡ ends_block o → e ≡ true
       → Commits b.0 o n m c (set m' (blocks_at + 2 * b.0 + 1) 1)
       (record { functions = c.functions; classes = c.classes; blocks = c.blocks; insns = c.insns + 1; opnds = c.opnds + n; listed = c.listed + k })
@@ -212,3 +213,19 @@ module _ {m : List ℕ} {c : Counts} (b : BlockId) (o : Op) (n : ℕ) (r : Progr
             ∙ ap bit_of (sym (terminated-more (program_view s m c) (new s) d)));
         counts = refl;
       })
+
+  -- either, with the flag as the code leaves it
+  pub commit_is : {m' m'' : List ℕ} {k : ℕ} → k ≡ listed_in o n → PutsRow c.insns (record { block = b; op = o; first = c.opnds; count = n }) m m'
+      → m'' ≡ cond (ends_block o) (set m' (blocks_at + 2 * b.0 + 1) 1) m'
+      → Commits b.0 o n m c m'' (record { functions = c.functions; classes = c.classes; blocks = c.blocks; insns = c.insns + 1; opnds = c.opnds + n; listed = c.listed + k })
+  commit_is {m' = m'} {k = k} listed w e = rw e (go (ends_block o) refl)
+    where
+      go : (t : Bool) → t ≡ ends_block o
+          → Commits b.0 o n m c (cond t (set m' (blocks_at + 2 * b.0 + 1) 1) m')
+          (record { functions = c.functions; classes = c.classes; blocks = c.blocks; insns = c.insns + 1; opnds = c.opnds + n; listed = c.listed + k })
+      go true f = commit_end listed w f refl
+      go false f = commit_plain listed w f refl
+
+-- the row alone, behind those in use
+pub row-ready : {m m' : List ℕ} {c : Counts} {x : Row} → ProgramReady m c → c.insns < instructions_most → PutsRow c.insns x m m' → ProgramReady m' c
+row-ready {c = c} r h w = ready-keep r (free_insns r w.only h) (flags-same c w.only (omega arith))

@@ -1,10 +1,10 @@
+pub mod Room
 pub mod Tables
 pub mod Forms
-pub mod Owners
 pub mod Areas
-pub mod Stores
 pub mod Viewing
 pub mod Committing
+pub mod Refusing
 pub mod Pushing
 pub mod Calling
 pub mod Adding

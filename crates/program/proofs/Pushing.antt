@@ -1,7 +1,7 @@
 -- An instruction that is pushed: its questions, its operands, and the rules' action. Assumes nothing.
 use mathlib.Core.Bool.{Bool, true, false, cond}
 use mathlib.Core.Path.{◌≡◌, refl, sym, ap, ap₂, ◌∙◌}
-use mathlib.Core.List.{List, [], ◌∷◌, map}
+use mathlib.Core.List.{List, [], map}
 use Prim.Native.Nat.{ℕ, ◌+◌, ◌-◌, ◌*◌, ◌≤◌, ◌<◌}
 use native.Mathlib.Omega.{arith}
 use lib.Dec.{eqb, ltb, leb}
@@ -14,9 +14,9 @@ use Rattle.rules.specs.Program.{about, terminated, listed_count}
 use Rattle.rules.specs.Reading.{Parser, with_program, push_insn}
 use Rattle.program.specs.Layout.{opnds_at, blocks_at}
 use Rattle.program.specs.Rows.{opnd_at, opnds_in, opnd_of, given, op_in, listed_in, flag_at}
-use Rattle.program.specs.View.{program_view, ProgramReady, Small, limits_of, Puts, ProgramRoom, Commits, ProgramAdds, Asks, ProgramDid, grew, stopped, pushing_of, push_asks, more_insns, unchanged}
+use Rattle.program.specs.View.{program_view, ProgramReady, limits_of, Puts, ProgramRoom, Commits, ProgramAdds, Asks, ProgramDid, grew, stopped, pushing_of, push_asks, more_insns, unchanged}
 use Rattle.program.specs.declared.Counts.{Counts}
-use Rattle.program.specs.declared.Limits.{Limits}
+use Rattle.program.specs.declared.bounds.Limits.{Limits}
 use Rattle.program.specs.declared.Opnd.{Opnd}
 use Rattle.program.specs.declared.Op.{Op}
 use Rattle.program.specs.declared.Given.{Given}
@@ -24,18 +24,6 @@ use Rattle.program.specs.declared.Given.TheVariants.{Zero, One, Two}
 use Rattle.program.proofs.Areas.{puts_none, puts_one, puts_then, opnds-length, opnds-add, opnds_one}
 use Rattle.program.proofs.Viewing.{Keeps, view_keep, ready-keep, free_opnds, flags-same, instructions-length}
 use Rattle.program.proofs.Committing.{listed-is}
-
--- ---- operands given
-
-pub given-none : {g : Given} (at : ℕ) (m : List ℕ) → g ≡ Zero → Puts at (given g) m m
-given-none at m e = rw e (puts_none at m)
-
-pub given_one : {g : Given} {v : Opnd} {at : ℕ} {m m' : List ℕ} → g ≡ One v → Puts at (v ∷ []) m m' → Puts at (given g) m m'
-given_one e p = rw e p
-
-pub given_two : {g : Given} {v w : Opnd} {at : ℕ} {m m1 m2 : List ℕ} → g ≡ Two v w → Puts at (v ∷ []) m m1 → Puts (at + 2) (w ∷ []) m1 m2
-    → Puts at (given g) m m2
-given_two e p q = rw e (puts_then p (omega arith) q)
 
 -- ---- operands copied
 
@@ -166,14 +154,14 @@ asks_yes L p b k e =
     go false true f false g z = absurd (omega arith)
     go false true f true g z = (ltb-true _ _ f, leb-true _ _ g)
 
-module _ {m : List ℕ} {c : Counts} {l : Limits} {b k e : ℕ} (o : Op) (n : ℕ) (r : ProgramReady m c) (small : Small l) (h : b < c.blocks) (asks : Asks l m c b k e) where
+module _ {m : List ℕ} {c : Counts} {l : Limits} {b k e : ℕ} (o : Op) (n : ℕ) (r : ProgramReady m c) (h : b < c.blocks) (asks : Asks l m c b k e) where
   pub room_of : e ≡ 0 → k ≡ listed_in o n → n ≤ listed_in o n + 2 → ProgramRoom b o n c
   room_of z q few =
       let y = asks_yes (limits_of l) (program_view [] m c) b k (sym z ∙ asks.is []) in
       let len = instructions-length [] m c.insns in
       let lst = r.listing [] in
-      let si = small.instructions in
-      let so = small.operands in
+      let si = l.small.instructions in
+      let so = l.small.operands in
       record { block = h; insns = omega arith; listed = omega arith; opnds = few }
 
 given-few : (g : Given) → length (given g) ≤ 2
@@ -181,12 +169,12 @@ given-few Zero = omega arith
 given-few (One v) = omega arith
 given-few (Two v w) = omega arith
 
-pub room-given : {m : List ℕ} {c : Counts} {l : Limits} {b k e : ℕ} (o : Op) (n : ℕ) (g : Given) → ProgramReady m c → Small l → b < c.blocks → Asks l m c b k e → e ≡ 0
-    → k ≡ listed_in o n → n ≡ length (given g) → ProgramRoom b o n c
-room-given o n g r small h asks z q w = room_of o n r small h asks z q (omega (arith, given-few g))
+pub room-given : {m : List ℕ} {c : Counts} {l : Limits} {b k e : ℕ} (o : Op) (n : ℕ) (g : Given) → ProgramReady m c → b < c.blocks → Asks l m c b k e → e ≡ 0
+    → k ≡ listed_in o n → n ≡ length (given g) → ProgramRoom b o (length (given g)) c
+room-given o n g r h asks z q w = room_of o (length (given g)) r h asks z (q ∙ ap (listed_in o) w) (omega (arith, given-few g))
 
 -- operands behind those in use
-module _ {m m1 : List ℕ} {c : Counts} {b : ℕ} (o : Op) (n : ℕ) (os : List Opnd) (r : ProgramReady m c) (room : ProgramRoom b o n c) (q : n ≡ length os)
+module _ {m m1 : List ℕ} {c : Counts} {b : ℕ} (o : Op) (os : List Opnd) (r : ProgramReady m c) (room : ProgramRoom b o (length os) c)
     (p : Puts (opnds_at + 2 * c.opnds) os m m1) where
   fits : opnds_at + 2 * c.opnds + 2 * length os ≤ blocks_at
   fits = omega (arith, r.opnds, room.listed, room.opnds, room.insns)
@@ -197,8 +185,8 @@ module _ {m m1 : List ℕ} {c : Counts} {b : ℕ} (o : Op) (n : ℕ) (os : List 
   pub ready-puts : ProgramReady m1 c
   ready-puts = ready-keep r puts_keeps (flags-same c p.only fits)
 
-  pub adds-is : {m2 : List ℕ} {c' : Counts} → Commits b o n m1 c m2 c' → ProgramAdds b o os m c m2 c'
-  adds-is w =
+  pub adds-is : {m2 : List ℕ} {c' : Counts} {n : ℕ} → n ≡ length os → Commits b o n m1 c m2 c' → ProgramAdds b o os m c m2 c'
+  adds-is q w =
       record {
         is = λ s.
             w.is s

@@ -1,15 +1,9 @@
 -- Rows that are read, in the rules' words. Assumes nothing.
-use mathlib.Core.Bool.{Bool, false}
 use mathlib.Core.Path.{◌≡◌, refl, sym, ap, ◌∙◌}
 use mathlib.Core.List.{List, [], map}
 use Prim.Native.Nat.{ℕ, ◌+◌, ◌-◌, ◌*◌, ◌%◌, ◌^◌, ◌<◌}
-use native.Mathlib.Omega.{arith}
-use lib.Dec.{eqb}
 use lib.ListN.{get_or, get_or-map}
-use Rattle.kinds.specs.Kinds.{same_kind}
-use Rattle.kinds.specs.declared.Kind.{Kind}
 use Rattle.kinds.specs.declared.Kind.TheVariants.{Nil}
-use Rattle.ids.specs.declared.InsnId.{InsnId}
 use Rattle.rules.specs.Program as P
 use Rattle.rules.specs.Program.{same_opnd}
 use Rattle.rules.specs.Reading.{new_block}
@@ -19,11 +13,12 @@ use Rattle.program.specs.Rows.{insn_at, opnd_at, opnds_in, opnd_of, nth, op_from
 use Rattle.program.specs.View.{program_view, instructions_of, functions_of, blocks_of, ProgramReady, limits_of, ProgramDid, Grew, ReadsInsn, ReadsFun, ReadsBlock, block_for, next_block, more_blocks}
 use Rattle.program.specs.View.{unchanged}
 use Rattle.program.specs.declared.Counts.{Counts}
-use Rattle.program.specs.declared.Limits.{Limits}
+use Rattle.program.specs.declared.bounds.Limits.{Limits}
 use Rattle.program.specs.declared.Opnd.{Opnd}
-use Rattle.program.specs.declared.Opnd.TheVariants.{Const, Insn}
+use Rattle.program.specs.declared.Opnd.TheVariants.{Const}
 use Rattle.program.specs.declared.Op.{Op}
-use Rattle.program.specs.declared.Owner.{Owner}
+use Rattle.std.specs.Prelude.{Option}
+use Rattle.ids.specs.declared.ClassId.{ClassId}
 use Rattle.program.proofs.Tables.{tab-at}
 use Rattle.program.proofs.Forms.{insn_is, fun_is}
 use Rattle.program.proofs.Viewing.{functions-length}
@@ -50,7 +45,7 @@ module _ {m : List ℕ} {c : Counts} (i : ℕ) (r : ProgramReady m c) where
   insn_read h e =
       rw (insn_is m i e) (record { row = refl; is = λ s. instruction-is s m c i h; range = r.ranges i h; inside = r.inside i h })
 
-  pub fun_read : {o : Owner} → i < c.functions → o ≡ owner_from (get_or m (functions_at + function_words * i + 2) 0)
+  pub fun_read : {o : Option ClassId} → i < c.functions → o ≡ owner_from (get_or m (functions_at + function_words * i + 2) 0)
       → ReadsFun m c i
       (record {
         name = record { start = get_or m (functions_at + function_words * i) 0; len = get_or m (functions_at + function_words * i + 1) 0 };
@@ -71,33 +66,9 @@ unfolding opnds_in
 operand_read m at n j h e =
     ap opnd_of (e ∙ sym (tab-at (λ i. opnd_at m (at + 2 * i)) n j (Const Nil) h)) ∙ sym (get_or-map opnd_of (tab (λ i. opnd_at m (at + 2 * i)) n) j (Const Nil))
 
--- ---- operands compared
-
-module _ {v w : Opnd} where
-  pub same_consts : {a b : Kind} {r : Bool} → v ≡ Const a → w ≡ Const b → r ≡ same_kind a b → r ≡ same_opnd (opnd_of v) (opnd_of w)
-  same_consts e f g = rw (e, f) g
-
-  pub const_insn : {a : Kind} {i : InsnId} → v ≡ Const a → w ≡ Insn i → false ≡ same_opnd (opnd_of v) (opnd_of w)
-  const_insn e f = rw (e, f)
-
-  pub insn_const : {i : InsnId} {a : Kind} → v ≡ Insn i → w ≡ Const a → false ≡ same_opnd (opnd_of v) (opnd_of w)
-  insn_const e f = rw (e, f)
-
-  pub same-insns : {i j : InsnId} → v ≡ Insn i → w ≡ Insn j → eqb i.0 j.0 ≡ same_opnd (opnd_of v) (opnd_of w)
-  same-insns e f = rw (e, f)
-
 -- ---- the next block is one of the last function
 
-module _ (l : Limits) {m m' : List ℕ} {c : Counts} {g : Grew} where
-  next-is : (f : ℕ) → f ≡ c.functions - 1 → ProgramDid (block_for (limits_of l) f) unchanged c.blocks (more_blocks c) m c m' g
-      → ProgramDid (next_block (limits_of l)) unchanged c.blocks (more_blocks c) m c m' g
-  unfolding new_block
-  next-is f e d = let h = rw e at d in record { is = λ s r. rw (functions-length s m c.functions) (h.is s r); ok = d.ok }
-
-  pub next-first : c.functions ≡ 0 → ProgramDid (block_for (limits_of l) 0) unchanged c.blocks (more_blocks c) m c m' g
-      → ProgramDid (next_block (limits_of l)) unchanged c.blocks (more_blocks c) m c m' g
-  next-first e d = next-is 0 (omega arith) d
-
-  pub next_last : ProgramDid (block_for (limits_of l) (c.functions - 1)) unchanged c.blocks (more_blocks c) m c m' g
-      → ProgramDid (next_block (limits_of l)) unchanged c.blocks (more_blocks c) m c m' g
-  next_last d = next-is (c.functions - 1) refl d
+pub next-is : (l : Limits) {m m' : List ℕ} {c : Counts} {g : Grew} (f : ℕ) → f ≡ c.functions - 1 → ProgramDid (block_for (limits_of l) f) unchanged c.blocks (more_blocks c) m c m' g
+    → ProgramDid (next_block (limits_of l)) unchanged c.blocks (more_blocks c) m c m' g
+unfolding new_block
+next-is l {m = m} {c = c} f e d = let h = rw e at d in record { is = λ s r. rw (functions-length s m c.functions) (h.is s r); ok = d.ok }

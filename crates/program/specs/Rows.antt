@@ -1,6 +1,7 @@
 -- The program's tables in one memory of words, and what a row of each stands for. Assumes nothing.
-use Rattle.std.specs.Prelude.{Bool as 𝔹, cond, List, [], ◌∷◌, map, ℕ, ◌+◌, ◌-◌, ◌*◌, ◌%◌, ◌^◌, eqb, get_or, drop}
-use Rattle.std.proofs.Math.Option.{Option, none, some}
+use Rattle.std.specs.Prelude.{Bool as 𝔹, cond, List, [], ◌∷◌, map, ℕ, ◌+◌, ◌-◌, ◌*◌, ◌%◌, ◌^◌, eqb, get_or, drop, Option, Some, None}
+use Rattle.std.proofs.Math.Option as M
+use Rattle.ids.specs.declared.ClassId.{ClassId}
 use Rattle.kinds.specs.Kinds.{kind_from}
 use Rattle.kinds.specs.declared.Kind.TheVariants.{Nil}
 use Rattle.kinds.specs.declared.Arith.TheVariants.{Add, Sub, Mul, Less}
@@ -14,8 +15,6 @@ use Rattle.program.specs.declared.Opnd.TheVariants.{Const, Insn}
 use Rattle.program.specs.declared.Op.{Op}
 use Rattle.program.specs.declared.Op.TheVariants.{Jump, IfTrue, Return, SendStatic, SendDynamic, Compute, Phi, Param, SelfParam, New, GetIvar, SetIvar}
 use Rattle.program.specs.declared.Row.{Row}
-use Rattle.program.specs.declared.Owner.{Owner}
-use Rattle.program.specs.declared.Owner.TheVariants.{Class, Nobody}
 use Rattle.program.specs.declared.Function.{Function}
 use Rattle.program.specs.declared.Given.{Given}
 use Rattle.program.specs.declared.Given.TheVariants.{Zero, One, Two}
@@ -136,12 +135,12 @@ instruction_at s m i =
 -- ---- functions, classes and blocks
 
 -- the stored form of a function's class: 0 none, else the class's number and one
-unfoldable pub owner_from : ℕ → Owner
-owner_from x = cond (eqb x 0) Nobody (Class (record { 0 = (x - 1) % 2 ^ 32 }))
+unfoldable pub owner_from : ℕ → Option ClassId
+owner_from x = cond (eqb x 0) None (Some (record { 0 = (x - 1) % 2 ^ 32 }))
 
-abbrev pub owner_in : Owner → Option ℕ
-owner_in (Class c) = some c.0
-owner_in Nobody = none
+abbrev pub owner_in : Option ClassId → M.Option ℕ
+owner_in (Some c) = M.some c.0
+owner_in None = M.none
 
 -- a row: the name's start and length, the class, the entry block
 unfoldable pub fun_at : List ℕ → ℕ → Function

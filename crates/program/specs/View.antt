@@ -1,5 +1,11 @@
 -- The program that memory and counts stand for, what every function may rely on, and what each does. Assumes nothing.
-use Rattle.std.specs.Prelude.{true, cond, ◌≡◌, List, map, ℕ, ◌+◌, ◌*◌, ◌≤◌, ◌<◌, ltb, leb, length, get_or}
+use Rattle.std.specs.Prelude.{true, cond, ◌≡◌, List, map, ℕ, ◌+◌, ◌*◌, ◌≤◌, ◌<◌, ltb, leb, length, get_or, Option, Result, Ok, Err}
+use Rattle.ids.specs.declared.BlockId.{BlockId}
+use Rattle.ids.specs.declared.ClassId.{ClassId}
+use Rattle.ids.specs.declared.FunId.{FunId}
+use Rattle.ids.specs.declared.InsnId.{InsnId}
+use Rattle.refusals.specs.Refusals.{number_of}
+use Rattle.refusals.specs.declared.Refusal.{Refusal}
 use Rattle.kinds.specs.Kinds.{bit_of}
 use Rattle.rules.specs.Actions.{Answer, answered, refused}
 use Rattle.rules.specs.Lists.{is_just}
@@ -12,9 +18,8 @@ use Rattle.program.specs.Tab.{tab}
 use Rattle.program.specs.Rows.{opnds_in, opnd_of, op_in, listed_in, insn_at, instruction_at, fun_at, function_in, name_in, owner_in, class_name_at}
 use Rattle.program.specs.Rows.{class_at, ivars_of, first_of, block_at, flag_at}
 use Rattle.program.specs.declared.Counts.{Counts}
-use Rattle.program.specs.declared.Limits.{Limits}
+use Rattle.program.specs.declared.bounds.Limits.{Limits}
 use Rattle.program.specs.declared.Name.{Name}
-use Rattle.program.specs.declared.Owner.{Owner}
 use Rattle.program.specs.declared.Function.{Function}
 use Rattle.program.specs.declared.Opnd.{Opnd}
 use Rattle.program.specs.declared.Op.{Op}
@@ -22,14 +27,6 @@ use Rattle.program.specs.declared.Row.{Row}
 use Rattle.program.specs.declared.Op.TheVariants.{SendStatic, SendDynamic}
 use Rattle.program.specs.declared.Callee.{Callee}
 use Rattle.program.specs.declared.Callee.TheVariants as K
-use Rattle.program.specs.declared.NewInsn.{NewInsn}
-use Rattle.program.specs.declared.NewInsn.TheVariants as I
-use Rattle.program.specs.declared.NewBlock.{NewBlock}
-use Rattle.program.specs.declared.NewBlock.TheVariants as B
-use Rattle.program.specs.declared.NewFun.{NewFun}
-use Rattle.program.specs.declared.NewFun.TheVariants as F
-use Rattle.program.specs.declared.NewClass.{NewClass}
-use Rattle.program.specs.declared.NewClass.TheVariants as C
 
 -- ---- the program
 
@@ -180,21 +177,22 @@ pub record ProgramDid (f : List ℕ → Parser → Answer (ℕ × Parser)) (afte
   pub is : (s : List ℕ) (r : Parser) → outcome s m' g (after r) ≡ f s (with_program (program_view s m c) r)
   pub ok : AfterIf m' at next g
 
-abbrev pub insn_of : NewInsn → Grew
-insn_of (I.Added i c) = grew i.0 c
-insn_of (I.Refused e) = stopped e
+-- what an addition answers, with the counts after it
+abbrev pub insn_of : Counts → Result InsnId Refusal → Grew
+insn_of c (Ok i) = grew i.0 c
+insn_of c (Err e) = stopped (number_of e)
 
-abbrev pub block_of : NewBlock → Grew
-block_of (B.Added b c) = grew b.0 c
-block_of (B.Refused e) = stopped e
+abbrev pub block_of : Counts → Result BlockId Refusal → Grew
+block_of c (Ok b) = grew b.0 c
+block_of c (Err e) = stopped (number_of e)
 
-abbrev pub fun_of : NewFun → Grew
-fun_of (F.Added f b c) = grew f.0 c
-fun_of (F.Refused e) = stopped e
+abbrev pub fun_of : Counts → Result (FunId × BlockId) Refusal → Grew
+fun_of c (Ok (f, b)) = grew f.0 c
+fun_of c (Err e) = stopped (number_of e)
 
-abbrev pub class_of : NewClass → Grew
-class_of (C.Added k c) = grew k.0 c
-class_of (C.Refused e) = stopped e
+abbrev pub class_of : Counts → Result ClassId Refusal → Grew
+class_of c (Ok k) = grew k.0 c
+class_of c (Err e) = stopped (number_of e)
 
 -- the counts after an instruction with n operands, a block, a function with its block, a class
 abbrev pub more_insns : Op → ℕ → Counts → Counts
@@ -263,22 +261,22 @@ block_for L f s = new_block_of L f
 abbrev pub next_block : P.Limits → List ℕ → Parser → Answer (ℕ × Parser)
 next_block L s = new_block L
 
-abbrev pub fun_for : P.Limits → Name → Owner → List ℕ → Parser → Answer (ℕ × Parser)
+abbrev pub fun_for : P.Limits → Name → Option ClassId → List ℕ → Parser → Answer (ℕ × Parser)
 fun_for L n k s r = new_fun L (name_in s n) (with_class (owner_in k) r)
 
 abbrev pub class_for : P.Limits → Name → List ℕ → Parser → Answer (ℕ × Parser)
 class_for L n s = new_class L (name_in s n)
 
 -- a new function's entry block takes instructions
-abbrev pub entered : Owner → ℕ → Parser → Parser
+abbrev pub entered : Option ClassId → ℕ → Parser → Parser
 entered k b r = with_block b (with_class (owner_in k) r)
 
-abbrev pub EntryIs : ℕ → NewFun → Type 0
-EntryIs n (F.Added f b c) = b.0 ≡ n
-EntryIs n (F.Refused e) = Unit {0}
+abbrev pub EntryIs : ℕ → Result (FunId × BlockId) Refusal → Type 0
+EntryIs n (Ok (f, b)) = b.0 ≡ n
+EntryIs n (Err e) = Unit {0}
 
-pub record DidFun (l : Limits) (n : Name) (k : Owner) (m : List ℕ) (c : Counts) (m' : List ℕ) (r : NewFun) : Type 0 where
-  pub did : ProgramDid (fun_for (limits_of l) n k) (entered k c.blocks) c.functions (more_functions (more_blocks c)) m c m' (fun_of r)
+pub record DidFun (l : Limits) (n : Name) (k : Option ClassId) (m : List ℕ) (c : Counts) (m' : List ℕ) (c' : Counts) (r : Result (FunId × BlockId) Refusal) : Type 0 where
+  pub did : ProgramDid (fun_for (limits_of l) n k) (entered k c.blocks) c.functions (more_functions (more_blocks c)) m c m' (fun_of c' r)
   pub entry : EntryIs c.blocks r
 
 -- the program before any reading
@@ -289,6 +287,11 @@ pub record Starts (m : List ℕ) (c : Counts) : Type 0 where
 -- nothing but the program changes
 abbrev pub unchanged : Parser → Parser
 unchanged r = r
+
+-- the number of a refusal, else 0
+abbrev pub asked : Result (Unit {0}) Refusal → ℕ
+asked (Ok u) = 0
+asked (Err e) = number_of e
 
 -- questions 10 and 11 of an instruction with k listed operands: 0, or the number of the first that is answered no
 unfoldable pub push_asks : P.Limits → P.Program → ℕ → ℕ → ℕ

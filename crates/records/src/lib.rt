@@ -1,13 +1,12 @@
 // The instructions as records in one lent table.
 #![tactic(auto)]
 
-ghost use Rattle.std.specs.Prelude.{◌≡◌, ◌+◌, ◌<◌, length, get_or, set, replicate};
-ghost use Rattle.program.specs.View.{ProgramReady};
+ghost use Rattle.std.specs.Prelude.{◌≡◌, ◌<◌, length, get_or, replicate};
 ghost use Rattle.memory.specs.Layout.{instructions_most};
 ghost use Rattle.records.specs.Records.{none, record_at, row_of, Holds};
 
 use ids::BlockId;
-use program::{Counts, Row};
+use program::{Program, Row};
 
 // An instruction's record, in plain numbers.
 #[derive(Clone, Copy)]
@@ -20,6 +19,48 @@ pub struct Record {
     pub count: usize,
 }
 
+impl Record {
+    // What stands at every place of an empty table.
+    pub const NONE: Record = Record {
+        tag: 0,
+        block: 0,
+        x: 0,
+        y: 0,
+        first: 0,
+        count: 0,
+    };
+
+    // The record of an instruction that the parser drafted in the program's words.
+    #[tactic(auto, unfolding(crate::specs::Records::record_at))]
+    pub fn drafted(program: &Program, i: usize) -> Record
+        requires { i < program.now.counts.insns }
+        ensures { result ≡ record_at program.now.words.now i }
+    {
+        let at = program::INSNS + program::INSN_WORDS * i;
+        Record {
+            tag: program.words[at],
+            block: program.words[at + 1],
+            x: program.words[at + 2],
+            y: program.words[at + 3],
+            first: program.words[at + 4],
+            count: program.words[at + 5],
+        }
+    }
+
+    // What a record means.
+    #[tactic(auto, unfolding(crate::specs::Records::row_of))]
+    pub fn row(self) -> Row
+        ensures { result ≡ row_of self }
+    {
+        Row {
+            block: BlockId((self.block % 4294967296) as u32),
+            op: program::op_from(self.tag, self.x, self.y),
+            first: self.first,
+            count: self.count,
+        }
+    }
+}
+
 // The one function that reads a record of the table.
 pub fn read(t: &[Record], i: usize) -> Record
     requires { i < length t.now }
@@ -28,66 +69,20 @@ pub fn read(t: &[Record], i: usize) -> Record
     t[i]
 }
 
-// The one function that writes a record of the table: x goes to place n; the next place.
-pub fn append(t: &mut [Record], n: usize, x: Record) -> usize
-    requires { n < length t.old }
-    ensures { (result ≡ n + 1) × (t.new ≡ set t.old n x) }
-{
-    t[n] = x;
-    n + 1
-}
-
 // A table before anything is appended.
+// Stays: there is no heap, so the table is an array that its user keeps.
 pub fn empty() -> [Record; memory::INSTRUCTIONS_MOST]
     ensures { result ≡ replicate instructions_most none }
 {
-    let x = Record {
-        tag: 0,
-        block: 0,
-        x: 0,
-        y: 0,
-        first: 0,
-        count: 0,
-    };
-    [x; memory::INSTRUCTIONS_MOST]
-}
-
-// The record of an instruction that the parser drafted in the program's words.
-pub fn drafted(program: &[usize], counts: Counts, i: usize) -> Record
-    requires { ProgramReady program.now counts × (i < counts.insns) }
-    ensures { result ≡ record_at program.now i }
-{
-    let at = program::INSNS + program::INSN_WORDS * i;
-    Record {
-        tag: program[at],
-        block: program[at + 1],
-        x: program[at + 2],
-        y: program[at + 3],
-        first: program[at + 4],
-        count: program[at + 5],
-    }
-}
-
-// What a record means.
-pub fn row(x: Record) -> Row
-    ensures { result ≡ row_of x }
-{
-    Row {
-        block: BlockId((x.block % 4294967296) as u32),
-        op: program::op_from(x.tag, x.x, x.y),
-        first: x.first,
-        count: x.count,
-    }
+    [Record::NONE; memory::INSTRUCTIONS_MOST]
 }
 
 // The instructions that the parser drafted are appended to the table.
-pub fn commit(t: &mut [Record], program: &[usize], counts: Counts)
-    requires { ProgramReady program.now counts × (length t.old ≡ instructions_most) }
-    ensures { Holds t.new program.now counts }
+pub fn commit(t: &mut [Record], program: &Program)
+    requires { length t.old ≡ instructions_most }
+    ensures { Holds t.new program.now.words.now program.now.counts }
 {
-    let mut k = 0;
-    while k < counts.insns {
-        let x = drafted(program, counts, k);
-        k = append(t, k, x);
+    for k in 0..program.counts.insns {
+        t[k] = Record::drafted(program, k);
     }
 }

@@ -10,10 +10,12 @@ use lib.Dec.{eqb, ltb, leb}
 use lib.ListN.{length, get_or}
 use Rattle.kinds.specs.declared.Kind.{Kind}
 use Rattle.kinds.specs.declared.Kind.TheVariants.{Empty}
-use Rattle.kinds.specs.declared.Joined.{Joined}
-use Rattle.kinds.specs.declared.Joined.TheVariants.{Of, Refused}
+use Rattle.std.specs.Prelude.{Ok, Err}
+use Rattle.refusals.specs.declared.Refusal.{Refusal}
+use Rattle.refusals.specs.declared.Refusal.TheVariants.{Subtraction, KindsClash}
+use Rattle.refusals.specs.Refusals.{number_of as question_of}
 use Rattle.kinds.specs.Kinds.{same_kind, is_empty}
-use Rattle.kinds.specs.Union.{union_of, union_all}
+use Rattle.kinds.specs.Union.{Joined, union_of, union_all}
 use Rattle.kinds.specs.Rules.{arith_of, admits}
 use Rattle.kinds.proofs.Laws.{union-refused, all-refused}
 use Rattle.kinds.proofs.Growth.{arith-refused}
@@ -44,19 +46,19 @@ fold_fine : {A B : Type 0} (f : B → A → Acts B) → ((b : B) (x : A) (s : St
 fold_fine f h b [] s = done tt
 fold_fine f h b (x ∷ l) s = and_then (h b x s) (λ r q. fold_fine f h r.0 l r.1)
 
-joined_fine : (j : Joined) → ((n : ℕ) → j ≡ Refused n → Asked n) → (s : State) → Fine (lift (to_answer j) s)
-joined_fine (Of k) h s = done tt
-joined_fine (Refused n) h s = refusing (h n refl)
+joined_fine : (j : Joined) → ((e : Refusal) → j ≡ Err e → Asked (question_of e)) → (s : State) → Fine (lift (to_answer j) s)
+joined_fine (Ok k) h s = done tt
+joined_fine (Err e) h s = refusing (h e refl)
 
-nineteen : (n : ℕ) → n ≡ 19 → Asked n
-nineteen n e = (omega arith, omega arith)
+nineteen : (e : Refusal) → e ≡ KindsClash → Asked (question_of e)
+nineteen e h = rw h (omega arith, omega arith)
 
 union_fine : (a b : Kind) (s : State) → Fine (lift (to_answer (union_of a b)) s)
-union_fine a b s = joined_fine (union_of a b) (λ n e. nineteen n (union-refused a b n e).0) s
+union_fine a b s = joined_fine (union_of a b) (λ r e. nineteen r (union-refused a b r e).0) s
 
 join_all_fine : (l : List Opnd) (s : State) → Fine (join_all l s)
 unfolding join_all
-join_all_fine l s = joined_fine (union_all Empty (map (kind_of s) l)) (λ n e. nineteen n (all-refused Empty (map (kind_of s) l) n e)) s
+join_all_fine l s = joined_fine (union_all Empty (map (kind_of s) l)) (λ r e. nineteen r (all-refused Empty (map (kind_of s) l) r e)) s
 
 needed_fine : {A : Type 0} (n : ℕ) (o : Option A) (s : State) → Asked n → Fine (needed n o s)
 needed_fine n none s h = refusing h
@@ -116,9 +118,9 @@ module _ (L : Limits) (p : Program) where
       (λ t q. chosen (same_kind t.0 (get_or (get_or r.1.ivar_kinds c []) r.0 Empty)) _ _ (λ _. done tt)
       (λ _. each_fine (keep (λ i. is_just_name (about (op_of p i)).gets n) (places (λ b. b) (get_or t.1.ivar_reads c []))) (push_insn L p) push_insn_fine (set_ivar_kind c r.0 t.0 t.1))))
 
-  arith-number : (n : ℕ) (X Y : Type 0) → ((n ≡ 18) × X) ⊎ ((n ≡ 19) × Y) → Asked n
-  arith-number n X Y (inl e) = let h = e.0 in (omega arith, omega arith)
-  arith-number n X Y (inr e) = nineteen n e.0
+  arith-number : (r : Refusal) (X Y : Type 0) → ((r ≡ Subtraction) × X) ⊎ ((r ≡ KindsClash) × Y) → Asked (question_of r)
+  arith-number r X Y (inl e) = rw e.0 (omega arith, omega arith)
+  arith-number r X Y (inr e) = nineteen r e.0
 
   rule_fine : (i : ℕ) (o : Op) (s : State) → Fine (rule L p i o s)
   unfolding rule
@@ -129,7 +131,7 @@ module _ (L : Limits) (p : Program) where
   rule_fine i (Send (Dynamic v n) l) s =
       and_then (classes_fine v s) (λ r q. and_then (each_fine r.0 _ (λ c t. and_then (needed_fine 15 (method_named p c n) t (omega arith, omega arith))
       (λ f q. and_then (add_call_fine i f.0 f.1) (λ u q. pass_fine i f.0 u.1))) r.1) (λ t q. join_all_fine _ t.1))
-  rule_fine i (Compute o v w) s = joined_fine (arith_of o (kind_of s v) (kind_of s w)) (λ n e. arith-number n _ _ (arith-refused o (kind_of s v) (kind_of s w) n e)) s
+  rule_fine i (Compute o v w) s = joined_fine (arith_of o (kind_of s v) (kind_of s w)) (λ r e. arith-number r _ _ (arith-refused o (kind_of s v) (kind_of s w) r e)) s
   rule_fine i (Phi b v c w) s = join_all_fine _ s
   rule_fine i (Param n) s = join_all_fine _ s
   rule_fine i (SelfParam c) s = done tt

@@ -2,9 +2,10 @@
 use mathlib.Core.Path.{◌≡◌, refl, sym, ap, ap₂, ◌∙◌, subst}
 use mathlib.Core.List.{List, ◌++◌}
 use Prim.Native.Nat.{ℕ, ◌+◌, ◌-◌, ◌≤◌}
+use native.Mathlib.Nat.{zero-add}
 use native.Mathlib.Omega.{arith}
 use lib.ListN.{length, get_or, take, drop, get_or-append}
-use lib.Seq.{get_or-take, ext_get_or}
+use lib.Seq.{get_or-append-add}
 use Rattle.rules.specs.Actions.{Answer, answered, refused, if_answered}
 use Rattle.rules.specs.Program.{Limits}
 use Rattle.rules.specs.Bound.{bound}
@@ -14,24 +15,25 @@ use Rattle.rules.proofs.Exactness.Loop.{at-start}
 use Rattle.rules.proofs.Exactness.Theorem.{exact}
 use Rattle.rules.proofs.Exactness.Counted.{counted}
 use Rattle.program.specs.View as P
+use Rattle.chains.specs.Chains.{ChainsFilled}
 use Rattle.program.specs.declared.Counts.{Counts}
 use Rattle.program.proofs.Tables.{tab_ext}
 use Rattle.uses.specs.Users.{words, Uses}
 use Rattle.state.specs.declared.Sizes.{Sizes}
 use Rattle.state.specs.declared.Regs.{Regs}
-use Rattle.state.specs.declared.Acted.{Acted}
-use Rattle.state.specs.declared.Acted.TheVariants.{On, Refused}
+use Rattle.state.specs.Acted.{Acted, On, Refused}
 use Rattle.state.specs.View.{Attrs, state_view, StateReady}
 use Rattle.answer.specs.Layout.{starts_at, users_at, answer_length}
 use Rattle.machine.specs.Analysed.{sizes_of, MachineSized, Users, Suited, Analysed, MachineFits}
 use Rattle.machine.proofs.Storing.{start-few}
 use Rattle.memory.specs.Layout.{instructions_most}
-use Rattle.state.specs.Layout.{state_size, state_length}
+use Rattle.state.specs.Layout.{stamps_at}
+use Rattle.state.specs.declared.State as S
+use Rattle.state.proofs.Methods.{ready_at}
 use Rattle.sctp.specs.starts.Starts.{Started}
-use Rattle.chains.specs.Chains.{ChainsFilled}
-use Rattle.run.specs.Runs.{tables_of as words_of, StampsFresh, Reaching, RunRan}
-use Rattle.settled.proofs.Stamps.{tables-long}
-use Rattle.steps.proofs.Stamps.{back_long}
+use Rattle.run.specs.Runs.{StampsFresh, Reaching, RunRan}
+use Rattle.settled.specs.Reads.{whole}
+use Rattle.settled.proofs.Stamps.{whole_tables, whole_long}
 use Rattle.sctp.specs.Sctp.{tables_of, chains_of, Given, SctpChained, SctpAside, Begins, SctpOutcome, Ends, SctpLeft, Analyses}
 
 -- ---- the start, then the run
@@ -46,54 +48,17 @@ started-reaching {s} {p} {c} {z} {m} {r} {q} d e =
           record { from = state_view z v m q; starts = b; there = (at-start L S.room.classes (P.program_view s p c) S.finished (state_view z v m q) b).there };
     }
 
-pub begun_ready : {s p : List ℕ} {c : Counts} {z : Sizes} {u u' m : List ℕ} {r : Acted} {q : Regs} → Begins s p c z u u' m r → r ≡ On q → StateReady z m q
-begun_ready d e = let d1 = rw e at d in d1.started.ok.ready
-
-pub run-ended : {s p : List ℕ} {c : Counts} {z : Sizes} {u u' m w : List ℕ} {b : Acted} {q : Regs} {r : Acted} → Begins s p c z u u' m b → b ≡ On q → RunRan s p c z w r → Ends s p c z u u' w r
-run-ended {s} {p} {c} {z} {u} {u'} {m} {w} {b} {q} {r} d e g =
-    let d1 = rw e at d in
-    record {
-      outcome = record {
-        is = λ L S v f.
-            let h = sym (d1.started.is L S v f) in
-            g.is L S v f (state_view z v m q) h ∙ ap (λ (x : Answer State). if_answered x (run L (P.program_view s p c) (bound (P.program_view s p c)))) (sym h);
-        ok = g.ok;
-      };
-      aside = d.aside;
-    }
-
-pub start-ended : {s p : List ℕ} {c : Counts} {z : Sizes} {u u' m : List ℕ} {b : Acted} {n : ℕ} → Begins s p c z u u' m b → b ≡ Refused n → Ends s p c z u u' m (Refused n)
-start-ended {s} {p} {c} {z} {u} {u'} {m} {b} {n} d e =
-    let d1 = rw e at d in
-    record {
-      outcome = record {
-        is = λ L S v f. ap (λ (x : Answer State). if_answered x (run L (P.program_view s p c) (bound (P.program_view s p c)))) (d1.started.is L S v f);
-        ok = tt;
-      };
-      aside = d.aside;
-    }
-
--- the state's tables were lent and came back as w, and n stamps behind them were cleared
-module _ {n : ℕ} (m w m' : List ℕ) (long : length m ≡ state_length) (same : length w ≡ length (take state_size m)) (f : ChainsFilled state_size n 0 (w ++ drop state_size m) m') where
-  cleared_long : length m' ≡ state_length
-  cleared_long = f.only.len_same ∙ back_long m w long same
-
-  pub cleared_same : length m' ≡ length m
-  cleared_same = cleared_long ∙ sym long
-
-  cleared_tables : w ≡ words_of m'
-  cleared_tables =
-      ext_get_or 0 w (words_of m') (same ∙ tables-long m long ∙ sym (tables-long m' cleared_long))
-      (λ k h. let l = same ∙ tables-long m long in sym (get_or-take state_size m' k 0 (omega arith) ∙ f.only.others k (λ a b. omega arith) ∙ get_or-append w (drop state_size m) 0 k h))
-
-  pub begun_tables : {s p : List ℕ} {c : Counts} {z : Sizes} {u u' : List ℕ} {b : Acted} → Begins s p c z u u' w b → Begins s p c z u u' (words_of m') b
-  begun_tables {s} {p} {c} {z} {u} {u'} {b} d = subst (λ (l : List ℕ). Begins s p c z u u' l b) cleared_tables d
-
 -- no instruction is stamped
-pub begun_fresh : {s p : List ℕ} {c : Counts} {z : Sizes} {u u' : List ℕ} {b : Acted} {q : Regs} (m w m' : List ℕ) → length m ≡ state_length → length w ≡ length (take state_size m)
-    → ChainsFilled state_size z.insns 0 (w ++ drop state_size m) m'
-    → Begins s p c z u u' w b → b ≡ On q → StampsFresh z m' q
-begun_fresh m w m' long same f d e = record { long = cleared_long m w m' long same f; ready = begun_ready (begun_tables m w m' long same f d) e; none = λ i h. f.here i h }
+pub begun_fresh : {z : Sizes} {m : List ℕ} (s : S.State) (t : List ℕ) → length t ≡ instructions_most → s.sizes ≡ z → ChainsFilled 0 z.insns 0 m t → StampsFresh z (whole s t) s.regs
+begun_fresh {z} {m} s t long e f =
+    let l = s.ready.held.len in
+    record {
+      long = whole_long s t long;
+      ready = subst (λ (m : List ℕ). StateReady z m s.regs) (sym (whole_tables s t)) (ready_at s e);
+      none = λ i h.
+          let p : length s.words.now + i ≡ stamps_at + i = omega arith in
+          ap (λ (j : ℕ). get_or (s.words.now ++ t) j 0) (sym p) ∙ get_or-append-add s.words.now t i 0 ∙ ap (λ (j : ℕ). get_or t j 0) (sym (zero-add i)) ∙ f.here i h;
+    }
 
 -- ---- the users
 
@@ -124,31 +89,15 @@ users-laid {p} {c} {u} {u'} len g = record { long = omega (arith, g.len_same); b
 
 -- ---- the whole
 
-module _ {s p : List ℕ} {c : Counts} {u m : List ℕ} (g : Given s p c u m) where
-  pub tables-ready : {p' : List ℕ} → SctpChained c p p' → P.ProgramReady (tables_of p') c
-  tables-ready h = rw h.tables g.ready
-
-  pub all-analysed : {p' u' : List ℕ} {z : Sizes} → SctpChained c p p' → z ≡ sizes_of c → Uses (tables_of p') c starts_at users_at u u' → Analysed s (tables_of p') c (chains_of p') u' z
-  all-analysed {p'} {u'} {z} h e d =
-      record {
-        indexed = record {
-          limits = g.limits;
-          suited = subst (λ (t : List ℕ). Suited s t c g.limits) (sym h.tables) g.suited;
-          sized = subst (MachineSized c) (sym e) (sized-self c);
-          ready = tables-ready h;
-          index = subst (λ (t : List ℕ). Rattle.chains.specs.Chains.Index t c (chains_of p')) (sym h.tables) h.index;
-        };
-        users = users-laid g.answer d;
-      }
-
-  pub analysed_whole : {p' u₁ u' m' : List ℕ} {z : Sizes} {r : Acted} → SctpChained c p p' → z ≡ sizes_of c → Uses (tables_of p') c starts_at users_at u u₁ → length u' ≡ length u₁
+module _ {s p : List ℕ} {c : Counts} {z : Sizes} {u t : List ℕ} (g : Given s p c z u t) where
+  pub analysed_whole : {p' u₁ u' m' : List ℕ} {r : Acted} → SctpChained c p p' → Uses (tables_of p') c starts_at users_at u u₁ → length u' ≡ length u₁
       → Ends s (tables_of p') c z u₁ u' m' r
       → Analyses s (tables_of p) c u u' m' r
-  analysed_whole {p'} {u₁} {u'} {m'} {z} {r} h e d len f =
+  analysed_whole {p'} {u₁} {u'} {m'} {r} h d len f =
       let few = g.ready.insns in
       let k : Users (tables_of p') c u' = users-kept few len f.aside (users-laid g.answer d) in
       record {
-        outcome = subst (λ (t : List ℕ). SctpOutcome s t c (sizes_of c) m' r) h.tables (subst (λ (y : Sizes). SctpOutcome s (tables_of p') c y m' r) e f.outcome);
+        outcome = subst (λ (t : List ℕ). SctpOutcome s t c (sizes_of c) m' r) h.tables (subst (λ (y : Sizes). SctpOutcome s (tables_of p') c y m' r) g.sizes f.outcome);
         left = subst (λ (t : List ℕ). SctpLeft t c u u') h.tables (record {
           users = k;
           others = λ j l a b.

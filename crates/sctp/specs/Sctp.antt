@@ -8,13 +8,13 @@ use Rattle.program.specs.View as P
 use Rattle.program.specs.declared.Counts.{Counts}
 use Rattle.chains.specs.Chains.{Index}
 use Rattle.state.specs.declared.Sizes.{Sizes}
-use Rattle.state.specs.declared.Acted.{Acted}
+use Rattle.state.specs.Acted.{Acted}
 use Rattle.state.specs.View.{Attrs}
 use Rattle.state.specs.Changes.{went}
 use Rattle.answer.specs.Layout.{starts_at, users_at, callers_at, answer_length}
 use Rattle.machine.specs.Analysed.{sizes_of, Users, Suited, MachineFits}
 use Rattle.program.specs.Layout.{program_size}
-use Rattle.state.specs.Layout.{state_length}
+use Rattle.memory.specs.Layout.{instructions_most}
 use Rattle.chains.specs.Layout.{program_length}
 use Rattle.sctp.specs.starts.Starts.{Started}
 use Rattle.run.specs.Runs.{RestedIf}
@@ -26,14 +26,15 @@ tables_of p = take program_size p
 abbrev pub chains_of : List ℕ → List ℕ
 chains_of p = drop program_size p
 
--- the lent parts, and a program that was read
-pub record Given (s p : List ℕ) (c : Counts) (u m : List ℕ) : Type 0 where
+-- the lent parts, and a program that was read; t has room for the stamps
+pub record Given (s p : List ℕ) (c : Counts) (z : Sizes) (u t : List ℕ) : Type 0 where
   pub limits : Limits
   pub suited : Suited s (tables_of p) c limits
   pub ready : P.ProgramReady (tables_of p) c
   pub program : length p ≡ program_length
+  pub sizes : z ≡ sizes_of c
   pub answer : length u ≡ answer_length
-  pub state : length m ≡ state_length
+  pub stamps : length t ≡ instructions_most
 
 -- the chains stand behind the tables
 pub record SctpChained (c : Counts) (p p' : List ℕ) : Type 0 where

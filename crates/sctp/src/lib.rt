@@ -3,49 +3,54 @@
 
 pub mod starts;
 
-ghost use Rattle.std.specs.Prelude.{◌≡◌, length};
+ghost use Rattle.std.specs.Prelude.{◌≡◌, ◌≤◌, length};
 ghost use Rattle.program.specs.View.{ProgramReady};
-ghost use Rattle.state.specs.View.{StateHeld, StateCleared};
+ghost use Rattle.state.specs.Acted.{acted_of};
+ghost use Rattle.state.specs.View.{StateHeld, StateCleared, no_entries};
+ghost use Rattle.state.specs.Methods.{Lent};
 ghost use Rattle.answer.specs.Layout.{answer_length};
 ghost use Rattle.machine.specs.Analysed.{Indexed, Analysed};
-ghost use Rattle.run.specs.Runs.{tables_of as words_of, StampsFresh, Reaching, RunRan};
-ghost use Rattle.state.specs.Layout.{state_size, state_length};
-ghost use Rattle.chains.specs.Layout.{program_length};
-ghost use Rattle.sctp.specs.Sctp.{tables_of, chains_of, Given, SctpChained, SctpAside, StartsAside, Begins, Ends, Analyses};
+ghost use Rattle.memory.specs.Layout.{instructions_most};
+ghost use Rattle.settled.specs.Reads.{whole};
+ghost use Rattle.run.specs.Runs.{StampsFresh, Reaching, RunRan};
+ghost use Rattle.chains.specs.Layout.{chains_size, program_length};
+ghost use Rattle.sctp.specs.Sctp.{tables_of, Given, SctpChained, SctpAside, StartsAside, Begins, Ends, Analyses};
 
-use program::Counts;
-use state::{Acted, Regs, Sizes};
+use machine::{Code, Tables};
+use program::{Counts, Program};
+use refusals::Refusal;
+use state::{Regs, Sizes, State};
 
 // The words of the program part that its tables take, and those of the index.
 const TABLES: usize = program::SIZE;
 
 const CHAINS: usize = chains::SIZE;
 
-// The chains of the index are made in the state's memory, and what is in use of them goes behind the program's tables.
-fn lay_index(program: &mut [usize], counts: Counts, state: &mut [usize])
+// The chains of the index are made in work memory, and what is in use of them goes behind the program's tables.
+fn lay_index(script: &[u8], program: &mut [usize], counts: Counts, scratch: &mut [usize])
     requires program_ready { ProgramReady (tables_of program.old) counts }
     requires program_len { length program.old ≡ program_length }
-    requires state_len { length state.old ≡ state_length }
+    requires scratch_len { chains_size ≤ length scratch.old }
     ensures { SctpChained counts program.old program.new }
 {
-    chains::build_index(&program[..TABLES], counts, &mut state[..CHAINS]);
-    chains::copy_index(&state[..CHAINS], counts, program, TABLES);
+    let tables = Program {
+        script,
+        words: &program[..TABLES],
+        counts,
+    };
+    chains::build_index(&tables, &mut scratch[..CHAINS]);
+    chains::copy_index(&scratch[..CHAINS], counts, program, TABLES);
 }
 
 // What the start finds clear: the kinds, live blocks, callers and reads of as many things as the program has.
-fn clear_tables(state: &mut [usize], sizes: Sizes)
-    requires { StateHeld sizes state.old }
-    ensures { StateCleared sizes state.new }
+fn clear_tables(words: &mut [usize], sizes: Sizes)
+    requires { StateHeld sizes words.old }
+    ensures { StateCleared sizes words.new }
 {
-    chains::fill(state, 0, sizes.insns, 0);
-    chains::fill(state, state::LIVE, sizes.blocks, 0);
-    chains::fill(
-        state,
-        state::CALLERS,
-        memory::ROW_WORDS * sizes.functions,
-        0,
-    );
-    chains::fill(state, state::READS, memory::ROW_WORDS * sizes.classes, 0);
+    words[..sizes.insns].fill(0);
+    words[state::LIVE..state::LIVE + sizes.blocks].fill(0);
+    words[state::CALLERS..state::CALLERS + memory::ROW_WORDS * sizes.functions].fill(0);
+    words[state::READS..state::READS + memory::ROW_WORDS * sizes.classes].fill(0);
 }
 
 // The answer's callers are cleared.
@@ -57,150 +62,92 @@ fn clear_callers(users: &mut [usize])
 }
 
 // The start; the answer's callers are its work memory.
-fn start_aside(
-    script: &[u8],
-    program: &[usize],
-    counts: Counts,
-    chains: &[usize],
-    users: &mut [usize],
-    state: &mut [usize],
-    sizes: Sizes,
-) -> Acted
-    requires indexed { Indexed script.now program.now counts chains.now sizes }
+fn start_aside(code: &Code, users: &mut [usize], state: &mut State) -> Result<(), Refusal>
+    requires indexed { Indexed code.now.program.script.now code.now.program.words.now code.now.program.counts code.now.chains.now state.old.sizes }
     requires users_len { length users.old ≡ answer_length }
-    requires state_cleared { StateCleared sizes state.old }
-    ensures { StartsAside script.now program.now counts sizes users.old users.new state.new result }
+    requires state_cleared { StateCleared state.old.sizes state.old.words.now }
+    requires nothing_waits { state.old.regs ≡ no_entries }
+    ensures { Lent state.old state.new × StartsAside code.now.program.script.now code.now.program.words.now code.now.program.counts state.old.sizes
+        users.old users.new state.new.words.now (acted_of state.new.regs result) }
 {
-    starts::start(
-        script,
-        program,
-        counts,
-        chains,
-        &mut users[answer::CALLERS..],
-        state,
-        sizes,
-    )
+    starts::start(code, &mut users[answer::CALLERS..], state)
 }
 
-fn begin(
-    script: &[u8],
-    program: &[usize],
-    counts: Counts,
-    chains: &[usize],
-    users: &mut [usize],
-    state: &mut [usize],
-    sizes: Sizes,
-) -> Acted
-    requires indexed { Indexed script.now program.now counts chains.now sizes }
+fn begin(code: &Code, users: &mut [usize], state: &mut State) -> Result<(), Refusal>
+    requires indexed { Indexed code.now.program.script.now code.now.program.words.now code.now.program.counts code.now.chains.now state.old.sizes }
     requires users_len { length users.old ≡ answer_length }
-    requires state_len { length state.old ≡ state_size }
-    ensures { Begins script.now program.now counts sizes users.old users.new state.new result }
+    requires nothing_waits { state.old.regs ≡ no_entries }
+    ensures { Lent state.old state.new × Begins code.now.program.script.now code.now.program.words.now code.now.program.counts state.old.sizes
+        users.old users.new state.new.words.now (acted_of state.new.regs result) }
 {
-    clear_tables(state, sizes);
-    let r = start_aside(script, program, counts, chains, users, state, sizes);
+    let sizes = state.sizes;
+    clear_tables(state.words, sizes);
+    let r = start_aside(code, users, state);
     clear_callers(users);
     r
 }
 
 // The run over a table of its own: the instructions that were drafted are appended to it, and it is lent.
-fn run_lent(
-    script: &[u8],
-    program: &[usize],
-    counts: Counts,
-    chains: &[usize],
-    users: &[usize],
-    state: &mut [usize],
-    sizes: Sizes,
-    regs: Regs,
-) -> Acted
-    requires { Analysed script.now program.now counts chains.now users.now sizes × StampsFresh sizes state.old regs
-        × Reaching script.now program.now counts sizes (words_of state.old) regs }
-    ensures { RunRan script.now program.now counts sizes (words_of state.new) result }
+fn run_lent(tables: &Tables, state: &mut State, stamps: &mut [usize]) -> Result<(), Refusal>
+    requires analysed { Analysed tables.now.code.program.script.now tables.now.code.program.words.now tables.now.code.program.counts
+        tables.now.code.chains.now tables.now.users.now state.old.sizes }
+    requires stamps_fresh { StampsFresh state.old.sizes (whole state.old stamps.old) state.old.regs }
+    requires reaching { Reaching tables.now.code.program.script.now tables.now.code.program.words.now tables.now.code.program.counts
+        state.old.sizes state.old.words.now state.old.regs }
+    ensures { Lent state.old state.new × RunRan tables.now.code.program.script.now tables.now.code.program.words.now tables.now.code.program.counts
+        state.old.sizes state.new.words.now (acted_of state.new.regs result) }
 {
     let mut t = records::empty();
-    records::commit(&mut t, program, counts);
-    run::run(
-        &t, script, program, counts, chains, users, state, sizes, regs,
-    )
+    records::commit(&mut t, &tables.code.program);
+    run::run(&t, tables, state, stamps)
 }
 
-// The start, then the run, with no stamps behind the state's tables.
+// The start, then the run, with no stamp for any instruction.
 fn analyse(
-    script: &[u8],
-    program: &[usize],
-    counts: Counts,
-    chains: &[usize],
+    code: &Code,
     users: &mut [usize],
-    state: &mut [usize],
-    sizes: Sizes,
-) -> Acted
-    requires analysed { Analysed script.now program.now counts chains.now users.old sizes }
+    state: &mut State,
+    stamps: &mut [usize],
+) -> Result<(), Refusal>
+    requires analysed { Analysed code.now.program.script.now code.now.program.words.now code.now.program.counts code.now.chains.now users.old state.old.sizes }
     requires users_len { length users.old ≡ answer_length }
-    requires state_len { length state.old ≡ state_length }
-    ensures { Ends script.now program.now counts sizes users.old users.new (words_of state.new) result }
+    requires stamps_len { length stamps.old ≡ instructions_most }
+    requires nothing_waits { state.old.regs ≡ no_entries }
+    ensures { Lent state.old state.new × Ends code.now.program.script.now code.now.program.words.now code.now.program.counts state.old.sizes
+        users.old users.new state.new.words.now (acted_of state.new.regs result) }
 {
-    let b = begin(
-        script,
-        program,
-        counts,
-        chains,
-        users,
-        &mut state[..run::STAMPS],
-        sizes,
-    );
-    chains::fill(state, run::STAMPS, sizes.insns, 0);
-    match b {
-        Acted::On(q) => run_lent(script, program, counts, chains, users, state, sizes, q),
-        Acted::Refused(n) => Acted::Refused(n),
-    }
+    begin(code, users, state)?;
+    let n = state.sizes.insns;
+    stamps[..n].fill(0);
+    let tables = Tables { code: *code, users };
+    run_lent(&tables, state, stamps)
 }
 
-// Tables and chains are lent apart.
-fn analyse_parts(
-    script: &[u8],
-    program: &[usize],
-    counts: Counts,
-    users: &mut [usize],
-    state: &mut [usize],
-    sizes: Sizes,
-) -> Acted
-    requires analysed { Analysed script.now (tables_of program.now) counts (chains_of program.now) users.old sizes }
-    requires program_len { length program.now ≡ program_length }
-    requires users_len { length users.old ≡ answer_length }
-    requires state_len { length state.old ≡ state_length }
-    ensures { Ends script.now (tables_of program.now) counts sizes users.old users.new (words_of state.new) result }
-{
-    analyse(
-        script,
-        &program[..TABLES],
-        counts,
-        &program[TABLES..],
-        users,
-        state,
-        sizes,
-    )
-}
-
-// The analysis of the program that the tables in front of p stand for; the state may hold anything.
+// The analysis of the program that the tables in front of p stand for; the state's words and the stamps may hold anything.
 pub fn sctp(
     script: &[u8],
     program: &mut [usize],
     counts: Counts,
     users: &mut [usize],
-    state: &mut [usize],
-) -> Acted
-    requires { Given script.now program.old counts users.old state.old }
-    ensures { Analyses script.now (tables_of program.old) counts users.old users.new (words_of state.new) result }
+    state: &mut State,
+    stamps: &mut [usize],
+) -> Result<(), Refusal>
+    requires { Given script.now program.old counts state.old.sizes users.old stamps.old }
+    ensures { Lent state.old state.new × Analyses script.now (tables_of program.old) counts users.old users.new
+        state.new.words.now (acted_of state.new.regs result) }
 {
-    let z = machine::sizes(counts);
-    lay_index(program, counts, state);
-    uses::compute_uses(
-        &program[..TABLES],
+    state.regs = Regs::no_entries();
+    lay_index(script, program, counts, state.words);
+    let (words, chains) = program.split_at(TABLES);
+    let tables = Program {
+        script,
+        words,
         counts,
-        state,
-        users,
-        answer::STARTS,
-        answer::USERS,
-    );
-    analyse_parts(script, program, counts, users, state, z)
+    };
+    uses::compute_uses(&tables, state.words, users, answer::STARTS, answer::USERS);
+    let code = Code {
+        program: tables,
+        chains,
+    };
+    analyse(&code, users, state, stamps)
 }

@@ -1,13 +1,20 @@
 // The start of the analysis: the attributes' first kinds, then the main entry goes live.
-ghost use Rattle.std.specs.Prelude.{◌≤◌, ◌<◌, length};
-ghost use Rattle.machine.specs.Analysed.{Indexed};
-ghost use Rattle.state.specs.View.{StateCleared};
+ghost use Rattle.std.specs.Prelude.{◌≡◌, ◌≤◌, ◌<◌, length};
+ghost use Rattle.rules.specs.Program.{Limits};
+ghost use Rattle.machine.specs.Analysed.{Suited, Indexed as Analysable};
+ghost use Rattle.state.specs.Acted.{acted_of};
+ghost use Rattle.state.specs.View.{StateCleared, no_entries};
+ghost use Rattle.state.specs.Methods.{Lent};
 ghost use Rattle.constructors.specs.Layout.{walk_size};
 ghost use Rattle.sctp.specs.starts.Starts.{Mains, Started};
 
+use chains::Indexed;
+use constructors::Flow;
 use ids::BlockId;
-use program::Counts;
-use state::{Acted, Sizes};
+use machine::Code;
+use program::Program;
+use refusals::Refusal;
+use state::State;
 
 // Where the state has the attributes' kinds: the bytes, and the payloads.
 const TAGS: usize = state::IVARS;
@@ -15,47 +22,33 @@ const TAGS: usize = state::IVARS;
 const PAYLOADS: usize = state::IVAR_BITS;
 
 // The block that the main function begins with.
-fn main_entry(
-    script: &[u8],
-    program: &[usize],
-    counts: Counts,
-    chains: &[usize],
-    sizes: Sizes,
-) -> BlockId
-    requires indexed { Indexed script.now program.now counts chains.now sizes }
-    requires functions_nonzero { 0 < counts.functions }
-    ensures { Mains script.now program.now counts result.0 }
+fn main_entry(program: &Program) -> BlockId
+    requires suited { (L : Limits) × Suited program.now.script.now program.now.words.now program.now.counts L }
+    requires functions_nonzero { 0 < program.now.counts.functions }
+    ensures { Mains program.now.script.now program.now.words.now program.now.counts result.0 }
 {
-    let f = lookups::main_function(script, program, counts);
-    let row = program::read_fun(program, counts, f);
-    row.entry
+    program.fun(lookups::main_function(program)).entry
 }
 
 // Question 12, then 13; y is work memory.
-pub fn start(
-    script: &[u8],
-    program: &[usize],
-    counts: Counts,
-    chains: &[usize],
-    y: &mut [usize],
-    state: &mut [usize],
-    sizes: Sizes,
-) -> Acted
-    requires indexed { Indexed script.now program.now counts chains.now sizes }
+pub fn start(code: &Code, y: &mut [usize], state: &mut State) -> Result<(), Refusal>
+    requires indexed { Analysable code.now.program.script.now code.now.program.words.now code.now.program.counts code.now.chains.now state.old.sizes }
     requires walk_size_in_bounds { walk_size ≤ length y.old }
-    requires state_cleared { StateCleared sizes state.old }
-    ensures { Started script.now program.now counts sizes state.new result }
+    requires state_cleared { StateCleared state.old.sizes state.old.words.now }
+    requires nothing_waits { state.old.regs ≡ no_entries }
+    ensures { Lent state.old state.new × Started code.now.program.script.now code.now.program.words.now code.now.program.counts state.old.sizes
+        state.new.words.now (acted_of state.new.regs result) }
 {
-    if counts.functions == 0 {
-        return Acted::Refused(12);
+    if code.program.counts.functions == 0 {
+        return Err(Refusal::NoFunction);
     }
-    let e = constructors::firsts::all_first_kinds(
-        script, program, counts, chains, y, state, TAGS, PAYLOADS,
-    );
-    if e != 0 {
-        return Acted::Refused(e);
-    }
-    let b = main_entry(script, program, counts, chains, sizes);
-    let q = state::no_entries();
-    machine::blocks::go_live(state, sizes, q, chains, b)
+    let flow = Flow {
+        indexed: Indexed {
+            program: code.program,
+            chains: code.chains,
+        },
+    };
+    constructors::firsts::all_first_kinds(&flow, y, state.words, TAGS, PAYLOADS)?;
+    let b = main_entry(&code.program);
+    machine::blocks::go_live(state, code.chains, b)
 }

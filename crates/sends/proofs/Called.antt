@@ -9,31 +9,28 @@ use lib.ListN.{length}
 use Rattle.ids.specs.declared.ClassId.{ClassId}
 use Rattle.ids.specs.declared.FunId.{FunId}
 use Rattle.ids.proofs.Members.{members_below}
-use Rattle.rules.specs.Actions.{refused, ◌>>◌, ask}
+use Rattle.rules.specs.Actions.{Answer, refused, if_answered, ◌>>◌, ask}
 use Rattle.rules.specs.Lists.{same, has, is_just}
 use Rattle.rules.specs.Program as P
-use Rattle.rules.specs.Program.{Program, about, op_of, function, entry, parameters, method_named}
+use Rattle.rules.specs.Program.{Limits, Program, about, op_of, function, entry, parameters, method_named}
 use Rattle.rules.specs.Machine.{State, Acts, marked, add_call, pass_arguments}
 use Rattle.rules.proofs.Exactness.Sums.{places-∈}
 use Rattle.rules.proofs.Exactness.Promise.{first_in}
 use Rattle.program.specs.declared.Counts.{Counts}
 use Rattle.program.specs.declared.Function.{Function}
-use Rattle.program.specs.declared.Owner.{Owner}
-use Rattle.program.specs.declared.Owner.TheVariants.{Class, Nobody}
 use Rattle.program.specs.Rows.{owner_in}
 use Rattle.program.specs.View.{ReadsFun}
 use Rattle.program.specs.View as Prog
 use Rattle.program.proofs.Viewing.{functions-length}
-use Rattle.lookups.specs.declared.FoundFun.{FoundFun}
-use Rattle.lookups.specs.declared.FoundFun.TheVariants.{At, Nothing}
+use Rattle.std.specs.Prelude.{Option, Some, None, Result, Ok, Err}
+use Rattle.refusals.specs.declared.Refusal.{Refusal}
+use Rattle.refusals.specs.declared.Refusal.TheVariants.{NeedsReceiver, UnknownMember}
 use Rattle.lookups.specs.Look.{fun_found}
 use Rattle.state.specs.declared.Sizes.{Sizes}
-use Rattle.state.specs.declared.Regs.{Regs}
-use Rattle.state.specs.declared.Acted.{Acted}
-use Rattle.state.specs.declared.Acted.TheVariants.{On, Refused}
-use Rattle.state.specs.View.{Attrs, called_of, state_view, StateReady}
-use Rattle.state.specs.Changes.{StateDid}
-use Rattle.machine.proofs.opnds.Acting.{did_then, did-stop}
+use Rattle.state.specs.declared.State as S
+use Rattle.state.specs.View.{Attrs, called_of, state_view}
+use Rattle.state.specs.Methods.{view, Did}
+use Rattle.state.proofs.Methods.{Along, along_start, along_step, along_stop, along_last, along_end, along_refused, lent_same, did_fits}
 use Rattle.chains.specs.Chains.{ChainIs}
 use Rattle.memory.specs.Layout.{blocks_room}
 use Rattle.sends.specs.calls.Calls.{CallIs}
@@ -41,7 +38,6 @@ use Rattle.sends.proofs.calls.Adding.{old-is}
 use Rattle.sends.specs.passing.Passing.{HasParams, PassIn, PassIdle}
 use Rattle.sends.proofs.passing.Given.{has-params, pass_in}
 use Rattle.machine.proofs.receivers.Walk.{Walking}
-use Rattle.machine.proofs.Fitting.{did-fits}
 use Rattle.sends.specs.Sends.{call_to, call_static, send_to, Calling, CallsIn}
 
 -- ---- a function in memory
@@ -81,28 +77,28 @@ module _ {z : Sizes} {m : List ℕ} {c : Counts} {x : List ℕ} {i : ℕ} (h : C
       args = ap (λ (y : Program). length (about (op_of y i)).listed) g.program ∙ g.args;
     }
 
-    pub call-entered : {w : List ℕ} {q : Regs} {w' : List ℕ} {a : Acted} → StateDid z (CallIs i f r.entry.0 n k) (λ L p. add_call L p i f) w q w' a
-        → (s : List ℕ) → StateDid z (CallsIn s m c i k) (λ L p. add_call L p i f) w q w' a
-    call-entered g s = did-fits (λ p v b. calls s b) g
+    pub call-entered : {t u : S.State} {a : Result (Unit {0}) Refusal} → Did (CallIs i f r.entry.0 n k) (λ L p. add_call L p i f) t u a
+        → (s : List ℕ) → Did (CallsIn s m c i k) (λ L p. add_call L p i f) t u a
+    call-entered g s = did_fits g (λ p v b. calls s b)
 
-  pub args-passed : {w : List ℕ} {q : Regs} {w' : List ℕ} {a : Acted}
-      → ((y : ℕ) → StateDid z (PassIn m c z x i y r.entry.0) (λ L p. pass_arguments L p i y) w q w' a)
-      → (s : List ℕ) (k : ℕ) → StateDid z (CallsIn s m c i k) (λ L p. pass_arguments L p i f) w q w' a
-  args-passed g s k = did-fits (λ p v b. passes s b) (g f)
+  pub args-passed : {t u : S.State} {a : Result (Unit {0}) Refusal} → ((y : ℕ) → Did (PassIn m c z x i y r.entry.0) (λ L p. pass_arguments L p i y) t u a)
+      → (s : List ℕ) (k : ℕ) → Did (CallsIn s m c i k) (λ L p. pass_arguments L p i f) t u a
+  args-passed g s k = did_fits (g f) (λ p v b. passes s b)
+
+  pub args-idle : {w : List ℕ} → ((y : ℕ) → PassIdle z (PassIn m c z x i y r.entry.0) (λ L p. pass_arguments L p i y) w)
+      → (s : List ℕ) (k : ℕ) → PassIdle z (CallsIn s m c i k) (λ L p. pass_arguments L p i f) w
+  args-idle g s k = record { is = λ q y. let d = (g f).is q y in record { is = λ L room p v b. d.is L room p v (passes s b); ok = d.ok } }
 
 -- ---- one call
 
-module _ (m : List ℕ) (c : Counts) (i k f : ℕ) {z : Sizes} {w : List ℕ} {q : Regs} {w' : List ℕ} {a : Acted}
-    (d : (s : List ℕ) → StateDid z (CallsIn s m c i k) (λ L p. add_call L p i f) w q w' a) where
-  pub next-ready : {b : Regs} → a ≡ On b → StateReady z w' b
-  next-ready e = let d1 = rw e at (d []) in d1.ok.ready
+module _ (m : List ℕ) (c : Counts) (i k f : ℕ) {t u : S.State} {a : Result (Unit {0}) Refusal} (d : (s : List ℕ) → Did (CallsIn s m c i k) (λ L p. add_call L p i f) t u a) where
+  pub to_both : {y : Unit {0}} {w : S.State} (r : Result (Unit {0}) Refusal) → a ≡ Ok y → ((s : List ℕ) (n : ℕ) → Did (CallsIn s m c i n) (λ L p. pass_arguments L p i f) u w r)
+      → (s : List ℕ) → Did (CallsIn s m c i k) (λ L p. call_to L p i f) t w r
+  to_both r e g s =
+      along_last (along_step (along_start t) {left' = λ L p. pass_arguments L p i f} (d s) e (λ p v h. h) (λ L room p v h. refl)) r (g s k) (λ p v h. h) (λ L room p v h. refl)
 
-  pub to_both : {b : Regs} {u : List ℕ} {r : Acted} → a ≡ On b → ((s : List ℕ) (n : ℕ) → StateDid z (CallsIn s m c i n) (λ L p. pass_arguments L p i f) w' b u r)
-      → (s : List ℕ) → StateDid z (CallsIn s m c i k) (λ L p. call_to L p i f) w q u r
-  to_both e g s = did_then (d s) e (g s k)
-
-  pub to_stop : {n : ℕ} → a ≡ Refused n → (s : List ℕ) → StateDid z (CallsIn s m c i k) (λ L p. call_to L p i f) w q w' (Refused n)
-  to_stop e s = did-stop (d s) (λ L p. pass_arguments L p i f) e
+  pub to_stop : {n : Refusal} → a ≡ Err n → (s : List ℕ) → Did (CallsIn s m c i k) (λ L p. call_to L p i f) t u (Err n)
+  to_stop e s = along_stop (along_start t) (λ L p. pass_arguments L p i f) (d s) e (λ p v h. h) (λ L room p v h. refl)
 
   -- question 17
   asked-yes : (p : Program) (g : Acts (Unit {0})) (s : State) → has (function p f).class ≡ false → (ask 17 (not (has (function p f).class)) >> g) s ≡ g s
@@ -111,51 +107,61 @@ module _ (m : List ℕ) (c : Counts) (i k f : ℕ) {z : Sizes} {w : List ℕ} {q
   asked_no : (p : Program) (g : Acts (Unit {0})) (s : State) → has (function p f).class ≡ true → (ask 17 (not (has (function p f).class)) >> g) s ≡ refused 17
   asked_no p g s e = rw e
 
-  module _ {r : Function} (y : ReadsFun m c f r) {o : Owner} (eo : o ≡ r.class) where
+  abbrev asking : Limits → Program → Acts (Unit {0})
+  asking L p = ask 17 (not (has (function p f).class)) >> pass_arguments L p i f
+
+  module _ {r : Function} (y : ReadsFun m c f r) {o : Option ClassId} (eo : o ≡ r.class) where
     owned : (s : List ℕ) {p : Program} {v : Attrs} → CallsIn s m c i k p v → has (function p f).class ≡ has (owner_in o)
-    owned s h = ap (λ (t : Program). has (function t f).class) h.program ∙ ap (λ (t : P.Function). has t.class) (y.is s) ∙ ap (λ (t : Owner). has (owner_in t)) (sym eo)
+    owned s h = ap (λ (t : Program). has (function t f).class) h.program ∙ ap (λ (t : P.Function). has t.class) (y.is s) ∙ ap (λ (t : Option ClassId). has (owner_in t)) (sym eo)
 
-    pub static_both : {b : Regs} {u : List ℕ} {t : Acted} → a ≡ On b → o ≡ Nobody → ((s : List ℕ) (n : ℕ) → StateDid z (CallsIn s m c i n) (λ L p. pass_arguments L p i f) w' b u t)
-        → (s : List ℕ) → StateDid z (CallsIn s m c i k) (λ L p. call_static L p i f) w q u t
-    static_both {b} e n g s = did_then (d s) e (record {
-      is = λ L room p v h. (g s k).is L room p v h ∙ sym (asked-yes p (pass_arguments L p i f) (state_view z v w' b) (owned s h ∙ ap (λ (t : Owner). has (owner_in t)) n));
-      ok = (g s k).ok;
-    })
+    entered-then : {x : Unit {0}} → a ≡ Ok x → (s : List ℕ) → Along (CallsIn s m c i k) asking (λ L p. call_static L p i f) t u
+    entered-then e s = along_step (along_start t) (d s) e (λ p v h. h) (λ L room p v h. refl)
 
-    pub static_method : {b : Regs} {x : ClassId} → a ≡ On b → o ≡ Class x → (s : List ℕ) → StateDid z (CallsIn s m c i k) (λ L p. call_static L p i f) w q w' (Refused 17)
-    static_method {b} e n s =
-        let g : StateDid z (CallsIn s m c i k) (λ L p. ask 17 (not (has (function p f).class)) >> pass_arguments L p i f) w' b w' (Refused 17) =
-        record {
-          is = λ L room p v h. sym (asked_no p (pass_arguments L p i f) (state_view z v w' b) (owned s h ∙ ap (λ (t : Owner). has (owner_in t)) n));
-          ok = tt;
-        } in
-        did_then (d s) e g
+    pub static_both : {x : Unit {0}} {w : S.State} (b : Result (Unit {0}) Refusal) → a ≡ Ok x → o ≡ None
+        → ((s : List ℕ) (n : ℕ) → Did (CallsIn s m c i n) (λ L p. pass_arguments L p i f) u w b)
+        → (s : List ℕ) → Did (CallsIn s m c i k) (λ L p. call_static L p i f) t w b
+    static_both b e n g s =
+        along_last (entered-then e s) b (g s k) (λ p v h. h)
+        (λ L room p v h. asked-yes p (pass_arguments L p i f) (view v u) (owned s h ∙ ap (λ (t : Option ClassId). has (owner_in t)) n))
 
-  pub static_stop : {n : ℕ} → a ≡ Refused n → (s : List ℕ) → StateDid z (CallsIn s m c i k) (λ L p. call_static L p i f) w q w' (Refused n)
-  static_stop e s = did-stop (d s) (λ L p. ask 17 (not (has (function p f).class)) >> pass_arguments L p i f) e
+    pub static_method : {x : Unit {0}} {z : ClassId} → a ≡ Ok x → o ≡ Some z → (s : List ℕ) → Did (CallsIn s m c i k) (λ L p. call_static L p i f) t u (Err NeedsReceiver)
+    static_method e n s =
+        along_refused (entered-then e s) NeedsReceiver
+        (λ L room p v h. asked_no p (pass_arguments L p i f) (view v u) (owned s h ∙ ap (λ (t : Option ClassId). has (owner_in t)) n))
+
+  pub static_stop : {n : Refusal} → a ≡ Err n → (s : List ℕ) → Did (CallsIn s m c i k) (λ L p. call_static L p i f) t u (Err n)
+  static_stop e s = along_stop (along_start t) asking (d s) e (λ p v h. h) (λ L room p v h. refl)
 
 -- ---- a call that changes nothing
 
-module _ {z : Sizes} {m : List ℕ} {c : Counts} (i f : ℕ) {w : List ℕ} where
-  pub caller-idle : marked (called_of z w) f i ≡ true → (s : List ℕ) (k : ℕ) → PassIdle z (CallsIn s m c i k) (λ L p. add_call L p i f) w
-  caller-idle e s k = record {
-    is = λ q r. record { is = λ L room p v g. sym (old-is L p i f (state_view z v w q) e); ok = record { ready = r; count = refl } };
+pub idle_did : {s : S.State} {fits : Program → Attrs → Type 0} {f : Limits → Program → Acts (Unit {0})} → PassIdle s.sizes fits f s.words.now → Did fits f s s (Ok tt)
+idle_did {s} h = record { lent = lent_same s; did = h.is s.regs s.ready }
+
+module _ {m : List ℕ} {c : Counts} (i f : ℕ) (t : S.State) {b : 𝔹} (e : b ≡ marked (called_of t.sizes t.words.now) f i) (y : b ≡ true) where
+  pub caller-known : (k : ℕ) (s : List ℕ) → Did (CallsIn s m c i k) (λ L p. add_call L p i f) t t (Ok tt)
+  caller-known k s = along_end (along_start t) (λ L room p v g. old-is L p i f (view v t) (sym e ∙ y))
+
+  pub call-idle : {x : List ℕ} → Calling t.sizes m c x i → f < c.functions → {r : Function} → ReadsFun m c f r
+      → ((j : ℕ) → PassIdle t.sizes (PassIn m c t.sizes x i j r.entry.0) (λ L p. pass_arguments L p i j) t.words.now)
+      → (s : List ℕ) (k : ℕ) → PassIdle t.sizes (CallsIn s m c i k) (λ L p. call_to L p i f) t.words.now
+  call-idle h lt d g s k = record {
+    is = λ q r.
+        let w = (args-idle h lt d g s k).is q r in
+        record {
+          is = λ L room p v u.
+              w.is L room p v u
+              ∙ ap (λ (a : Answer (Unit {0} × State)). if_answered a (λ x. pass_arguments L p i f x.1)) (sym (old-is L p i f (state_view t.sizes v t.words.now q) (sym e ∙ y)));
+          ok = w.ok;
+        };
   }
-
-  pub caller-known : {q : Regs} {b : 𝔹} {k : ℕ} → StateReady z w q → b ≡ marked (called_of z w) f i → b ≡ true → (s : List ℕ) → StateDid z (CallsIn s m c i k) (λ L p. add_call L p i f) w q w (On q)
-  caller-known {q} {b} {k} r e t s = (caller-idle (sym e ∙ t) s k).is q r
-
-  pub call-idle : {x : List ℕ} → Calling z m c x i → f < c.functions → {y : Function} → ReadsFun m c f y → {b : 𝔹} → b ≡ marked (called_of z w) f i → b ≡ true
-      → ((j : ℕ) → PassIdle z (PassIn m c z x i j y.entry.0) (λ L p. pass_arguments L p i j) w) → (s : List ℕ) (k : ℕ) → PassIdle z (CallsIn s m c i k) (λ L p. call_to L p i f) w
-  call-idle h lt d e t g s k = record { is = λ q r. did_then ((caller-idle (sym e ∙ t) s k).is q r) refl (args-passed h lt d (λ j. (g j).is q r) s k) }
 
 -- ---- one class
 
-module _ (s m : List ℕ) (c : Counts) (k : ℕ) (n : P.Name) {r : FoundFun} (e : fun_found r ≡ method_named (Prog.program_view s m c) k n) where
-  method_at : {f : FunId} → r ≡ At f → method_named (Prog.program_view s m c) k n ≡ some f.0
+module _ (s m : List ℕ) (c : Counts) (k : ℕ) (n : P.Name) {r : Option FunId} (e : fun_found r ≡ method_named (Prog.program_view s m c) k n) where
+  method_at : {f : FunId} → r ≡ Some f → method_named (Prog.program_view s m c) k n ≡ some f.0
   method_at h = sym e ∙ ap fun_found h
 
-  pub method_below : {f : FunId} → r ≡ At f → f.0 < c.functions
+  pub method_below : {f : FunId} → r ≡ Some f → f.0 < c.functions
   unfolding method_named
   method_below {f} h =
       let a = places-∈ (record { name = []; class = none; entry = 0 }) (λ (y : P.Function). is_just y.class k && same y.name n)
@@ -163,21 +169,16 @@ module _ (s m : List ℕ) (c : Counts) (k : ℕ) (n : P.Name) {r : FoundFun} (e 
       let b = functions-length s m c.functions in
       omega (arith, a.0)
 
-  module _ {z : Sizes} {i j : ℕ} {w : List ℕ} {q : Regs} where
-    pub one_found : {f : FunId} {w' : List ℕ} {a : Acted} → r ≡ At f → ((t : List ℕ) → StateDid z (CallsIn t m c i j) (λ L p. call_to L p i f.0) w q w' a)
-        → StateDid z (CallsIn s m c i j) (λ L p. send_to L p i n k) w q w' a
-    one_found {f} h d = record {
-      is = λ L room p v g.
-          let t : method_named p k n ≡ some f.0 = ap (λ (y : Program). method_named y k n) g.program ∙ method_at h in
-          (d s).is L room p v g ∙ rw t;
-      ok = (d s).ok;
-    }
+  pub one_found : {i j : ℕ} {f : FunId} {t u : S.State} (a : Result (Unit {0}) Refusal) → r ≡ Some f → ((y : List ℕ) → Did (CallsIn y m c i j) (λ L p. call_to L p i f.0) t u a)
+      → Did (CallsIn s m c i j) (λ L p. send_to L p i n k) t u a
+  one_found {t = t} a h d =
+      along_last (along_start t) a (d s) (λ p v g. g)
+      (λ L room p v g. let e : method_named p k n ≡ some _ = ap (λ (y : Program). method_named y k n) g.program ∙ method_at h in rw e)
 
-  pub one_none : (z : Sizes) (i j : ℕ) (w : List ℕ) (q : Regs) → r ≡ Nothing → StateDid z (CallsIn s m c i j) (λ L p. send_to L p i n k) w q w (Refused 15)
-  one_none z i j w q h = record {
-    is = λ L room p v g. let t : method_named p k n ≡ none = ap (λ (y : Program). method_named y k n) g.program ∙ sym e ∙ ap fun_found h in rw t;
-    ok = tt;
-  }
+  pub one_none : (i j : ℕ) (t : S.State) → r ≡ None → Did (CallsIn s m c i j) (λ L p. send_to L p i n k) t t (Err UnknownMember)
+  one_none i j t h =
+      along_refused (along_start t) UnknownMember
+      (λ L room p v g. let e : method_named p k n ≡ none = ap (λ (y : Program). method_named y k n) g.program ∙ sym e ∙ ap fun_found h in rw e)
 
 -- every set is one of classes below 64
 pub walking_any : {s : ℕ} → s < 2 ^ 64 → Walking 64 s

@@ -1,19 +1,18 @@
 // A call passes its arguments to its callee's Params.
-ghost use Rattle.std.specs.Prelude.{true, ◌≡◌, List, ℕ, ◌<◌, length};
+ghost use Rattle.std.specs.Prelude.{true, ◌≡◌, List, ℕ, ◌<◌, length, Ok};
 ghost use Rattle.kinds.specs.Union.{union_of};
 ghost use Rattle.rules.specs.Machine.{pass_arguments};
-ghost use Rattle.program.specs.View.{ProgramReady};
-ghost use Rattle.state.specs.View.{StateHeld, StateReady};
-ghost use Rattle.state.specs.Changes.{StateDid};
+ghost use Rattle.state.specs.Methods.{Did};
 ghost use Rattle.chains.specs.Chains.{ChainIs};
 ghost use Rattle.flows.specs.Flows.{words_of};
-ghost use Rattle.sends.specs.passing.Passing.{ParamPlaced, HasParams, Caller, ArgumentPasses, CoversTells, Keeps, PassIn, PassIdle};
+ghost use Rattle.sends.specs.passing.Passing.{pass_to, ParamPlaced, HasParams, Caller, CallIn, ArgumentPasses, CoversTells, Keeps, PassIn, PassIdle};
 
-use flows::{AsSet, Words};
+use flows::Words;
 use ids::{BlockId, InsnId};
-use kinds::Joined;
-use program::Counts;
-use state::{Acted, Regs, Sizes};
+use machine::Code;
+use program::Program;
+use refusals::Refusal;
+use state::State;
 
 // Whether a kind covers another: surely, surely not, or a quick test doesn't tell.
 #[derive(Clone, Copy)]
@@ -24,40 +23,31 @@ enum Covers {
 }
 
 // A Param's place.
-fn place_of(program: &[usize], counts: Counts, j: InsnId) -> usize
-    requires program_ready { ProgramReady program.now counts }
-    requires j_lt_insns { j.0 < counts.insns }
-    ensures { ParamPlaced program.now counts j.0 result }
+fn place_of(program: &Program, j: InsnId) -> usize
+    requires j_lt_insns { j.0 < program.now.counts.insns }
+    ensures { ParamPlaced program.now.words.now program.now.counts j.0 result }
 {
     let at = program::INSNS + program::INSN_WORDS * (j.0 as usize);
-    if program[at] == 10 {
-        return program[at + 2];
+    if program.words[at] == 10 {
+        return program.words[at + 2];
     }
     0
 }
 
 // The kind of the argument that call i has for Param j, in words.
-fn passed_words(
-    program: &[usize],
-    counts: Counts,
-    state: &[usize],
-    sizes: Sizes,
-    i: InsnId,
-    j: InsnId,
-) -> Words
-    requires state_held { StateHeld sizes state.now }
-    requires caller { Caller program.now counts sizes i.0 }
-    requires j_lt_insns { j.0 < sizes.insns }
-    ensures { ArgumentPasses program.now counts sizes state.now i.0 j.0 (words_of result) }
+fn passed_words(program: &Program, state: &State, i: InsnId, j: InsnId) -> Words
+    requires caller { Caller program.now.words.now program.now.counts state.now.sizes i.0 }
+    requires j_lt_insns { j.0 < state.now.sizes.insns }
+    ensures { ArgumentPasses program.now.words.now program.now.counts state.now.sizes state.now.words.now i.0 j.0 (words_of result) }
 {
-    let n = place_of(program, counts, j);
-    let at = flows::argument_at(program, counts, i, n);
-    flows::opnd_words(program, state, sizes, at)
+    let n = place_of(program, j);
+    let at = flows::argument_at(program, i, n);
+    flows::opnd_words(program, state, at)
 }
 
 // A quick test that the union of a with k is a: k is Empty, a is Any, a is a set that has k's classes, or they are one kind and no name.
 pub fn surely_covers(a: Words, k: Words) -> bool
-    ensures { result ≡ true → union_of (words_of a) (words_of k) ≡ Joined.Of (words_of a) }
+    ensures { result ≡ true → union_of (words_of a) (words_of k) ≡ Ok (words_of a) }
 {
     match compare(a, k) {
         Covers::Yes => true,
@@ -78,13 +68,13 @@ fn compare(a: Words, k: Words) -> Covers
     }
     if a.tag == 8 {
         match flows::as_set(k) {
-            AsSet::Set(t) => {
+            Some(t) => {
                 if (a.bits | t as usize) == a.bits {
                     return Covers::Yes;
                 }
                 return Covers::No;
             }
-            AsSet::Other => {
+            None => {
                 return Covers::Unknown;
             }
         }
@@ -105,108 +95,76 @@ fn compare(a: Words, k: Words) -> Covers
 }
 
 // A quick test that the argument of call i for Param j leaves the Param's kind as it is.
-fn surely_keeps(
-    program: &[usize],
-    counts: Counts,
-    state: &[usize],
-    sizes: Sizes,
-    i: InsnId,
-    j: InsnId,
-) -> bool
-    requires state_held { StateHeld sizes state.now }
-    requires caller { Caller program.now counts sizes i.0 }
-    requires j_lt_insns { j.0 < sizes.insns }
-    ensures { result ≡ true → Keeps program.now counts sizes state.now i.0 j.0 }
+fn surely_keeps(program: &Program, state: &State, i: InsnId, j: InsnId) -> bool
+    requires caller { Caller program.now.words.now program.now.counts state.now.sizes i.0 }
+    requires j_lt_insns { j.0 < state.now.sizes.insns }
+    ensures { result ≡ true → Keeps program.now.words.now program.now.counts state.now.sizes state.now.words.now i.0 j.0 }
 {
-    let k = passed_words(program, counts, state, sizes, i, j);
-    let old = flows::insn_words(state, sizes, j);
+    let k = passed_words(program, state, i, j);
+    let old = flows::insn_words(state, j);
     surely_covers(old, k)
 }
 
-// The Params of a function with this entry wait whose kinds the arguments of call i would change. A union is made only where the quick test doesn't tell.
-pub fn pass_arguments(
-    program: &[usize],
-    counts: Counts,
-    chains: &[usize],
-    state: &mut [usize],
-    sizes: Sizes,
-    regs: Regs,
-    i: InsnId,
-    entry: BlockId,
-) -> Acted
-    requires state_ready { StateReady sizes state.old regs }
-    requires caller { Caller program.now counts sizes i.0 }
-    requires has_params { HasParams sizes.insns chains.now entry.0 }
-    ensures { (f : ℕ) → StateDid sizes (PassIn program.now counts sizes chains.now i.0 f entry.0)
-        (λ L program. pass_arguments L program i.0 f) state.old regs state.new result }
+// Param j waits if the argument of call i would change its kind. A union is made only where the quick test doesn't tell.
+fn pass_to(program: &Program, state: &mut State, i: InsnId, j: InsnId) -> Result<(), Refusal>
+    requires caller { Caller program.now.words.now program.now.counts state.old.sizes i.0 }
+    requires j_lt_insns { j.0 < state.old.sizes.insns }
+    ensures { Did (CallIn program.now.words.now program.now.counts i.0) (λ L program. pass_to L program i.0 j.0) state.old state.new result }
 {
-    let n = sizes.insns;
-    let mut at = regs;
-    let mut j = chains::first_param(chains, entry);
-    while (j.0 as usize) < n {
-        let k = passed_words(program, counts, state, sizes, i, j);
-        let old = flows::insn_words(state, sizes, j);
-        match compare(old, k) {
-            Covers::Yes => {}
-            Covers::No => match state::push_insn(state, sizes, at, j) {
-                Acted::On(next) => {
-                    at = next;
-                }
-                Acted::Refused(e) => {
-                    return Acted::Refused(e);
-                }
-            },
-            Covers::Unknown => {
-                let kind = kinds::kind_from(k.tag, k.bits);
-                match state::wake_if_wider(state, sizes, at, kind, j) {
-                    Acted::On(next) => {
-                        at = next;
-                    }
-                    Acted::Refused(e) => {
-                        return Acted::Refused(e);
-                    }
-                }
-            }
-        }
-        j = chains::next_param(chains, j);
+    let k = passed_words(program, state, i, j);
+    let old = flows::insn_words(state, j);
+    match compare(old, k) {
+        Covers::Yes => Ok(()),
+        Covers::No => state.push_insn(j),
+        Covers::Unknown => state.wake_if_wider(kinds::kind_from(k.tag, k.bits), j),
     }
-    Acted::On(at)
 }
 
-// A quick test that the arguments of call i leave the kinds of all Params of a function with this entry as they are. No registers are handed through: to copy
-// them costs more than the test.
-pub fn surely_keeps_all(
-    program: &[usize],
-    counts: Counts,
-    chains: &[usize],
-    state: &[usize],
-    sizes: Sizes,
+// The Params of a function with this entry wait whose kinds the arguments of call i would change.
+pub fn pass_arguments(
+    code: &Code,
+    state: &mut State,
     i: InsnId,
     entry: BlockId,
-) -> bool
-    requires state_held { StateHeld sizes state.now }
-    requires caller { Caller program.now counts sizes i.0 }
-    requires has_params { HasParams sizes.insns chains.now entry.0 }
-    ensures { result ≡ true → (f : ℕ) → PassIdle sizes (PassIn program.now counts sizes chains.now i.0 f entry.0)
-        (λ L program. pass_arguments L program i.0 f) state.now }
+) -> Result<(), Refusal>
+    requires caller { Caller code.now.program.words.now code.now.program.counts state.old.sizes i.0 }
+    requires has_params { HasParams state.old.sizes.insns code.now.chains.now entry.0 }
+    ensures { (f : ℕ) → Did (PassIn code.now.program.words.now code.now.program.counts state.old.sizes code.now.chains.now i.0 f entry.0)
+        (λ L program. pass_arguments L program i.0 f) state.old state.new result }
 {
-    let n = sizes.insns;
-    let mut j = chains::first_param(chains, entry);
+    let n = state.sizes.insns;
+    let mut j = chains::first_param(code.chains, entry);
     while (j.0 as usize) < n {
-        if !surely_keeps(program, counts, state, sizes, i, j) {
+        pass_to(&code.program, state, i, j)?;
+        j = chains::next_param(code.chains, j);
+    }
+    Ok(())
+}
+
+// A quick test that the arguments of call i leave the kinds of all Params of a function with this entry as they are.
+pub fn surely_keeps_all(code: &Code, state: &State, i: InsnId, entry: BlockId) -> bool
+    requires caller { Caller code.now.program.words.now code.now.program.counts state.now.sizes i.0 }
+    requires has_params { HasParams state.now.sizes.insns code.now.chains.now entry.0 }
+    ensures { result ≡ true → (f : ℕ) → PassIdle state.now.sizes
+        (PassIn code.now.program.words.now code.now.program.counts state.now.sizes code.now.chains.now i.0 f entry.0)
+        (λ L program. pass_arguments L program i.0 f) state.now.words.now }
+{
+    let n = state.sizes.insns;
+    let mut j = chains::first_param(code.chains, entry);
+    while (j.0 as usize) < n {
+        if !surely_keeps(&code.program, state, i, j) {
             return false;
         }
-        j = chains::next_param(chains, j);
+        j = chains::next_param(code.chains, j);
     }
     true
 }
 
-// How many Params a function with this entry has.
-pub fn count_params(chains: &[usize], sizes: Sizes, entry: BlockId) -> usize
-    requires { HasParams sizes.insns chains.now entry.0 }
-    ensures { (l : List ℕ) → ChainIs chains.now sizes.insns 1 entry.0 l → length l ≡ result }
+// How many Params a function with this entry has, in a program of n instructions.
+pub fn count_params(chains: &[usize], n: usize, entry: BlockId) -> usize
+    requires { HasParams n chains.now entry.0 }
+    ensures { (l : List ℕ) → ChainIs chains.now n 1 entry.0 l → length l ≡ result }
 {
-    let n = sizes.insns;
     let mut count = 0;
     let mut j = chains::first_param(chains, entry);
     while (j.0 as usize) < n {

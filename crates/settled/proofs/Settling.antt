@@ -8,11 +8,11 @@ use Prim.Native.Nat.{ℕ, ◌<◌}
 use borrow.Author.Tests.{eqb-false, not-false}
 use lib.Dec.{eqb}
 use lib.ListN.{get_or}
+use Rattle.std.specs.Prelude.{Ok}
 use Rattle.ids.specs.Sets.{members_of}
 use Rattle.ids.proofs.Walk.{Step, members_done}
 use Rattle.kinds.specs.declared.Kind.{Kind}
 use Rattle.kinds.specs.declared.Kind.TheVariants.{Empty}
-use Rattle.kinds.specs.declared.Joined.TheVariants.{Of}
 use Rattle.kinds.specs.Kinds.{kind_from}
 use Rattle.kinds.specs.Union.{union_of}
 use Rattle.kinds.proofs.Laws.{union-above}
@@ -24,8 +24,7 @@ use Rattle.program.specs.declared.Counts.{Counts}
 use Rattle.program.specs.declared.Name.{Name}
 use Rattle.program.specs.Rows.{name_in}
 use Rattle.program.specs.View as Prog
-use Rattle.lookups.specs.declared.FoundIvar.{FoundIvar}
-use Rattle.lookups.specs.declared.FoundIvar.TheVariants.{At}
+use Rattle.std.proofs.Common.{Option, Some}
 use Rattle.lookups.specs.Look.{ivar_found}
 use Rattle.state.specs.declared.Sizes.{Sizes}
 use Rattle.state.specs.View.{Attrs, kinds_of, ivars_of, reads_of}
@@ -38,15 +37,15 @@ use Rattle.settled.specs.Reads.{SettledAt, SettledFor}
 
 -- ---- covers
 
-pub covers-plain : (s x t y : ℕ) → (eqb t 4 || eqb t 5) ≡ false → union_of (kind_from s x) (kind_from t y) ≡ Of (kind_from s x) → Covered (kind_from s x) (kind_from t y)
+pub covers-plain : (s x t y : ℕ) → (eqb t 4 || eqb t 5) ≡ false → union_of (kind_from s x) (kind_from t y) ≡ Ok (kind_from s x) → Covered (kind_from s x) (kind_from t y)
 covers-plain s x t y h e =
     let n = or_parts (eqb t 4) (eqb t 5) h in
     record { plain = no_name-from t y (eqb-false t 4 n.0) (eqb-false t 5 n.1); below = (union-above (kind_from s x) (kind_from t y) (kind_from s x) e).1 }
 
 -- ---- one class
 
-module _ {z : Sizes} {s p : List ℕ} {c : Counts} {m : List ℕ} {i x : ℕ} {n : Name} {k j : Kind} {r : FoundIvar} {a : ℕ} where
-  pub settled_at : StateMatches z p c → x < z.classes → {t : 𝔹} → t ≡ marked (reads_of z m) x i → not t ≡ false → ivar_found r ≡ ivar_named (Prog.program_view s p c) x (name_in s n) → r ≡ At a
+module _ {z : Sizes} {s p : List ℕ} {c : Counts} {m : List ℕ} {i x : ℕ} {n : Name} {k j : Kind} {r : Option ℕ} {a : ℕ} where
+  pub settled_at : StateMatches z p c → x < z.classes → {t : 𝔹} → t ≡ marked (reads_of z m) x i → not t ≡ false → ivar_found r ≡ ivar_named (Prog.program_view s p c) x (name_in s n) → r ≡ Some a
       → ((v : Attrs) → a < v.count x → j ≡ get_or (get_or (ivars_of z v m) x []) a Empty) → Covered k j → SettledAt s p c z m n i k x
   settled_at M below {t} met so found e kind covered = record {
     is = λ P v f. record {

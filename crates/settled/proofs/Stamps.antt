@@ -2,31 +2,29 @@
 use mathlib.Core.Bool.{Bool as 𝔹, true, false, not, false≢true}
 use mathlib.Core.Logic.{◌⊎◌, inl, inr}
 use mathlib.Core.Path.{◌≡◌, refl, sym, ap, ◌∙◌, subst}
-use mathlib.Core.List.{List}
-use Prim.Native.Nat.{ℕ, ◌+◌, ◌*◌, ◌≤◌, ◌<◌}
+use mathlib.Core.List.{List, ◌++◌}
+use Prim.Native.Nat.{ℕ, ◌+◌, ◌-◌, ◌*◌, ◌≤◌, ◌<◌}
 use native.Mathlib.Omega.{arith}
 use borrow.Author.Tests.{eqb-true, eqb-false, not-false}
 use lib.Dec.{eqb}
-use lib.ListN.{length, get_or, set, length-set, length-take}
+use lib.ListN.{length, get_or, set, take, length-set, length-append}
 use lib.Seq.{length-take-le, get_or-take, get_or-set_same, get_or-set_other, ext_get_or}
 use Rattle.kinds.specs.declared.Kind.{Kind}
 use Rattle.kinds.specs.declared.Kind.TheVariants.{Empty}
-use Rattle.kinds.specs.Kinds.{kind_from}
 use Rattle.idle.specs.Settled.{Covered}
 use Rattle.records.specs.Records.{record_at}
 use Rattle.state.specs.declared.Sizes.{Sizes}
-use Rattle.state.specs.View.{kinds_of, StateHeld}
-use Rattle.state.proofs.Tables.{kind_at}
+use Rattle.state.specs.declared.State.{State}
+use Rattle.std.proofs.Math.Seq.{take-append_seam}
+use Rattle.std.proofs.lemmas.List.{set-append_right}
+use Rattle.state.specs.View.{kinds_of}
 use Rattle.memory.specs.Layout.{instructions_most}
 use Rattle.program.specs.Layout.{insns_at, insn_words}
-use Rattle.state.specs.Layout.{kind_bits_at, state_length, stamps_at}
-use Rattle.settled.specs.Reads.{tables_of, stamp_of, Touched, Unsettled}
+use Rattle.state.specs.Layout.{state_length, stamps_at}
+use Rattle.settled.specs.Reads.{tables_of, stamp_of, whole, Touched, Unsettled}
 
 pub tables-long : (m : List ℕ) → length m ≡ state_length → length (tables_of m) ≡ stamps_at
 tables-long m h = length-take-le stamps_at m (omega arith)
-
-pub long-tables : {z : Sizes} (m : List ℕ) → StateHeld z (tables_of m) → stamps_at ≤ length m
-long-tables m h = let a = h.len in let b = length-take stamps_at m in omega arith
 
 pub same_or : (k i : ℕ) → (k ≡ i) ⊎ (k ≡ i → ⊥)
 same_or k i = go (eqb k i) refl
@@ -60,17 +58,28 @@ unfolding record_at
 tag_word p j = refl
 
 module _ (p : List ℕ) {z : Sizes} (m : List ℕ) {j : ℕ} {k : Kind} where
-  pub touched_none : (get_or p (insns_at + insn_words * j) 0 ≡ 13 → ⊥) → Touched p z (tables_of m) j k false
+  pub touched_none : (get_or p (insns_at + insn_words * j) 0 ≡ 13 → ⊥) → Touched p z m j k false
   touched_none h = record { read = λ e. absurd (false≢true e); covers = λ _ e. absurd (h (sym (tag_word p j) ∙ e)) }
 
-  pub touched_read : StateHeld z (tables_of m) → j < z.insns → get_or p (insns_at + insn_words * j) 0 ≡ 13 → {t : 𝔹} → (t ≡ true → Covered (kind_from (get_or m j 0) (get_or m (kind_bits_at + j) 0)) k)
-      → Touched p z (tables_of m) j k (not t)
-  touched_read H l e {t} f = record { read = λ _. tag_word p j ∙ e; covers = λ n _. subst (λ (a : Kind). Covered a k) own (f (not-false t n)) }
-    where
-      own : kind_from (get_or m j 0) (get_or m (kind_bits_at + j) 0) ≡ get_or (kinds_of z (tables_of m)) j Empty
-      own = let a = H.insns in
-          ap (λ (x : ℕ). kind_from x (get_or m (kind_bits_at + j) 0)) (sym (get_or-take stamps_at m j 0 (omega arith))) ∙ ap (kind_from (get_or (tables_of m) j 0))
-          (sym (get_or-take stamps_at m (kind_bits_at + j) 0 (omega arith))) ∙ sym (kind_at z (tables_of m) j l)
+  pub touched_read : {a : Kind} → a ≡ get_or (kinds_of z m) j Empty → get_or p (insns_at + insn_words * j) 0 ≡ 13 → {t : 𝔹} → (t ≡ true → Covered a k) → Touched p z m j k (not t)
+  touched_read o e {t} f = record { read = λ _. tag_word p j ∙ e; covers = λ n _. subst (λ (a : Kind). Covered a k) o (f (not-false t n)) }
+
+-- ---- tables and stamps that are lent apart
+
+module _ (s : State) where
+  pub whole_tables : (t : List ℕ) → tables_of (whole s t) ≡ s.words.now
+  whole_tables t = subst (λ (n : ℕ). take n (s.words.now ++ t) ≡ s.words.now) s.ready.held.len (take-append_seam s.words.now t)
+
+  pub whole_long : (t : List ℕ) → length t ≡ instructions_most → length (whole s t) ≡ state_length
+  whole_long t h = let l = s.ready.held.len in length-append s.words.now t ∙ omega arith
+
+  pub whole_set : (t : List ℕ) (j x : ℕ) → whole s (set t j x) ≡ set (whole s t) (stamps_at + j) x
+  whole_set t j x =
+      let e : j ≡ stamps_at + j - stamps_at = omega arith in
+      ap (λ (i : ℕ). s.words.now ++ set t i x) e ∙ sym (set-append_right s.words.now t stamps_at (stamps_at + j) x s.ready.held.len (omega arith))
+
+  pub whole_touched : {p : List ℕ} {j : ℕ} {k : Kind} {b : 𝔹} (t : List ℕ) → Touched p s.sizes s.words.now j k b → Touched p s.sizes (tables_of (whole s t)) j k b
+  whole_touched {p} {j} {k} {b} t h = subst (λ (m : List ℕ). Touched p s.sizes m j k b) (sym (whole_tables t)) h
 
 -- ---- unsettle, at its loop's head
 
@@ -80,9 +89,6 @@ unsettled_start = record { long = refl; tables = refl; stamps = λ j. inl refl; 
 module _ {p : List ℕ} {z : Sizes} {k : Kind} {n : ℕ} {m w : List ℕ} (U : Unsettled p z k n m w) where
   pub unsettled_done : {l : ℕ} → l ≤ n → Unsettled p z k l m w
   unsettled_done h = record { long = U.long; tables = U.tables; stamps = U.stamps; reads = λ j a. U.reads j (omega arith) }
-
-  pub unsettled_held : StateHeld z (tables_of m) → StateHeld z (tables_of w)
-  unsettled_held h = subst (StateHeld z) (sym U.tables) h
 
   pub unsettled_keep : {t : 𝔹} {w' : List ℕ} → Touched p z (tables_of w) n k t → t ≡ false → w' ≡ w → Unsettled p z k (n + 1) m w'
   unsettled_keep {t} T f e = subst (Unsettled p z k (n + 1) m) (sym e) (record { long = U.long; tables = U.tables; stamps = U.stamps; reads = λ j h r. go j h r (same_or j n) })

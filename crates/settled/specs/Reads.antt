@@ -1,5 +1,5 @@
 -- Reads of attributes that are settled, in the tables; and the stamps behind them. Assumes nothing.
-use Rattle.std.specs.Prelude.{Bool as 𝔹, true, false, ◌⊎◌, ◌≡◌, List, ℕ, ◌+◌, ◌*◌, ◌≤◌, ◌<◌, length, get_or, take}
+use Rattle.std.specs.Prelude.{Bool as 𝔹, true, false, ◌⊎◌, ◌≡◌, List, ◌++◌, ℕ, ◌+◌, ◌*◌, ◌≤◌, ◌<◌, length, get_or, take}
 use Rattle.kinds.specs.declared.Kind.{Kind}
 use Rattle.kinds.specs.declared.Kind.TheVariants.{Empty}
 use Rattle.rules.specs.Program.{Program}
@@ -11,6 +11,7 @@ use Rattle.program.specs.View.{ProgramReady}
 use Rattle.records.specs.declared.Record.{Record}
 use Rattle.records.specs.Records.{record_at, row_of}
 use Rattle.state.specs.declared.Sizes.{Sizes}
+use Rattle.state.specs.declared.State.{State}
 use Rattle.state.specs.View.{Attrs, kinds_of, ivars_of, reads_of}
 use Rattle.machine.specs.opnds.Reads.{OperandInside, kind_in}
 use Rattle.machine.specs.Analysed.{MachineFits}
@@ -24,6 +25,10 @@ tables_of m = take stamps_at m
 
 abbrev pub stamp_of : List ℕ → ℕ → ℕ
 stamp_of m i = get_or m (stamps_at + i) 0
+
+-- the two as one, where they are lent apart
+abbrev pub whole : State → List ℕ → List ℕ
+whole s t = s.words.now ++ t
 
 -- the name that an instruction's record has
 abbrev pub name_of : Record → Name

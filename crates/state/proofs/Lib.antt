@@ -1,5 +1,6 @@
 pub mod Tables
 pub mod Puts
+pub mod Methods
 pub mod Pushes
 pub mod Wakes
 pub mod Lists

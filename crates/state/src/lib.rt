@@ -1,17 +1,15 @@
 // The analysis machine's state in one lent memory, and its small changes.
 #![tactic(auto)]
 
-ghost use Rattle.std.specs.Prelude.{false, ◌≡◌, List, [], ℕ, ◌≤◌, ◌<◌, ◌^◌, get_or};
-ghost use Rattle.rules.specs.Machine.{set_kind, set_live, marked, add_read, set_ivar_kind, at_rest, push_insn, push_block, wake_if_wider};
-ghost use Rattle.memory.specs.tables.Bits.{RowWord};
-ghost use Rattle.memory.specs.Layout.{ivars_most, worklist_most, row_words};
-ghost use Rattle.state.specs.View.{Attrs, kinds_of, live_of, ivars_of, called_of, reads_of, state_view, StateHeld, StateReady, no_entries};
-ghost use Rattle.state.specs.Changes.{StatePut, Added, Following, StateDid, Every, TookInsn, TookBlock, push_where, wake_callers};
+ghost use Rattle.std.specs.Prelude.{◌≡◌, ◌+◌, ◌*◌, ◌≤◌, ◌<◌};
+ghost use Rattle.memory.specs.Layout.{functions_most, row_words};
+ghost use Rattle.state.specs.Layout.{state_size};
+ghost use Rattle.state.specs.View.{StateReady};
 
 use ids::{BlockId, ClassId, FunId, InsnId};
-use kinds::{Joined, Kind};
+use kinds::Kind;
 use memory::ROW_WORDS;
-use memory::tables::FoundBit;
+use refusals::Refusal;
 
 // How many things the program has.
 #[derive(Clone, Copy)]
@@ -37,30 +35,13 @@ pub struct Regs {
     pub count: u64,
 }
 
-// What a change that can fail gives: the registers after it, or a refusal's number.
-#[derive(Clone, Copy)]
-pub enum Acted {
-    On(Regs),
-    Refused(usize),
-}
-
-// The next instruction of a walk.
-#[derive(Clone, Copy)]
-pub enum NextInsn {
-    Place(InsnId),
-    Done,
-}
-
-#[derive(Clone, Copy)]
-pub struct TakenInsn {
-    pub insn: InsnId,
-    pub q: Regs,
-}
-
-#[derive(Clone, Copy)]
-pub struct TakenBlock {
-    pub block: BlockId,
-    pub q: Regs,
+// The tables in lent words, for so many things, and the registers.
+#[derive(Drop)]
+pub struct State<'a> {
+    pub words: &'a mut [usize],
+    pub sizes: Sizes,
+    pub regs: Regs,
+    pub ghost ready: { StateReady sizes words.now regs },
 }
 
 // Where the tables start; kind bytes stand at 0.
@@ -89,317 +70,291 @@ pub const SIZE: usize = BLOCKS + memory::WORKLIST_MOST;
 // The published length of the state part.
 pub const STATE_LEN: usize = SIZE + memory::INSTRUCTIONS_MOST;
 
-pub fn kind_at(state: &[usize], sizes: Sizes, i: InsnId) -> Kind
-    requires state_held { StateHeld sizes state.now }
-    requires i_lt_insns { i.0 < sizes.insns }
-    ensures { result ≡ get_or (kinds_of sizes state.now) i.0 Kind.Empty }
-{
-    let at = i.0 as usize;
-    kinds::kind_from(state[at], state[BITS + at])
-}
+impl Regs {
+    ghost use Rattle.std.specs.Prelude.{◌≡◌};
+    ghost use Rattle.state.specs.View.{no_entries};
 
-pub fn set_kind(state: &mut [usize], sizes: Sizes, i: InsnId, k: Kind)
-    requires state_held { StateHeld sizes state.old }
-    requires i_lt_insns { i.0 < sizes.insns }
-    ensures { StatePut sizes (set_kind i.0 k) state.old state.new }
-{
-    let at = i.0 as usize;
-    let tag = k.tag();
-    let bits = k.payload();
-    state[at] = tag;
-    state[BITS + at] = bits;
-}
-
-pub fn is_live(state: &[usize], sizes: Sizes, b: BlockId) -> bool
-    requires state_held { StateHeld sizes state.now }
-    requires b_lt_blocks { b.0 < sizes.blocks }
-    ensures { result ≡ get_or (live_of sizes state.now) b.0 false }
-{
-    let at = b.0 as usize;
-    state[LIVE + at] != 0
-}
-
-pub fn set_live(state: &mut [usize], sizes: Sizes, b: BlockId)
-    requires state_held { StateHeld sizes state.old }
-    requires b_lt_blocks { b.0 < sizes.blocks }
-    ensures { StatePut sizes (set_live b.0) state.old state.new }
-{
-    let at = b.0 as usize;
-    state[LIVE + at] = 1;
-}
-
-// The kind of the attribute at place a of class c.
-pub fn ivar_at(state: &[usize], sizes: Sizes, c: ClassId, a: usize) -> Kind
-    requires state_held { StateHeld sizes state.now }
-    requires c_lt_classes { (c.0 < sizes.classes) × (a < ivars_most) }
-    ensures { (v : Attrs) → a < v.count c.0 → result ≡ get_or (get_or (ivars_of sizes v state.now) c.0 []) a Kind.Empty }
-{
-    let at = c.0 as usize * memory::IVARS_MOST + a;
-    kinds::kind_from(state[IVARS + at], state[IVAR_BITS + at])
-}
-
-pub fn set_ivar(state: &mut [usize], sizes: Sizes, c: ClassId, a: usize, k: Kind)
-    requires state_held { StateHeld sizes state.old }
-    requires c_lt_classes { (c.0 < sizes.classes) × (a < ivars_most) }
-    ensures { StatePut sizes (set_ivar_kind c.0 a k) state.old state.new }
-{
-    let at = c.0 as usize * memory::IVARS_MOST + a;
-    let tag = k.tag();
-    let bits = k.payload();
-    state[IVARS + at] = tag;
-    state[IVAR_BITS + at] = bits;
-}
-
-// Instruction i has called f.
-pub fn has_called(state: &[usize], sizes: Sizes, f: FunId, i: InsnId) -> bool
-    requires state_held { StateHeld sizes state.now }
-    requires f_lt_functions { (f.0 < sizes.functions) × (i.0 < sizes.insns) }
-    ensures { result ≡ marked (called_of sizes state.now) f.0 i.0 }
-{
-    memory::tables::test_bit(state, CALLERS + f.0 as usize * ROW_WORDS, i.0 as usize)
-}
-
-// Instruction i is a caller of f from now on; true where it is a new one.
-pub fn add_caller(state: &mut [usize], sizes: Sizes, f: FunId, i: InsnId) -> bool
-    requires state_held { StateHeld sizes state.old }
-    requires f_lt_functions { (f.0 < sizes.functions) × (i.0 < sizes.insns) }
-    ensures { Added sizes f.0 i.0 state.old state.new result }
-{
-    if has_called(state, sizes, f, i) {
-        return false;
-    }
-    memory::tables::set_bit(state, CALLERS + f.0 as usize * ROW_WORDS, i.0 as usize);
-    true
-}
-
-// Read i has met class c.
-pub fn has_read(state: &[usize], sizes: Sizes, c: ClassId, i: InsnId) -> bool
-    requires state_held { StateHeld sizes state.now }
-    requires c_lt_classes { (c.0 < sizes.classes) × (i.0 < sizes.insns) }
-    ensures { result ≡ marked (reads_of sizes state.now) c.0 i.0 }
-{
-    memory::tables::test_bit(state, READS + c.0 as usize * ROW_WORDS, i.0 as usize)
-}
-
-pub fn add_read(state: &mut [usize], sizes: Sizes, c: ClassId, i: InsnId)
-    requires state_held { StateHeld sizes state.old }
-    requires c_lt_classes { (c.0 < sizes.classes) × (i.0 < sizes.insns) }
-    ensures { StatePut sizes (add_read c.0 i.0) state.old state.new }
-{
-    memory::tables::set_bit(state, READS + c.0 as usize * ROW_WORDS, i.0 as usize);
-}
-
-// The first caller of f that is not below `from`.
-pub fn next_caller(state: &[usize], sizes: Sizes, f: FunId, from: InsnId) -> NextInsn
-    requires state_held { StateHeld sizes state.now }
-    requires f_lt_functions { f.0 < sizes.functions }
-    ensures { Following (called_of sizes state.now) f.0 sizes.insns from.0 result }
-{
-    match memory::tables::next_bit(
-        state,
-        CALLERS + f.0 as usize * ROW_WORDS,
-        from.0 as usize,
-        sizes.insns,
-    ) {
-        FoundBit::At(j) => NextInsn::Place(InsnId(j as u32)),
-        FoundBit::Nothing => NextInsn::Done,
-    }
-}
-
-// Word k of the callers of f: a bit for each instruction.
-pub fn caller_word(state: &[usize], sizes: Sizes, f: FunId, k: usize) -> usize
-    requires state_held { StateHeld sizes state.now }
-    requires f_lt_functions { (f.0 < sizes.functions) × (k < row_words) }
-    ensures { RowWord (get_or (called_of sizes state.now) f.0 []) k result }
-{
-    memory::tables::row_word(state, CALLERS + f.0 as usize * ROW_WORDS, sizes.insns, k)
-}
-
-// The first read that met class c and is not below `from`.
-pub fn next_read(state: &[usize], sizes: Sizes, c: ClassId, from: InsnId) -> NextInsn
-    requires state_held { StateHeld sizes state.now }
-    requires c_lt_classes { c.0 < sizes.classes }
-    ensures { Following (reads_of sizes state.now) c.0 sizes.insns from.0 result }
-{
-    match memory::tables::next_bit(
-        state,
-        READS + c.0 as usize * ROW_WORDS,
-        from.0 as usize,
-        sizes.insns,
-    ) {
-        FoundBit::At(j) => NextInsn::Place(InsnId(j as u32)),
-        FoundBit::Nothing => NextInsn::Done,
-    }
-}
-
-// The registers at the start.
-pub fn no_entries() -> Regs
-    ensures { result ≡ no_entries }
-{
-    let insns = Ring { head: 0, len: 0 };
-    let blocks = Ring { head: 0, len: 0 };
-    Regs {
-        insns,
-        blocks,
-        draining: false,
-        count: 0,
-    }
-}
-
-// Instruction i waits, or 20.
-pub fn push_insn(state: &mut [usize], sizes: Sizes, regs: Regs, i: InsnId) -> Acted
-    requires state_ready { StateReady sizes state.old regs }
-    requires i_lt_insns { i.0 < sizes.insns }
-    ensures { StateDid sizes Every (λ L p. push_insn L p i.0) state.old regs state.new result }
-{
-    let head = regs.insns.head;
-    let len = regs.insns.len;
-    if len < ROOM {
-        let at = INSNS + (head + len) % ROOM;
-        state[at] = i.0 as usize;
-        let insns = Ring { head, len: len + 1 };
-        let blocks = regs.blocks;
-        Acted::On(Regs {
-            insns,
-            blocks,
-            draining: regs.draining,
-            count: regs.count,
-        })
-    } else {
-        Acted::Refused(20)
-    }
-}
-
-// Block b waits, or 20.
-pub fn push_block(state: &mut [usize], sizes: Sizes, regs: Regs, b: BlockId) -> Acted
-    requires state_ready { StateReady sizes state.old regs }
-    requires b_lt_blocks { b.0 < sizes.blocks }
-    ensures { StateDid sizes Every (λ L p. push_block L p b.0) state.old regs state.new result }
-{
-    let head = regs.blocks.head;
-    let len = regs.blocks.len;
-    if len < ROOM {
-        let at = BLOCKS + (head + len) % ROOM;
-        state[at] = b.0 as usize;
-        let blocks = Ring { head, len: len + 1 };
-        let insns = regs.insns;
-        Acted::On(Regs {
-            insns,
-            blocks,
-            draining: regs.draining,
-            count: regs.count,
-        })
-    } else {
-        Acted::Refused(20)
-    }
-}
-
-// The instruction in front is taken off.
-pub fn take_insn(state: &[usize], sizes: Sizes, regs: Regs) -> TakenInsn
-    requires state_ready { StateReady sizes state.now regs }
-    requires len_nonzero { (0 < regs.insns.len) × (regs.count < 2 ^ 63) }
-    ensures { TookInsn sizes state.now regs result.insn.0 result.q }
-{
-    let head = regs.insns.head;
-    let x = state[INSNS + head];
-    let insns = Ring {
-        head: (head + 1) % ROOM,
-        len: regs.insns.len - 1,
-    };
-    let blocks = regs.blocks;
-    let insn = InsnId(x as u32);
-    let next = Regs {
-        insns,
-        blocks,
-        draining: false,
-        count: regs.count + 1,
-    };
-    TakenInsn { insn, q: next }
-}
-
-// The block in front is taken off.
-pub fn take_block(state: &[usize], sizes: Sizes, regs: Regs) -> TakenBlock
-    requires state_ready { StateReady sizes state.now regs }
-    requires len_nonzero { (0 < regs.blocks.len) × (regs.count < 2 ^ 63) }
-    ensures { TookBlock sizes state.now regs result.block.0 result.q }
-{
-    let head = regs.blocks.head;
-    let x = state[BLOCKS + head];
-    let blocks = Ring {
-        head: (head + 1) % ROOM,
-        len: regs.blocks.len - 1,
-    };
-    let insns = regs.insns;
-    let block = BlockId(x as u32);
-    let next = Regs {
-        insns,
-        blocks,
-        draining: true,
-        count: regs.count + 1,
-    };
-    TakenBlock { block, q: next }
-}
-
-// Nothing waits.
-pub fn at_rest(regs: Regs) -> bool
-    requires { (regs.insns.len ≤ worklist_most) × (regs.blocks.len ≤ worklist_most) }
-    ensures { (z : Sizes) (v : Attrs) (m : List ℕ) → result ≡ at_rest (state_view z v m regs) }
-{
-    regs.insns.len + regs.blocks.len == 0
-}
-
-// Instruction i waits if k would change its kind.
-pub fn wake_if_wider(state: &mut [usize], sizes: Sizes, regs: Regs, k: Kind, i: InsnId) -> Acted
-    requires state_ready { StateReady sizes state.old regs }
-    requires i_lt_insns { i.0 < sizes.insns }
-    ensures { StateDid sizes Every (λ L p. wake_if_wider L p k i.0) state.old regs state.new result }
-{
-    let old = kind_at(state, sizes, i);
-    match kinds::union(old, k) {
-        Joined::Of(u) => {
-            if u.same(old) {
-                return Acted::On(regs);
-            }
-            push_insn(state, sizes, regs, i)
-        }
-        Joined::Refused(n) => Acted::Refused(n),
-    }
-}
-
-// Instruction j waits where block b is live.
-pub fn push_live(state: &mut [usize], sizes: Sizes, regs: Regs, b: BlockId, j: InsnId) -> Acted
-    requires state_ready { StateReady sizes state.old regs }
-    requires b_lt_blocks { (b.0 < sizes.blocks) × (j.0 < sizes.insns) }
-    ensures { StateDid sizes Every (λ L p. push_where L p b.0 j.0) state.old regs state.new result }
-{
-    if is_live(state, sizes, b) {
-        return push_insn(state, sizes, regs, j);
-    }
-    Acted::On(regs)
-}
-
-// The callers of f wait whose kinds k would change.
-pub fn wake_callers(state: &mut [usize], sizes: Sizes, regs: Regs, f: FunId, k: Kind) -> Acted
-    requires state_ready { StateReady sizes state.old regs }
-    requires f_lt_functions { f.0 < sizes.functions }
-    ensures { StateDid sizes Every (λ L p. wake_callers L p f.0 k) state.old regs state.new result }
-{
-    let mut at = regs;
-    let mut from = InsnId(0);
-    loop {
-        match next_caller(state, sizes, f, from) {
-            NextInsn::Place(i) => match wake_if_wider(state, sizes, at, k, i) {
-                Acted::On(next) => {
-                    at = next;
-                    from = InsnId(i.0 + 1);
-                }
-                Acted::Refused(n) => {
-                    return Acted::Refused(n);
-                }
-            },
-            NextInsn::Done => {
-                return Acted::On(at);
-            }
+    // The registers at the start.
+    pub fn no_entries() -> Regs
+        ensures { result ≡ no_entries }
+    {
+        Regs {
+            insns: Ring { head: 0, len: 0 },
+            blocks: Ring { head: 0, len: 0 },
+            draining: false,
+            count: 0,
         }
     }
+}
+
+impl Ring {
+    ghost use Rattle.std.specs.Prelude.{◌≡◌, ◌+◌, ◌≤◌, ◌<◌, length};
+    ghost use Rattle.memory.specs.Layout.{worklist_most};
+    ghost use Rattle.state.specs.Rings.{Pushed, behind};
+
+    // Entry x waits in the ring whose first word is at `start`, or 20.
+    fn push(&mut self, words: &mut [usize], start: usize, x: usize) -> Result<(), Refusal>
+        requires head { self.old.head < worklist_most }
+        requires room { start + worklist_most ≤ length words.old }
+        ensures { Pushed start x words.old self.old words.new self.new result }
+    {
+        if self.len < ROOM {
+            words[start + (self.head + self.len) % ROOM] = x;
+            self.len += 1;
+            Ok(())
+        } else {
+            Err(Refusal::WaitingListFull)
+        }
+    }
+
+    // The entry in front is taken off: its place in the ring.
+    fn take(&mut self) -> usize
+        requires { (0 < self.old.len) × (self.old.head < worklist_most) }
+        ensures { (result ≡ self.old.head) × (self.new ≡ behind self.old) }
+    {
+        let at = self.head;
+        self.head = (at + 1) % ROOM;
+        self.len -= 1;
+        at
+    }
+}
+
+impl State<'_> {
+    ghost use Rattle.std.specs.Prelude.{false, ◌≡◌, List, [], ℕ, ◌+◌, ◌*◌, ◌/◌, ◌≤◌, ◌<◌, ◌^◌, get_or};
+    ghost use Rattle.rules.specs.Machine.{set_kind, set_live, marked, add_read, set_ivar_kind, at_rest, push_insn, push_block, wake_if_wider};
+    ghost use Rattle.memory.specs.tables.Bits.{bit_at, Next, RowWord};
+    ghost use Rattle.memory.specs.Layout.{ivars_most, row_words};
+    ghost use Rattle.state.specs.Layout.{called_at, insn_ring_at, state_size};
+    ghost use Rattle.state.specs.View.{Attrs, kinds_of, live_of, ivars_of, called_of, reads_of};
+    ghost use Rattle.state.specs.Changes.{Every, Following, push_where, wake_callers};
+    ghost use Rattle.state.specs.Methods.{view, Put, Did, Added, Marked, bit_of, InFront, TookInsn, TookBlock};
+
+    pub fn kind_at(&self, i: InsnId) -> Kind
+        requires i_lt_insns { i.0 < self.now.sizes.insns }
+        ensures { result ≡ get_or (kinds_of self.now.sizes self.now.words.now) i.0 Kind.Empty }
+    {
+        let at = i.0 as usize;
+        kinds::kind_from(self.words[at], self.words[BITS + at])
+    }
+
+    pub fn set_kind(&mut self, i: InsnId, k: Kind)
+        requires i_lt_insns { i.0 < self.old.sizes.insns }
+        ensures { Put (set_kind i.0 k) self.old self.new }
+    {
+        let at = i.0 as usize;
+        self.words[at] = k.tag();
+        self.words[BITS + at] = k.payload();
+    }
+
+    pub fn is_live(&self, b: BlockId) -> bool
+        requires b_lt_blocks { b.0 < self.now.sizes.blocks }
+        ensures { result ≡ get_or (live_of self.now.sizes self.now.words.now) b.0 false }
+    {
+        self.words[LIVE + b.0 as usize] != 0
+    }
+
+    pub fn set_live(&mut self, b: BlockId)
+        requires b_lt_blocks { b.0 < self.old.sizes.blocks }
+        ensures { Put (set_live b.0) self.old self.new }
+    {
+        self.words[LIVE + b.0 as usize] = 1;
+    }
+
+    // The kind of the attribute at place a of class c.
+    pub fn ivar_at(&self, c: ClassId, a: usize) -> Kind
+        requires c_lt_classes { (c.0 < self.now.sizes.classes) × (a < ivars_most) }
+        ensures { (v : Attrs) → a < v.count c.0 → result ≡ get_or (get_or (ivars_of self.now.sizes v self.now.words.now) c.0 []) a Kind.Empty }
+    {
+        let at = c.0 as usize * memory::IVARS_MOST + a;
+        kinds::kind_from(self.words[IVARS + at], self.words[IVAR_BITS + at])
+    }
+
+    pub fn set_ivar(&mut self, c: ClassId, a: usize, k: Kind)
+        requires c_lt_classes { (c.0 < self.old.sizes.classes) × (a < ivars_most) }
+        ensures { Put (set_ivar_kind c.0 a k) self.old self.new }
+    {
+        let at = c.0 as usize * memory::IVARS_MOST + a;
+        self.words[IVARS + at] = k.tag();
+        self.words[IVAR_BITS + at] = k.payload();
+    }
+
+    // Instruction i has called f.
+    pub fn has_called(&self, f: FunId, i: InsnId) -> bool
+        requires f_lt_functions { (f.0 < self.now.sizes.functions) × (i.0 < self.now.sizes.insns) }
+        ensures { result ≡ marked (called_of self.now.sizes self.now.words.now) f.0 i.0 }
+    {
+        self.has_mark(row(CALLERS, f.0), i)
+    }
+
+    // Instruction i is a caller of f from now on; true where it is a new one.
+    pub fn add_caller(&mut self, f: FunId, i: InsnId) -> bool
+        requires f_lt_functions { (f.0 < self.old.sizes.functions) × (i.0 < self.old.sizes.insns) }
+        ensures { Added f.0 i.0 self.old self.new result }
+    {
+        if self.has_called(f, i) {
+            return false;
+        }
+        self.add_mark(row(CALLERS, f.0), i);
+        true
+    }
+
+    // Read i has met class c.
+    pub fn has_read(&self, c: ClassId, i: InsnId) -> bool
+        requires c_lt_classes { (c.0 < self.now.sizes.classes) × (i.0 < self.now.sizes.insns) }
+        ensures { result ≡ marked (reads_of self.now.sizes self.now.words.now) c.0 i.0 }
+    {
+        self.has_mark(row(READS, c.0), i)
+    }
+
+    pub fn add_read(&mut self, c: ClassId, i: InsnId)
+        requires c_lt_classes { (c.0 < self.old.sizes.classes) × (i.0 < self.old.sizes.insns) }
+        ensures { Put (add_read c.0 i.0) self.old self.new }
+    {
+        self.add_mark(row(READS, c.0), i);
+    }
+
+    // The first caller of f that is not below `from`.
+    pub fn next_caller(&self, f: FunId, from: InsnId) -> Option<InsnId>
+        requires f_lt_functions { f.0 < self.now.sizes.functions }
+        ensures { Following (called_of self.now.sizes self.now.words.now) f.0 self.now.sizes.insns from.0 result }
+    {
+        self.next_mark(row(CALLERS, f.0), from)
+    }
+
+    // The first read that met class c and is not below `from`.
+    pub fn next_read(&self, c: ClassId, from: InsnId) -> Option<InsnId>
+        requires c_lt_classes { c.0 < self.now.sizes.classes }
+        ensures { Following (reads_of self.now.sizes self.now.words.now) c.0 self.now.sizes.insns from.0 result }
+    {
+        self.next_mark(row(READS, c.0), from)
+    }
+
+    // Word k of the callers of f: a bit for each instruction.
+    pub fn caller_word(&self, f: FunId, k: usize) -> usize
+        requires f_lt_functions { (f.0 < self.now.sizes.functions) × (k < row_words) }
+        ensures { RowWord (get_or (called_of self.now.sizes self.now.words.now) f.0 []) k result }
+    {
+        memory::tables::row_word(self.words, row(CALLERS, f.0), self.sizes.insns, k)
+    }
+
+    // Instruction i waits, or 20.
+    pub fn push_insn(&mut self, i: InsnId) -> Result<(), Refusal>
+        requires i_lt_insns { i.0 < self.old.sizes.insns }
+        ensures { Did Every (λ L p. push_insn L p i.0) self.old self.new result }
+    {
+        self.regs.insns.push(self.words, INSNS, i.0 as usize)
+    }
+
+    // Block b waits, or 20.
+    pub fn push_block(&mut self, b: BlockId) -> Result<(), Refusal>
+        requires b_lt_blocks { b.0 < self.old.sizes.blocks }
+        ensures { Did Every (λ L p. push_block L p b.0) self.old self.new result }
+    {
+        self.regs.blocks.push(self.words, BLOCKS, b.0 as usize)
+    }
+
+    // The instruction in front is taken off.
+    pub fn take_insn(&mut self) -> InsnId
+        requires len_nonzero { (0 < self.old.regs.insns.len) × (self.old.regs.count < 2 ^ 63) }
+        ensures { TookInsn result.0 self.old self.new }
+    {
+        let at = INSNS + self.regs.insns.take();
+        self.regs.draining = false;
+        self.regs.count += 1;
+        InsnId(self.words[at] as u32)
+    }
+
+    // The instruction in front, which stays there.
+    pub fn front_insn(&self) -> InsnId
+        requires { 0 < self.now.regs.insns.len }
+        ensures { InFront result.0 self.now }
+    {
+        InsnId(self.words[INSNS + self.regs.insns.head] as u32)
+    }
+
+    // The block in front is taken off.
+    pub fn take_block(&mut self) -> BlockId
+        requires len_nonzero { (0 < self.old.regs.blocks.len) × (self.old.regs.count < 2 ^ 63) }
+        ensures { TookBlock result.0 self.old self.new }
+    {
+        let at = BLOCKS + self.regs.blocks.take();
+        self.regs.draining = true;
+        self.regs.count += 1;
+        BlockId(self.words[at] as u32)
+    }
+
+    // Nothing waits.
+    pub fn at_rest(&self) -> bool
+        ensures { (v : Attrs) → result ≡ at_rest (view v self.now) }
+    {
+        self.regs.insns.len + self.regs.blocks.len == 0
+    }
+
+    // Instruction i waits if k would change its kind.
+    pub fn wake_if_wider(&mut self, k: Kind, i: InsnId) -> Result<(), Refusal>
+        requires i_lt_insns { i.0 < self.old.sizes.insns }
+        ensures { Did Every (λ L p. wake_if_wider L p k i.0) self.old self.new result }
+    {
+        let old = self.kind_at(i);
+        if kinds::union(old, k)? == old {
+            return Ok(());
+        }
+        self.push_insn(i)
+    }
+
+    // Instruction j waits where block b is live.
+    pub fn push_live(&mut self, b: BlockId, j: InsnId) -> Result<(), Refusal>
+        requires b_lt_blocks { (b.0 < self.old.sizes.blocks) × (j.0 < self.old.sizes.insns) }
+        ensures { Did Every (λ L p. push_where L p b.0 j.0) self.old self.new result }
+    {
+        if self.is_live(b) {
+            return self.push_insn(j);
+        }
+        Ok(())
+    }
+
+    // The callers of f wait whose kinds k would change.
+    pub fn wake_callers(&mut self, f: FunId, k: Kind) -> Result<(), Refusal>
+        requires f_lt_functions { f.0 < self.old.sizes.functions }
+        ensures { Did Every (λ L p. wake_callers L p f.0 k) self.old self.new result }
+    {
+        let mut from = InsnId(0);
+        while let Some(i) = self.next_caller(f, from) {
+            self.wake_if_wider(k, i)?;
+            from = InsnId(i.0 + 1);
+        }
+        Ok(())
+    }
+
+    // Bit i of the row of bits at a word, one for each instruction.
+    fn has_mark(&self, at: usize, i: InsnId) -> bool
+        requires at_bound { (at + row_words ≤ state_size) × (i.0 < self.now.sizes.insns) }
+        ensures { result ≡ bit_at self.now.words.now at i.0 }
+    {
+        memory::tables::test_bit(self.words, at, i.0 as usize)
+    }
+
+    fn add_mark(&mut self, at: usize, i: InsnId)
+        requires at_bound { (called_at ≤ at) × (at + row_words ≤ insn_ring_at) × (i.0 < self.old.sizes.insns) }
+        ensures { Marked at i.0 self.old self.new }
+    {
+        memory::tables::set_bit(self.words, at, i.0 as usize);
+    }
+
+    // The first set bit of such a row that is not below `from`.
+    fn next_mark(&self, at: usize, from: InsnId) -> Option<InsnId>
+        requires at_bound { at + row_words ≤ state_size }
+        ensures { Next (bit_at self.now.words.now at) self.now.sizes.insns from.0 (bit_of result) }
+    {
+        let j = memory::tables::next_bit(self.words, at, from.0 as usize, self.sizes.insns)?;
+        Some(InsnId(j as u32))
+    }
+}
+
+// Where row n of a table of such rows starts.
+fn row(table: usize, n: u32) -> usize
+    requires { (table ≤ state_size) × (n < functions_most) }
+    ensures { result ≡ table + n * row_words }
+{
+    table + n as usize * ROW_WORDS
 }

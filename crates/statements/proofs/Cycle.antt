@@ -19,31 +19,31 @@ use Rattle.variables.proofs.Entries.{row_move, vars_split}
 use Rattle.program.specs.Rows.{opnd_of}
 use Rattle.program.specs.View as View
 use Rattle.program.specs.declared.Given.TheVariants.{Zero}
-use Rattle.program.specs.declared.Limits.{Limits}
+use Rattle.program.specs.declared.bounds.Limits.{Limits}
 use Rattle.program.specs.declared.Op.TheVariants.{Jump}
 use Rattle.program.specs.declared.Opnd.{Opnd}
 use Rattle.program.specs.declared.Opnd.TheVariants.{Const}
-use Rattle.lexer.specs.declared.Lexed.TheVariants as W
+use Rattle.std.specs.Prelude.{Ok}
+use Rattle.lexer.specs.declared.Token.TheVariants as T
+use Rattle.lexer.specs.declared.Token.{Token}
 use Rattle.lexer.specs.declared.Word.{Word}
-use Rattle.lexer.proofs.Texts.{fixed-kind}
-use Rattle.cursor.specs.Cursor.{parser_of, move_cur, In, CursorStep}
+use Rattle.lexer.proofs.Texts.{fixed-token}
+use Rattle.cursor.specs.Cursor.{Cursor, parser_of, move_cur, In, CursorStep}
 use Rattle.cursor.specs.Promises.{Out, CursorDid, Sees, Spelt, CursorMatches, parsed_of, moved_of, matched_of}
-use Rattle.cursor.specs.declared.Cursor.{Cursor}
-use Rattle.cursor.specs.declared.Matched.{Matched}
-use Rattle.cursor.specs.declared.Matched.TheVariants as M
-use Rattle.cursor.specs.declared.Moved.{Moved}
-use Rattle.cursor.specs.declared.Moved.TheVariants as On
-use Rattle.cursor.specs.declared.Parsed.{Parsed}
-use Rattle.cursor.specs.declared.Parsed.TheVariants.{Done, Refused}
+use Rattle.cursor.specs.outcomes.Matched.{Matched}
+use Rattle.cursor.specs.outcomes.Matched as M
+use Rattle.cursor.specs.outcomes.Moved.{Moved}
+use Rattle.cursor.specs.outcomes.Moved as On
+use Rattle.cursor.specs.outcomes.Parsed.{Parsed, Done, Refused}
 use Rattle.cursor.proofs.Laws.{after-step, Acted, got, gave, refuses, arrives, ends_as, moved-did, added_did, in_moved, step-moved, step_less, step_trans, step-none}
 use Rattle.cursor.proofs.Wording.{spelt_else, is-yes, is_no, word_read, peek-found, pass-found}
 use Rattle.statements.specs.declared.Branch.{Branch}
-use Rattle.statements.specs.declared.Opened.{Opened}
-use Rattle.statements.specs.declared.Opened.TheVariants as O
-use Rattle.statements.specs.declared.Stops.{Stops}
-use Rattle.statements.specs.declared.Stops.TheVariants as H
+use Rattle.statements.specs.outcomes.Opened.{Opened}
+use Rattle.statements.specs.outcomes.Opened as O
+use Rattle.statements.specs.outcomes.Stops.{Stops}
+use Rattle.statements.specs.outcomes.Stops as H
 use Rattle.statements.specs.Acts.{stops_at, parse_arm, finish_if, parse_else, if_of}
-use Rattle.statements.specs.Shape.{block_cur, opened_of, halts, Halts, Opens, EndsBlock, StatementInside, DidFrom, StatementAside, OpensElse, FinishesElse, Arm}
+use Rattle.statements.specs.Shape.{block_cur, before_of, opened_of, halts, Halts, Opens, EndsBlock, StatementInside, DidFrom, StatementAside, OpensElse, FinishesElse, Arm}
 use Rattle.statements.proofs.Ifs.{if_is}
 use Rattle.statements.proofs.Steps.{Keeps, keeps_step, keeps_low, keeps_then, keeps_later, keeps_vars, after-over, inside-step, inside_then, few-vars, arm_then, opened-there}
 use Rattle.statements.proofs.Steps.{opens_did, in_block, step_block}
@@ -72,12 +72,10 @@ pub record Going (l : Limits) (s : List ℕ) (arm : 𝔹) (d : ℕ) (m₀ w₀ :
   pub enough : length s < turns + c.at
   pub here : In s m w c
   pub step : CursorStep 0 c₀ w₀ c w
-  pub long_m : length m ≡ length m₀
-  pub long_w : length w ≡ length w₀
 
 pub going_start : (l : Limits) (s : List ℕ) (arm : 𝔹) (d : ℕ) (m w : List ℕ) (c : Cursor) → In s m w c → Going l s arm d m w c m w c (Const Nil)
 unfolding parse_statements
-going_start l s arm d m w c h = record { turns = suc (length s); same = refl; enough = omega arith; here = h; step = step-none c w; long_m = refl; long_w = refl }
+going_start l s arm d m w c h = record { turns = suc (length s); same = refl; enough = omega arith; here = h; step = step-none c w }
 
 module _ {l : Limits} {s : List ℕ} {arm : 𝔹} {d : ℕ} {m₀ w₀ : List ℕ} {c₀ : Cursor} {m w : List ℕ} {c : Cursor} {v : Opnd}
     (i : Going l s arm d m₀ w₀ c₀ m w c v) {r : Stops} (a : Halts s arm c r) where
@@ -119,8 +117,8 @@ module _ {l : Limits} {s : List ℕ} {arm : 𝔹} {d : ℕ} {m₀ w₀ : List �
       pub going_less : length s - c1.at < length s - c.at
       going_less = let z = got b (ap parsed_of g) in omega (arith, z.step.on, z.here.ready.inside)
 
-      pub going_on : length m1 ≡ length m → length w1 ≡ length w → Going l s arm d m₀ w₀ c₀ m1 w1 c1 v1
-      going_on lm lw = go i.turns i.same i.enough
+      pub going_on : Going l s arm d m₀ w₀ c₀ m1 w1 c1 v1
+      going_on = go i.turns i.same i.enough
         where
           go : (k : ℕ) → loop (parse_next L s (stops_at arm) S) k (opnd_of v) (parser_of s m w c) ≡ parse_statements L s (stops_at arm) S (parser_of s m₀ w₀ c₀) → length s < k + c.at
               → Going l s arm d m₀ w₀ c₀ m1 w1 c1 v1
@@ -134,8 +132,6 @@ module _ {l : Limits} {s : List ℕ} {arm : 𝔹} {d : ℕ} {m₀ w₀ : List �
                 enough = omega (arith, z.step.on);
                 here = z.here;
                 step = step_less (omega arith) (step_trans i.step z.step);
-                long_m = lm ∙ i.long_m;
-                long_w = lw ∙ i.long_w;
               }
 
 -- ---- parse_block
@@ -169,7 +165,7 @@ module _ (l : Limits) {s : List ℕ} (d : ℕ) {m w : List ℕ} {c : Cursor} {p 
 
 -- ---- parse_else
 
-module _ (l : Limits) {s : List ℕ} (d : ℕ) {m w : List ℕ} {c₀ c : Cursor} (q : Branch) (h : In s m w c) (a : Arm c₀ c q) {r : Matched} (t : CursorMatches s 8 c r) where
+module _ (l : Limits) {s : List ℕ} (d : ℕ) {m w : List ℕ} {c₀ c : Cursor} (q : Branch) (h : In s m w c) (a : Arm c₀ c q) {r : Matched} (t : CursorMatches s T.Else c r) where
   abbrev Rest : List ℕ → List ℕ → Out P.Opnd → Type 0
   Rest m' w' o =
       DidFrom (parse_else (View.limits_of l) s (parse_statement (View.limits_of l) s d) c₀.block.0 (vars s w c₀.vars) (opnd_of q.cond) q.first.0 q.join.0 q.last.0 (opnd_of q.value))
@@ -326,9 +322,10 @@ module _ (l : Limits) {s : List ℕ} (d : ℕ) {m w : List ℕ} {c : Cursor} {p 
                 since : CursorStep 0 c1 w1 c5 w4
                 since = step_less (omega arith) (step_trans (step_trans first-went.step join-went.step) (step_block n (rw k at then_went.step)))
 
-                pub if_arm : {q : Branch} → q.join ≡ j → Arm c1 c5 q
-                if_arm t =
+                pub if_arm : {q : Branch} → q.before ≡ before_of c1 → q.join ≡ j → Arm c1 c5 q
+                if_arm u t =
                     record {
+                      place = u;
                       inside = inside-step (expr_in l s d a e) since;
                       aside = since.aside;
                       before = omega (arith, (expr_in l s d a e).block, since.blocks);
@@ -351,50 +348,57 @@ module _ (l : Limits) {s : List ℕ} (d : ℕ) {m w : List ℕ} {c : Cursor} {p 
 
 -- ---- parse_statement
 
-spelt_return : Spelt 6 "return"
-spelt_return x = fixed-kind x 3 (omega arith)
+spelt_return : Spelt T.Return "return"
+spelt_return x = fixed-token x 3 (omega arith)
 
-spelt_if : Spelt 7 "if"
-spelt_if x = fixed-kind x 4 (omega arith)
+spelt_if : Spelt T.If "if"
+spelt_if x = fixed-token x 4 (omega arith)
 
-module _ (l : Limits) {s : List ℕ} {m w : List ℕ} {c : Cursor} (h : In s m w c) {x : Word} (v : Sees s c (W.Found x)) where
+-- such a word isn't the end of the text
+pub return_on : {k : Token} → k ≡ T.Return → k ≡ T.EndOfText → ⊥
+return_on e f = let z : T.Return ≡ T.EndOfText = sym e ∙ f in cc
+
+pub if_on : {k : Token} → k ≡ T.If → k ≡ T.EndOfText → ⊥
+if_on e f = let z : T.If ≡ T.EndOfText = sym e ∙ f in cc
+
+module _ (l : Limits) {s : List ℕ} {m w : List ℕ} {c : Cursor} (h : In s m w c) {x : Word} (v : Sees s c (Ok x)) where
   abbrev States : ℕ → List ℕ → List ℕ → Out P.Opnd → Type 0
   States d m' w' o = CursorDid (parse_statement (View.limits_of l) s d) 1 s m w c m' w' o
 
   further : c.at + 1 ≤ x.next → CursorStep 1 c w (move_cur x.next c) w
   further = step-moved c w 1 x.next
 
-  past : (x.kind ≡ 0 → ⊥) → (c.at + 1 ≤ x.next) × (x.next ≤ length s)
+  past : (x.token ≡ T.EndOfText → ⊥) → (c.at + 1 ≤ x.next) × (x.next ≤ length s)
   past z = let k = word_read v refl in (omega (arith, k.on z), k.inside h.ready.inside)
 
-  pub state_in : {c1 : Cursor} → (x.kind ≡ 0 → ⊥) → c1 ≡ move_cur x.next c → In s m w c1
+  pub state_in : {c1 : Cursor} → (x.token ≡ T.EndOfText → ⊥) → c1 ≡ move_cur x.next c → In s m w c1
   state_in z i = rw i (in_moved h x.next (omega (arith, past z)) (past z).1)
 
-  pub state_return : (d : ℕ) {c1 : Cursor} {m' w' : List ℕ} {o : Out P.Opnd} → x.kind ≡ 6 → c1 ≡ move_cur x.next c
+  pub state_return : (d : ℕ) {c1 : Cursor} {m' w' : List ℕ} {o : Out P.Opnd} → x.token ≡ T.Return → c1 ≡ move_cur x.next c
       → CursorDid (parse_return (View.limits_of l) s (parse_expr (View.limits_of l) s d)) 1 s m w c1 m' w' o → States d m' w' o
   unfolding parse_statement statement_by
   state_return zero k i a =
       let b = rw i at a in
-      ends_as (further (past (λ z. omega arith)).0) (omega arith) b (rw (← peek-found v m w refl, is-yes x (word_read v refl) "return" spelt_return k, ← pass-found v m w refl))
+      ends_as (further (past (return_on k)).0) (omega arith) b (rw (← peek-found v m w refl, is-yes x (word_read v refl) "return" spelt_return k, ← pass-found v m w refl))
   state_return (suc d) k i a =
       let b = rw i at a in
-      ends_as (further (past (λ z. omega arith)).0) (omega arith) b (rw (← peek-found v m w refl, is-yes x (word_read v refl) "return" spelt_return k, ← pass-found v m w refl))
+      ends_as (further (past (return_on k)).0) (omega arith) b (rw (← peek-found v m w refl, is-yes x (word_read v refl) "return" spelt_return k, ← pass-found v m w refl))
 
-  pub state_deep : (d : ℕ) → (x.kind ≡ 6 → ⊥) → x.kind ≡ 7 → d ≡ 0 → States d m w (parsed_of (Refused 11))
+  pub state_deep : (d : ℕ) → (x.token ≡ T.Return → ⊥) → x.token ≡ T.If → d ≡ 0 → States d m w (parsed_of (Refused 11))
   unfolding parse_statement statement_by
   state_deep d n k z = rw z (refuses (rw (← peek-found v m w refl, is_no x (word_read v refl) "return" spelt_return n, is-yes x (word_read v refl) "if" spelt_if k, ← pass-found v m w refl)))
 
-  pub state_if : (d : ℕ) {c1 : Cursor} {m' w' : List ℕ} {o : Out P.Opnd} → (x.kind ≡ 6 → ⊥) → x.kind ≡ 7 → (d ≡ 0 → ⊥) → c1 ≡ move_cur x.next c
+  pub state_if : (d : ℕ) {c1 : Cursor} {m' w' : List ℕ} {o : Out P.Opnd} → (x.token ≡ T.Return → ⊥) → x.token ≡ T.If → (d ≡ 0 → ⊥) → c1 ≡ move_cur x.next c
       → CursorDid (parse_if (View.limits_of l) s (parse_expr (View.limits_of l) s (d - 1)) (parse_statement (View.limits_of l) s (d - 1))) 1 s m w c1 m' w' o → States d m' w' o
   unfolding parse_statement statement_by
   state_if zero n k z i a = absurd (z refl)
   state_if (suc d) n k z i a =
       let j : suc d - 1 ≡ d = omega arith in
       let b = rw (i, j) at a in
-      ends_as (further (past (λ z. omega arith)).0) (omega arith) b
+      ends_as (further (past (if_on k)).0) (omega arith) b
       (rw (← peek-found v m w refl, is_no x (word_read v refl) "return" spelt_return n, is-yes x (word_read v refl) "if" spelt_if k, ← pass-found v m w refl))
 
-  pub state_expr : (d : ℕ) {m' w' : List ℕ} {o : Out P.Opnd} → (x.kind ≡ 6 → ⊥) → (x.kind ≡ 7 → ⊥) → CursorDid (parse_expr (View.limits_of l) s d 0) 1 s m w c m' w' o → States d m' w' o
+  pub state_expr : (d : ℕ) {m' w' : List ℕ} {o : Out P.Opnd} → (x.token ≡ T.Return → ⊥) → (x.token ≡ T.If → ⊥) → CursorDid (parse_expr (View.limits_of l) s d 0) 1 s m w c m' w' o → States d m' w' o
   unfolding parse_statement statement_by
   state_expr zero n k a = record { is = a.is ∙ rw (← peek-found v m w refl, is_no x (word_read v refl) "return" spelt_return n, is_no x (word_read v refl) "if" spelt_if k); ok = a.ok }
   state_expr (suc d) n k a = record { is = a.is ∙ rw (← peek-found v m w refl, is_no x (word_read v refl) "return" spelt_return n, is_no x (word_read v refl) "if" spelt_if k); ok = a.ok }

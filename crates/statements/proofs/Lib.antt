@@ -2,3 +2,4 @@ pub mod Ifs
 pub mod Steps
 pub mod Paths
 pub mod Cycle
+pub mod Standing

@@ -7,6 +7,10 @@ use native.Mathlib.Omega.{arith}
 use lib.ListN.{length}
 use Rattle.ids.specs.declared.BlockId.{BlockId}
 use Rattle.ids.specs.declared.InsnId.{InsnId}
+use Rattle.std.specs.Prelude.{Ok, Err}
+use Rattle.std.specs.declared.result.Result.{Result}
+use Rattle.refusals.specs.Refusals.{number_of}
+use Rattle.refusals.specs.declared.Refusal.{Refusal}
 use Rattle.kinds.specs.declared.Kind.TheVariants.{Nil}
 use Rattle.rules.specs.Actions.{Answer, answered, refused, if_answered}
 use Rattle.rules.specs.Program as P
@@ -23,60 +27,53 @@ use Rattle.program.specs.View as View
 use Rattle.program.specs.declared.Counts.{Counts}
 use Rattle.program.specs.declared.Given.{Given}
 use Rattle.program.specs.declared.Given.TheVariants.{One}
-use Rattle.program.specs.declared.Limits.{Limits}
-use Rattle.program.specs.declared.NewBlock.{NewBlock}
-use Rattle.program.specs.declared.NewBlock.TheVariants as B
-use Rattle.program.specs.declared.NewInsn.{NewInsn}
-use Rattle.program.specs.declared.NewInsn.TheVariants as I
+use Rattle.program.specs.declared.bounds.Limits.{Limits}
 use Rattle.program.specs.declared.Op.{Op}
 use Rattle.program.specs.declared.Op.TheVariants.{IfTrue, Return}
 use Rattle.program.specs.declared.Opnd.{Opnd}
 use Rattle.program.specs.declared.Opnd.TheVariants.{Const}
-use Rattle.phis.specs.Joining.{Phis, Arms, IfEnd}
+use Rattle.phis.specs.Joining.{Phis, IfEnd}
 use Rattle.phis.specs.declared.Blocks.{Blocks}
-use Rattle.phis.specs.declared.JoinedVars.{JoinedVars}
-use Rattle.phis.specs.declared.JoinedVars.TheVariants as J
-use Rattle.phis.specs.declared.NewPhi.{NewPhi}
-use Rattle.phis.specs.declared.NewPhi.TheVariants as F
-use Rattle.lexer.specs.declared.Lexed.{Lexed}
-use Rattle.lexer.specs.declared.Lexed.TheVariants as W
+use Rattle.lexer.specs.declared.Token.TheVariants as T
 use Rattle.lexer.specs.declared.Word.{Word}
-use Rattle.cursor.specs.Cursor.{parser_of, count_cur, In, CursorStep}
+use Rattle.cursor.specs.Cursor.{Cursor, parser_of, count_cur, In, CursorStep}
 use Rattle.cursor.specs.Promises.{Out, outcome, CursorDid, Sees, Expects, parsed_of, moved_of}
-use Rattle.cursor.specs.declared.Cursor.{Cursor}
-use Rattle.cursor.specs.declared.Moved.{Moved}
-use Rattle.cursor.specs.declared.Moved.TheVariants as On
-use Rattle.cursor.specs.declared.Parsed.{Parsed}
-use Rattle.cursor.specs.declared.Parsed.TheVariants.{Done, Refused}
+use Rattle.cursor.specs.outcomes.Moved.{Moved}
+use Rattle.cursor.specs.outcomes.Moved as On
+use Rattle.cursor.specs.outcomes.Parsed.{Parsed, Done, Refused}
 use Rattle.cursor.proofs.Laws.{after-step, in_counted, Acted, got, gave, refuses, arrives, moved-did, added_did, step_less, step_trans}
 use Rattle.cursor.proofs.Wording.{spelt_end, spelt_else, is-yes, is_no, word_read, peek-found, peek-none}
-use Rattle.variables.specs.Layout.{entries_most, variables_size}
+use Rattle.variables.specs.Layout.{entries_most}
+use Rattle.statements.specs.declared.Before.{Before}
 use Rattle.statements.specs.declared.Branch.{Branch}
-use Rattle.statements.specs.declared.Opened.{Opened}
-use Rattle.statements.specs.declared.Opened.TheVariants as O
-use Rattle.statements.specs.declared.Stops.TheVariants as H
+use Rattle.statements.specs.outcomes.Opened.{Opened}
+use Rattle.statements.specs.outcomes.Opened as O
+use Rattle.statements.specs.outcomes.Stops as H
 use Rattle.statements.specs.Acts.{add_end, open_else, join_arms, join_value, finish_if, finish_else}
 use Rattle.statements.specs.Shape.{block_cur, vars_cur, opened_of, halts, Halts, Opens, AddsEnd, EndsBlock, StatementInside, DidFrom, OpensElse}
-use Rattle.statements.specs.Shape.{JoinsArms, FinishesElse, Arm}
+use Rattle.statements.specs.Shape.{JoinsArms, FinishesElse, before_of, Arm}
 use Rattle.statements.proofs.Steps.{keeps_low, keeps_vars, inside_then, few-vars, opened-there}
 use Rattle.statements.proofs.Steps.{opens_did}
 
--- ---- a cursor with several parts changed
+-- ---- the place where an `if` begins
 
-module _ {s m w : List ℕ} {c : Cursor} (h : In s m w c) where
-  pub placed : {x y z : Cursor} {b : BlockId} {n t : ℕ} {d : Counts} → x ≡ block_cur b y → y ≡ vars_cur n t z → z ≡ count_cur d c → x ≡ block_cur b (vars_cur n t (count_cur d c))
-  placed {b = b} {n = n} {t = t} e f g = e ∙ ap (λ (u : Cursor). block_cur b u) (f ∙ ap (λ (u : Cursor). vars_cur n t u) g)
+module _ {b : Before} (c₀ : Cursor) (e : b ≡ before_of c₀) where
+  pub place_block : b.block ≡ c₀.block
+  place_block = ap (λ (z : Before). z.block) e
 
-  pub placed2 : {x y : Cursor} {b : BlockId} {n t : ℕ} → x ≡ block_cur b y → y ≡ vars_cur n t c → x ≡ block_cur b (vars_cur n t c)
-  placed2 {b = b} e f = e ∙ ap (λ (u : Cursor). block_cur b u) f
+  pub place_vars : b.vars ≡ c₀.vars
+  place_vars = ap (λ (z : Before). z.vars) e
+
+  pub place_aside : b.aside ≡ c₀.aside
+  place_aside = ap (λ (z : Before). z.aside) e
 
 -- ---- additions to the tables
 
-module _ (l : Limits) (m : List ℕ) (c : Cursor) {m' : List ℕ} {r : NewBlock}
-    (g : View.ProgramDid (View.next_block (View.limits_of l)) View.unchanged c.counts.blocks (View.more_blocks c.counts) m c.counts m' (View.block_of r)) where
-  pub new-on : {b : BlockId} {d : Counts} {x : Cursor} → r ≡ B.Added b d → x ≡ count_cur d c → Opens l m c m' (O.On x b)
+module _ (l : Limits) (m : List ℕ) (c : Cursor) {m' : List ℕ} (d : Counts) {r : Result BlockId Refusal}
+    (g : View.ProgramDid (View.next_block (View.limits_of l)) View.unchanged c.counts.blocks (View.more_blocks c.counts) m c.counts m' (View.block_of d r)) where
+  pub new-on : {b : BlockId} {x : Cursor} → r ≡ Ok b → x ≡ count_cur d c → Opens l m c m' (O.On x b)
   unfolding parser_of
-  new-on {b} {d} {x} o i =
+  new-on {b} {x} o i =
       let ok = rw o at g.ok in
       record {
         is = λ s w. rw i (rw o at (g.is s (parser_of s m w c)));
@@ -92,20 +89,20 @@ module _ (l : Limits) (m : List ℕ) (c : Cursor) {m' : List ℕ} {r : NewBlock}
         );
       }
 
-  pub new_no : {k : ℕ} → r ≡ B.Refused k → Opens l m c m' (O.Refused k)
+  pub new_no : {k : Refusal} {n : ℕ} → r ≡ Err k → n ≡ number_of k → Opens l m c m' (O.Refused n)
   unfolding parser_of
-  new_no o = record { is = λ s w. rw o at (g.is s (parser_of s m w c)); ok = tt }
+  new_no o i = record { is = λ s w. rw i (rw o at (g.is s (parser_of s m w c))); ok = tt }
 
 -- an addition whose number nobody needs
 abbrev unnumbered : Answer (ℕ × Parser) → Answer (Unit {0} × Parser)
 unnumbered a = if_answered a (λ i. answered (tt, i.1))
 
-module _ (l : Limits) (b : BlockId) (op : Op) (v : Given) (m : List ℕ) (c : Cursor) {m' : List ℕ} {r : NewInsn}
+module _ (l : Limits) (b : BlockId) (op : Op) (v : Given) (m : List ℕ) (c : Cursor) {m' : List ℕ} (d : Counts) {r : Result InsnId Refusal}
     (g : View.ProgramDid (View.pushing_of (View.limits_of l) b.0 op (given v)) View.unchanged c.counts.insns
-    (View.more_insns op (length (given v)) c.counts) m c.counts m' (View.insn_of r)) where
-  pub end_on : {i : InsnId} {d : Counts} {x : Cursor} → r ≡ I.Added i d → x ≡ count_cur d c → AddsEnd l b op v m c m' (On.On x)
+    (View.more_insns op (length (given v)) c.counts) m c.counts m' (View.insn_of d r)) where
+  pub end_on : {i : InsnId} {x : Cursor} → r ≡ Ok i → x ≡ count_cur d c → AddsEnd l b op v m c m' (On.On x)
   unfolding add_end parser_of
-  end_on {i} {d} {x} o e =
+  end_on {i} {x} o e =
       let ok = rw o at g.ok in
       record {
         adds = λ s w. record {
@@ -120,9 +117,9 @@ module _ (l : Limits) (b : BlockId) (op : Op) (v : Given) (m : List ℕ) (c : Cu
         };
       }
 
-  pub end_no : {k : ℕ} → r ≡ I.Refused k → AddsEnd l b op v m c m' (On.Refused k)
+  pub end_no : {k : Refusal} {n : ℕ} → r ≡ Err k → n ≡ number_of k → AddsEnd l b op v m c m' (On.Refused n)
   unfolding add_end parser_of
-  end_no o = record { adds = λ s w. record { is = ap unnumbered (rw o at (g.is s (parser_of s m w c))); ok = tt } }
+  end_no o i = record { adds = λ s w. record { is = rw i (ap unnumbered (rw o at (g.is s (parser_of s m w c)))); ok = tt } }
 
 -- ---- end_block
 
@@ -195,50 +192,47 @@ module _ (l : Limits) (s : List ℕ) (d : ℕ) {m w : List ℕ} {c : Cursor} {p 
 
 -- ---- at_end
 
-module _ {s : List ℕ} {c : Cursor} {r : Lexed} (v : Sees s c r) where
-  pub halts-none : (arm : 𝔹) {e : ℕ} → r ≡ W.Refused e → Halts s arm c (H.Refused e)
+module _ {s : List ℕ} {c : Cursor} {r : Result Word Refusal} (v : Sees s c r) where
+  pub halts-none : (arm : 𝔹) {e : Refusal} → r ≡ Err e → Halts s arm c (H.Refused (number_of e))
   unfolding halts
   halts-none arm f = record { is = λ m w. rw (← peek-none v m w f); next = λ y g. let z : ◌≡◌ {A = ℕ} 0 1 = cc in absurd (omega arith) }
 
-  module _ {x : Word} (f : r ≡ W.Found x) where
-    pub halts_end : (arm : 𝔹) → x.kind ≡ 5 → Halts s arm c H.Here
+  module _ {x : Word} (f : r ≡ Ok x) where
+    pub halts_end : (arm : 𝔹) → x.token ≡ T.End → Halts s arm c H.Here
     unfolding halts
     halts_end true k = record { is = λ m w. rw (← peek-found v m w f, is-yes x (word_read v f) "end" spelt_end k); next = λ y g. let z : ◌≡◌ {A = ℕ} 0 1 = cc in absurd (omega arith) }
     halts_end false k = record { is = λ m w. rw (← peek-found v m w f, is-yes x (word_read v f) "end" spelt_end k); next = λ y g. let z : ◌≡◌ {A = ℕ} 0 1 = cc in absurd (omega arith) }
 
-    pub halts_else : {arm : 𝔹} → (x.kind ≡ 5 → ⊥) → arm ≡ true → x.kind ≡ 8 → Halts s arm c H.Here
+    pub halts_else : {arm : 𝔹} → (x.token ≡ T.End → ⊥) → arm ≡ true → x.token ≡ T.Else → Halts s arm c H.Here
     unfolding halts
     halts_else k a j = record {
       is = λ m w. rw (a, ← peek-found v m w f, is_no x (word_read v f) "end" spelt_end k, is-yes x (word_read v f) "else" spelt_else j);
       next = λ y g. let z : ◌≡◌ {A = ℕ} 0 1 = cc in absurd (omega arith);
     }
 
-    pub halts-not : {arm : 𝔹} → (x.kind ≡ 5 → ⊥) → arm ≡ true → (x.kind ≡ 8 → ⊥) → Halts s arm c (H.Not x)
+    pub halts-not : {arm : 𝔹} → (x.token ≡ T.End → ⊥) → arm ≡ true → (x.token ≡ T.Else → ⊥) → Halts s arm c (H.Not x)
     unfolding halts
     halts-not k a j = record {
       is = λ m w. rw (a, ← peek-found v m w f, is_no x (word_read v f) "end" spelt_end k, is_no x (word_read v f) "else" spelt_else j);
       next = λ y g. let z : x ≡ y = cc in rw (f, z) at v;
     }
 
-    pub halts-on : {arm : 𝔹} → (x.kind ≡ 5 → ⊥) → arm ≡ false → Halts s arm c (H.Not x)
+    pub halts-on : {arm : 𝔹} → (x.token ≡ T.End → ⊥) → arm ≡ false → Halts s arm c (H.Not x)
     unfolding halts
     halts-on k a = record { is = λ m w. rw (a, ← peek-found v m w f, is_no x (word_read v f) "end" spelt_end k); next = λ y g. let z : x ≡ y = cc in rw (f, z) at v }
 
 -- ---- join_vars
 
 module _ {s m w : List ℕ} {c₀ c : Cursor} (h : In s m w c) (i : StatementInside c₀ c) where
-  pub joins-fit : Arms c₀.vars c.vars c₀.aside (c.aside - c₀.aside)
-  joins-fit = record { old = i.old; low = i.low; room = omega (arith, h.ready.room.law, h.ready.room.script, i.above) }
-
-  module _ (l : Limits) (q : Blocks) (b : q.at.0 < c.counts.blocks) {w' m' : List ℕ} {j : JoinedVars}
-      (g : IfEnd s l q c₀.vars c.vars c₀.aside (c.aside - c₀.aside) w m c.counts w' m' j) where
-    pub vars_no : {e : ℕ} → j ≡ J.Refused e → JoinsArms l s m w c₀ c q m' w' (On.Refused e)
+  module _ (l : Limits) (q : Blocks) (b : q.at.0 < c.counts.blocks) {w' m' : List ℕ} {d : Counts} {j : Result ℕ Refusal}
+      (g : IfEnd s l q c₀.vars c.vars c₀.aside (c.aside - c₀.aside) w m c.counts w' m' d j) where
+    pub vars_no : {e : Refusal} {n : ℕ} → j ≡ Err e → n ≡ number_of e → JoinsArms l s m w c₀ c q m' w' (On.Refused n)
     unfolding join_arms parser_of
-    vars_no o = record { is = λ left z. rw o at (g.is left z (R.with_block q.at.0 (parser_of s m w c)) refl); ok = tt }
+    vars_no o i = record { is = λ left z. rw i (rw o at (g.is left z (R.with_block q.at.0 (parser_of s m w c)) refl)); ok = tt }
 
-    pub vars-on : {n : ℕ} {d : Counts} {x : Cursor} → j ≡ J.On n d → x ≡ block_cur q.at (vars_cur n c₀.aside (count_cur d c)) → JoinsArms l s m w c₀ c q m' w' (On.On x)
+    pub vars-on : {n : ℕ} {x : Cursor} → j ≡ Ok n → x ≡ block_cur q.at (vars_cur n c₀.aside (count_cur d c)) → JoinsArms l s m w c₀ c q m' w' (On.On x)
     unfolding join_arms parser_of
-    vars-on {n} {d} {x} o e =
+    vars-on {n} {x} o e =
         let ok = rw o at g.ready in
         let k = ok.1.0 in
         let most : n ≤ c.vars + (c.aside - c₀.aside) = ok.1.1.1 in
@@ -276,32 +270,31 @@ module _ {s m w : List ℕ} {c₀ c : Cursor} (h : In s m w c) (i : StatementIns
 
 -- ---- join_value
 
-module _ {s m w : List ℕ} {c : Cursor} {x : Moved} (h : In s m w c) (a : Expects s 5 c x) where
+module _ {s m w : List ℕ} {c : Cursor} {x : Moved} (h : In s m w c) (a : Expects s T.End c x) where
   expected : CursorDid (R.expect s "end") 1 s m w c m w (moved_of x)
   expected = moved-did (a.moves "end" spelt_end) h
 
   pub value_in_lem : {c1 : Cursor} → x ≡ On.On c1 → In s m w c1
   value_in_lem e = (got expected (ap moved_of e)).here
 
-module _ (l : Limits) {s m w : List ℕ} {c : Cursor} {x : Moved} (left : BlockId) (v : Opnd) (right : BlockId) (y : Opnd) (h : In s m w c) (a : Expects s 5 c x) where
+module _ (l : Limits) {s m w : List ℕ} {c : Cursor} {x : Moved} (left : BlockId) (v : Opnd) (right : BlockId) (y : Opnd) (h : In s m w c) (a : Expects s T.End c x) where
   pub value_no : {e : ℕ} → x ≡ On.Refused e → CursorDid (join_value (View.limits_of l) s left.0 (opnd_of v) right.0 (opnd_of y)) 1 s m w c m w (parsed_of (Refused e))
   unfolding join_value
   value_no e = refuses (rw (← gave (expected h a) (ap moved_of e)))
 
   module _ {c1 : Cursor} (e : x ≡ On.On c1) where
-    module _ {m' : List ℕ} {z : NewPhi} (g : Phis l (record { at = c1.block; left = left; right = right }) v y m c1.counts m' z) where
-      pub value_no2 : {k : ℕ} → z ≡ F.Refused k → CursorDid (join_value (View.limits_of l) s left.0 (opnd_of v) right.0 (opnd_of y)) 1 s m w c m' w (parsed_of (Refused k))
+    module _ {m' : List ℕ} {d : Counts} {z : Result Opnd Refusal} (g : Phis l (record { at = c1.block; left = left; right = right }) v y m c1.counts m' d z) where
+      pub value_no2 : {k : Refusal} {n : ℕ} → z ≡ Err k → n ≡ number_of k → CursorDid (join_value (View.limits_of l) s left.0 (opnd_of v) right.0 (opnd_of y)) 1 s m w c m' w (parsed_of (Refused n))
       unfolding join_value parser_of
-      value_no2 o = refuses (rw (← (got (expected h a) (ap moved_of e)).is) (rw o at (g.is s (parser_of s m w c1) refl)))
+      value_no2 e' i = refuses (rw (i, ← (got (expected h a) (ap moved_of e)).is) (rw e' at (g.is s (parser_of s m w c1) refl)))
 
-      pub value-yes : {u : Opnd} {d : Counts} {t : Cursor} → z ≡ F.Of u d → t ≡ count_cur d c1
-          → CursorDid (join_value (View.limits_of l) s left.0 (opnd_of v) right.0 (opnd_of y)) 1 s m w c m' w (parsed_of (Done t u))
+      pub value-yes : {u : Opnd} {t : Cursor} → z ≡ Ok u → t ≡ count_cur d c1 → CursorDid (join_value (View.limits_of l) s left.0 (opnd_of v) right.0 (opnd_of y)) 1 s m w c m' w (parsed_of (Done t u))
       unfolding join_value parser_of
-      value-yes {u} {d} {t} o i =
-          let ok = rw o at g.ready in
+      value-yes {u} {t} e' i =
+          let ok = rw e' at g.ready in
           let n = in_counted (value_in_lem h a e) d ok.0 ok.1.functions ok.1.classes (omega (arith, ok.1.blocks)) in
           rw i (arrives (step_trans (got (expected h a) (ap moved_of e)).step n.1) (omega arith) n.0
-          (rw (← (got (expected h a) (ap moved_of e)).is) (rw o at (g.is s (parser_of s m w c1) refl))))
+          (rw (← (got (expected h a) (ap moved_of e)).is) (rw e' at (g.is s (parser_of s m w c1) refl))))
 
 -- ---- open_else
 
@@ -328,9 +321,12 @@ module _ (l : Limits) {s m w : List ℕ} {c₀ c : Cursor} (q : Branch) (h : In 
     open_vars : c1.vars ≡ c.vars
     open_vars = let k = rw e at b.ok in ap (λ (z : Cursor). z.vars) k.0.cur
 
-    module _ {m2 : List ℕ} {y : Moved} (g : AddsEnd l c₀.block (IfTrue q.first f) (One q.cond) m1 c1 m2 y) where
+    module _ {m2 : List ℕ} {y : Moved} (g : AddsEnd l q.before.block (IfTrue q.first f) (One q.cond) m1 c1 m2 y) where
+      else_adds : AddsEnd l c₀.block (IfTrue q.first f) (One q.cond) m1 c1 m2 y
+      else_adds = rw (place_block c₀ a.place) at g
+
       else_chosen : CursorDid (add_end (View.limits_of l) c₀.block.0 (P.Ends (P.IfTrue (opnd_of q.cond) q.first.0 f.0))) 0 s m1 w c1 m2 w (moved_of y)
-      else_chosen = added_did (g.adds s w) open_in
+      else_chosen = added_did (else_adds.adds s w) open_in
 
       pub open_no2 : {k : ℕ} → y ≡ On.Refused k → OpensElse l s m w c₀ c q m2 w (O.Refused k)
       unfolding open_else
@@ -341,7 +337,7 @@ module _ (l : Limits) {s m w : List ℕ} {c₀ c : Cursor} (q : Branch) (h : In 
         chosen = got else_chosen (ap moved_of i)
 
         chosen_vars : c2.vars ≡ c.vars
-        chosen_vars = let k = rw i at (g.adds s w).ok in ap (λ (z : Cursor). z.vars) k.cur ∙ open_vars
+        chosen_vars = let k = rw i at (else_adds.adds s w).ok in ap (λ (z : Cursor). z.vars) k.cur ∙ open_vars
 
         steps : CursorStep 0 c w c2 w
         steps = step_less (omega arith) (step_trans (got else_opened (ap opened_of e)).step chosen.step)
@@ -352,12 +348,12 @@ module _ (l : Limits) {s m w : List ℕ} {c₀ c : Cursor} (q : Branch) (h : In 
         pub open_in2 : In s m2 w c2
         open_in2 = chosen.here
 
-        pub open_part : (variables_size ≤ length w) × ((c₀.vars + (c2.vars - c₀.vars) ≤ c₀.aside) × (c₀.aside + (c2.vars - c₀.vars) ≤ entries_most))
+        pub open_part : (c₀.vars + (c2.vars - c₀.vars) ≤ c₀.aside) × (c₀.aside + (c2.vars - c₀.vars) ≤ entries_most)
         open_part =
             let k = chosen.here.ready in
             let z : c2.aside ≡ c₀.aside = steps.aside ∙ a.aside in
             let o : c₀.vars ≤ c2.vars = omega (arith, a.inside.old, chosen_vars) in
-            (omega (arith, k.scratch), (omega (arith, k.room.law, k.room.script, k.room.aside), omega (arith, k.room.law, k.room.script, k.room.aside)))
+            (omega (arith, k.room.law, k.room.script, k.room.aside), omega (arith, k.room.law, k.room.script, k.room.aside))
 
         pub open_yes : {n : ℕ} {w' : List ℕ} {t : Cursor} → Leaves s c₀.vars (c2.vars - c₀.vars) c₀.aside w w' n → t ≡ block_cur f (vars_cur c₀.vars (c₀.aside + n) c2)
             → OpensElse l s m w c₀ c q m2 w' (O.On t f)
@@ -407,14 +403,17 @@ module _ (l : Limits) {s m w : List ℕ} {c₀ c : Cursor} (q : Branch) (h : In 
 -- ---- finish_if
 
 module _ (l : Limits) {s m w : List ℕ} {c₀ c : Cursor} (q : Branch) (h : In s m w c) (a : Arm c₀ c q) {m1 : List ℕ} {x : Moved}
-    (b : AddsEnd l c₀.block (IfTrue q.first q.join) (One q.cond) m c m1 x) where
+    (b : AddsEnd l q.before.block (IfTrue q.first q.join) (One q.cond) m c m1 x) where
+  bare_adds : AddsEnd l c₀.block (IfTrue q.first q.join) (One q.cond) m c m1 x
+  bare_adds = rw (place_block c₀ a.place) at b
+
   abbrev BareIf : List ℕ → List ℕ → Out P.Opnd → Type 0
   BareIf m' w' o =
       DidFrom (finish_if (View.limits_of l) s c₀.block.0 (vars s w c₀.vars) (opnd_of q.cond) q.first.0 q.join.0 q.last.0 (opnd_of q.value) (vars s w c.vars))
       1 s m w c₀ c m' w' o
 
   bare_chosen : CursorDid (add_end (View.limits_of l) c₀.block.0 (P.Ends (P.IfTrue (opnd_of q.cond) q.first.0 q.join.0))) 0 s m w c m1 w (moved_of x)
-  bare_chosen = added_did (b.adds s w) h
+  bare_chosen = added_did (bare_adds.adds s w) h
 
   pub bare_no : {e : ℕ} → x ≡ On.Refused e → BareIf m1 w (parsed_of (Refused e))
   unfolding finish_if
@@ -441,14 +440,17 @@ module _ (l : Limits) {s m w : List ℕ} {c₀ c : Cursor} (q : Branch) (h : In 
     bare_sorted = rw bare_row (env_sorted [])
 
     bare_vars : c1.vars ≡ c.vars
-    bare_vars = let k = rw e at (b.adds s w).ok in ap (λ (z : Cursor). z.vars) k.cur
+    bare_vars = let k = rw e at (bare_adds.adds s w).ok in ap (λ (z : Cursor). z.vars) k.cur
 
-    module _ {m2 w2 : List ℕ} {y : Moved} (g : JoinsArms l s m1 w c₀ c1 (record { at = q.join; left = c₀.block; right = q.first }) m2 w2 y) where
+    module _ {m2 w2 : List ℕ} {y : Moved} (g : JoinsArms l s m1 w c₀ c1 (record { at = q.join; left = q.before.block; right = q.first }) m2 w2 y) where
+      bare_arms : JoinsArms l s m1 w c₀ c1 (record { at = q.join; left = c₀.block; right = q.first }) m2 w2 y
+      bare_arms = rw (place_block c₀ a.place) at g
+
       bare_joined : outcome s m2 w2 (moved_of y)
           ≡ join_arms (View.limits_of l) s q.join.0 (vars s w c₀.vars) c₀.block.0 (vars s w c₀.vars) q.first.0 (vars s w c.vars) (parser_of s m1 w c1)
       unfolding over
       bare_joined =
-          g.is [] bare_row
+          bare_arms.is [] bare_row
           ∙ ap (λ n. join_arms (View.limits_of l) s q.join.0 (vars s w c₀.vars) c₀.block.0 (vars s w c₀.vars) q.first.0 (vars s w n) (parser_of s m1 w c1)) bare_vars
 
       pub bare_no2 : {k : ℕ} → y ≡ On.Refused k → BareIf m2 w2 (parsed_of (Refused k))
@@ -457,15 +459,15 @@ module _ (l : Limits) {s m w : List ℕ} {c₀ c : Cursor} (q : Branch) (h : In 
 
       module _ {c2 : Cursor} (i : y ≡ On.On c2) where
         pub bare_in2 : In s m2 w2 c2
-        bare_in2 = let k = rw i at g.ok in k.0
+        bare_in2 = let k = rw i at bare_arms.ok in k.0
 
-        pub bare_yes : {m3 : List ℕ} {p : Out P.Opnd} → CursorDid (join_value (View.limits_of l) s c₀.block.0 R.nil q.last.0 (opnd_of q.value)) 1 s m2 w2 c2 m3 w2 p
-            → BareIf m3 w2 p
+        pub bare_yes : {m3 w3 : List ℕ} {p : Out P.Opnd} → CursorDid (join_value (View.limits_of l) s c₀.block.0 R.nil q.last.0 (opnd_of q.value)) 1 s m2 w2 c2 m3 w3 p
+            → BareIf m3 w3 p
         unfolding finish_if
-        bare_yes {m3} {p} d =
+        bare_yes {m3} {w3} {p} d =
             let k = rw i at bare_joined in
-            let o = rw i at g.ok in
-            record { is = rw (← bare_went.is, ← k) d.is; ok = after-step 1 1 s m3 w2 p o.1 (omega arith) d.ok }
+            let o = rw i at bare_arms.ok in
+            record { is = rw (← bare_went.is, ← k) d.is; ok = after-step 1 1 s m3 w3 p o.1 (omega arith) d.ok }
 
 -- ---- finish_else
 
@@ -479,12 +481,12 @@ module _ (l : Limits) {s m w : List ℕ} {c₀ c : Cursor} (q : Branch) (b : Blo
     pub both_in : In s m1 w1 c1
     both_in = let k = rw e at g.ok in k.0
 
-    pub both_yes : {m2 : List ℕ} {p : Parsed} → CursorDid (join_value (View.limits_of l) s q.last.0 (opnd_of q.value) c.block.0 (opnd_of z)) 1 s m1 w1 c1 m2 w1 (parsed_of p)
-        → FinishesElse l s m w c₀ c q b z m2 w1 p
+    pub both_yes : {m2 w2 : List ℕ} {p : Parsed} → CursorDid (join_value (View.limits_of l) s q.last.0 (opnd_of q.value) c.block.0 (opnd_of z)) 1 s m1 w1 c1 m2 w2 (parsed_of p)
+        → FinishesElse l s m w c₀ c q b z m2 w2 p
     unfolding finish_else parser_of
-    both_yes {m2} {p} d =
+    both_yes {m2} {w2} {p} d =
         let o = rw e at g.ok in
         record {
           is = λ left r. let k = rw e at (g.is left r) in rw (← k) d.is;
-          ok = after-step 1 1 s m2 w1 (parsed_of p) o.1 (omega arith) d.ok;
+          ok = after-step 1 1 s m2 w2 (parsed_of p) o.1 (omega arith) d.ok;
         }

@@ -10,16 +10,15 @@ use Rattle.variables.specs.Scopes.{env_of}
 use Rattle.variables.specs.Memory.{entry, vars, Kept}
 use Rattle.variables.proofs.Entries.{made_move}
 use Rattle.program.specs.View as View
-use Rattle.program.specs.declared.Limits.{Limits}
-use Rattle.cursor.specs.Cursor.{In, CursorStep}
+use Rattle.program.specs.declared.bounds.Limits.{Limits}
+use Rattle.cursor.specs.Cursor.{Cursor, In, CursorStep}
 use Rattle.cursor.specs.Promises.{Out, done, stop, CursorAfter, CursorDid}
-use Rattle.cursor.specs.declared.Cursor.{Cursor}
 use Rattle.cursor.proofs.Laws.{in_counted}
 use Rattle.variables.specs.Layout.{bindings_most}
 use Rattle.cursor.specs.Layout.{stack_at}
 use Rattle.statements.specs.declared.Branch.{Branch}
-use Rattle.statements.specs.declared.Opened.{Opened}
-use Rattle.statements.specs.declared.Opened.TheVariants as O
+use Rattle.statements.specs.outcomes.Opened.{Opened}
+use Rattle.statements.specs.outcomes.Opened as O
 use Rattle.statements.specs.Shape.{block_cur, opened_of, Widened, Opens, StatementInside, Arm}
 
 -- ---- what a step from c₀ keeps of scratch memory
@@ -114,6 +113,7 @@ few-vars h i = omega (arith, h.ready.room.law, h.ready.room.script, h.ready.room
 pub arm_then : {k : ℕ} {c₀ c c' : Cursor} {q : Branch} {w w' : List ℕ} → Arm c₀ c q → CursorStep k c w c' w' → Arm c₀ c' q
 arm_then a b =
     record {
+      place = a.place;
       inside = inside_then a.inside b;
       aside = b.aside ∙ a.aside;
       before = omega (arith, a.before, b.blocks);

@@ -1,2 +1,3 @@
+pub mod outcomes
 pub mod Shape
 pub mod Acts

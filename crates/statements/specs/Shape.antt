@@ -1,5 +1,7 @@
 -- Cursors inside an `if`, and what its readers promise. Assumes nothing.
-use Rattle.std.specs.Prelude.{Bool as 𝔹, true, false, ◌≡◌, List, map, ℕ, ◌+◌, ◌-◌, ◌*◌, ◌≤◌, ◌<◌}
+use Rattle.std.specs.Prelude.{Bool as 𝔹, true, false, ◌≡◌, List, map, ℕ, ◌+◌, ◌-◌, ◌*◌, ◌≤◌, ◌<◌, Option, Some, None, Result, Ok, Err}
+use Rattle.refusals.specs.declared.Refusal.{Refusal}
+use Rattle.refusals.specs.Refusals.{number_of}
 use Rattle.ids.specs.declared.BlockId.{BlockId}
 use Rattle.rules.specs.Actions.{◌>>=◌, give}
 use Rattle.rules.specs.Program as P
@@ -10,22 +12,23 @@ use Rattle.variables.specs.Memory.{made, vars, row, Kept}
 use Rattle.program.specs.Rows.{opnd_of, given, op_in}
 use Rattle.program.specs.View as View
 use Rattle.program.specs.declared.Given.{Given}
-use Rattle.program.specs.declared.Limits.{Limits}
+use Rattle.program.specs.declared.bounds.Limits.{Limits}
 use Rattle.program.specs.declared.Op.{Op}
 use Rattle.program.specs.declared.Opnd.{Opnd}
-use Rattle.lexer.specs.declared.Lexed.TheVariants.{Found}
 use Rattle.lexer.specs.declared.Word.{Word}
 use Rattle.phis.specs.declared.Blocks.{Blocks}
-use Rattle.cursor.specs.Cursor.{parser_of, count_cur, In}
+use Rattle.cursor.specs.Cursor.{Cursor, parser_of, count_cur, In}
 use Rattle.cursor.specs.Promises.{Out, done, stop, outcome, CursorAfter, CursorAdds, Sees, moved_of, parsed_of}
-use Rattle.cursor.specs.declared.Cursor.{Cursor}
-use Rattle.cursor.specs.declared.Moved.{Moved}
-use Rattle.cursor.specs.declared.Parsed.{Parsed}
+use Rattle.cursor.specs.outcomes.Moved.{Moved}
+use Rattle.cursor.specs.outcomes.Parsed.{Parsed}
+use Rattle.cursor.specs.Parsers.{cursor_of, AddsKept, parsed_in, moved_in}
+use Rattle.cursor.specs.declared.Parser.{Parser}
 use Rattle.variables.specs.Layout.{bindings_most}
-use Rattle.statements.specs.declared.Opened.{Opened}
-use Rattle.statements.specs.declared.Opened.TheVariants as O
-use Rattle.statements.specs.declared.Stops.{Stops}
-use Rattle.statements.specs.declared.Stops.TheVariants as H
+use Rattle.statements.specs.outcomes.Opened.{Opened}
+use Rattle.statements.specs.outcomes.Opened as O
+use Rattle.statements.specs.outcomes.Stops.{Stops}
+use Rattle.statements.specs.outcomes.Stops as H
+use Rattle.statements.specs.declared.Before.{Before}
 use Rattle.statements.specs.declared.Branch.{Branch}
 use Rattle.statements.specs.Acts.{add_end, stops_at, open_else, join_arms, finish_else}
 
@@ -55,7 +58,7 @@ halts s arm = do
 
 pub record Halts (s : List ℕ) (arm : 𝔹) (c : Cursor) (r : Stops) : Type 0 where
   pub is : (m w : List ℕ) → outcome s m w (stops_of c r) ≡ halts s arm (parser_of s m w c)
-  pub next : (x : Word) → r ≡ H.Not x → Sees s c (Found x)
+  pub next : (x : Word) → r ≡ H.Not x → Sees s c (Ok x)
 
 -- ---- additions to the tables
 
@@ -133,9 +136,66 @@ pub record FinishesElse (l : Limits) (s m w : List ℕ) (c₀ c : Cursor) (q : B
       ≡ finish_else (View.limits_of l) s (vars s w c₀.vars) q.join.0 q.first.0 (over left (vars s w c₀.vars)) q.last.0 (opnd_of q.value) b.0 (opnd_of y) (parser_of s m w c)
   pub ok : CursorAfter 1 s c₀ w m' w' (parsed_of r)
 
+-- what an `if` keeps of the place c₀ where it begins
+abbrev pub before_of : Cursor → Before
+before_of c = record { block = c.block; vars = c.vars; aside = c.aside }
+
 -- an arm was read: nothing of it is aside, and the block before the `if` and the join are there
 pub record Arm (c₀ c : Cursor) (q : Branch) : Type 0 where
+  pub place : q.before ≡ before_of c₀
   pub inside : StatementInside c₀ c
   pub aside : c.aside ≡ c₀.aside
   pub before : c₀.block.0 < c.counts.blocks
   pub join : q.join.0 < c.counts.blocks
+
+-- the same, wherever the `if` began
+pub record InArm (c : Cursor) (q : Branch) : Type 0 where
+  pub from : Cursor
+  pub arm : Arm from c q
+
+pub record Within (c : Cursor) (b : Before) : Type 0 where
+  pub from : Cursor
+  pub place : b ≡ before_of from
+  pub inside : StatementInside from c
+
+-- ---- answers, with the parser behind them
+
+abbrev pub opened_in : Parser → Result BlockId Refusal → Opened
+opened_in p (Ok b) = O.On (cursor_of p) b
+opened_in p (Err e) = O.Refused (number_of e)
+
+abbrev pub stops_if : Option Word → Stops
+stops_if (Some x) = H.Not x
+stops_if None = H.Here
+
+abbrev pub stops_in : Result (Option Word) Refusal → Stops
+stops_in (Ok o) = stops_if o
+stops_in (Err e) = H.Refused (number_of e)
+
+-- ---- what the readers do to a parser
+
+pub record ParserOpens (p p' : Parser) (r : Result BlockId Refusal) : Type 0 where
+  pub kept : AddsKept p p'
+  pub opens : Opens p.program.limits p.program.words.now (cursor_of p) p'.program.words.now (opened_in p' r)
+
+pub record ParserAddsEnd (b : BlockId) (op : Op) (g : Given) (p p' : Parser) (r : Result (Unit {0}) Refusal) : Type 0 where
+  pub kept : AddsKept p p'
+  pub adds : AddsEnd p.program.limits b op g p.program.words.now (cursor_of p) p'.program.words.now (moved_in p' r)
+
+pub record ParserEndsBlock (op : Op) (g : Given) (p p' : Parser) (r : Result (Unit {0}) Refusal) : Type 0 where
+  pub kept : AddsKept p p'
+  pub ends : EndsBlock p.program.limits op g p.program.words.now (cursor_of p) p'.program.words.now (moved_in p' r)
+
+pub record ParserDidFrom {A : Type 0} (f : P.Limits → List ℕ → Reads A) (k : ℕ) (c₀ : Cursor) (p p' : Parser) (o : Out A) : Type 0 where
+  pub did : DidFrom (f (View.limits_of p.program.limits) p.script.now) k p.script.now p.program.words.now p.scratch.now c₀ (cursor_of p)
+      p'.program.words.now p'.scratch.now o
+
+pub record ParserOpensElse (c₀ : Cursor) (q : Branch) (p p' : Parser) (r : Result BlockId Refusal) : Type 0 where
+  pub opens : OpensElse p.program.limits p.script.now p.program.words.now p.scratch.now c₀ (cursor_of p) q p'.program.words.now p'.scratch.now (opened_in p' r)
+
+pub record ParserJoinsArms (c₀ : Cursor) (q : Blocks) (p p' : Parser) (r : Result (Unit {0}) Refusal) : Type 0 where
+  pub joins : JoinsArms p.program.limits p.script.now p.program.words.now p.scratch.now c₀ (cursor_of p) q p'.program.words.now p'.scratch.now (moved_in p' r)
+
+pub record ParserFinishesElse (c₀ : Cursor) (q : Branch) (b : BlockId) (y : Opnd) (p p' : Parser) (r : Result Opnd Refusal) : Type 0 where
+  pub finishes : FinishesElse p.program.limits p.script.now p.program.words.now p.scratch.now c₀ (cursor_of p) q b y
+      p'.program.words.now p'.scratch.now (parsed_in p' r)

@@ -1,36 +1,40 @@
 // Statements: the readers' second cycle.
 #![tactic(auto)]
 
-ghost use Rattle.std.specs.Prelude.{◌≡◌, ◌-◌, ◌<◌};
+ghost use Rattle.std.specs.Prelude.{◌≡◌, ◌-◌, ◌<◌, Ok};
 ghost use Rattle.rules.specs.Reading.{parse_expr, parse_return, parse_if, parse_statements, parse_statement};
 ghost use Rattle.variables.specs.Scopes.{Sorted};
 ghost use Rattle.variables.specs.Memory.{row, vars};
-ghost use Rattle.lexer.specs.declared.Lexed.TheVariants.{Found};
 ghost use Rattle.program.specs.Rows.{opnd_of};
-ghost use Rattle.program.specs.View.{ProgramReady, Small, limits_of};
-ghost use Rattle.cursor.specs.Cursor.{In};
-ghost use Rattle.cursor.specs.Promises.{CursorDid, Sees, parsed_of};
+ghost use Rattle.cursor.specs.Cursor.{Cursor};
+ghost use Rattle.cursor.specs.Promises.{Sees};
+ghost use Rattle.cursor.specs.Parsers.{cursor_of, Reading, ParserKept, ParserDid, operand};
 ghost use Rattle.statements.specs.Acts.{stops_at, parse_arm, join_value, finish_if, parse_else};
-ghost use Rattle.statements.specs.Shape.{block_cur, vars_cur, Opens, AddsEnd, EndsBlock, Halts, StatementInside, Arm, DidFrom, OpensElse, JoinsArms, FinishesElse};
+ghost use Rattle.statements.specs.Shape.{StatementInside, Halts, stops_in, before_of, Within, Arm, InArm};
+ghost use Rattle.statements.specs.Shape.{ParserOpens, ParserAddsEnd, ParserEndsBlock, ParserDidFrom, ParserOpensElse, ParserJoinsArms, ParserFinishesElse};
 
-use cursor::{Cursor, Matched, Moved, Parsed};
+use cursor::Parser;
 use ids::BlockId;
 use kinds::Kind;
-use lexer::{Lexed, Word};
-use phis::{Blocks, JoinedVars, NewPhi};
-use program::{Given, Limits, NewBlock, NewInsn, Op, Opnd};
+use lexer::{Token, Word};
+use phis::{Blocks, Sides};
+use program::{Given, Op, Opnd};
+use refusals::Refusal;
+use variables::Row;
 
-// A block and the cursor behind its opening, or the number of a refusal.
+// Where an `if` begins: the block that takes instructions, how many variables are bound, where the rows set aside end.
 #[derive(Clone, Copy)]
-pub enum Opened {
-    On(Cursor, BlockId),
-    Refused(usize),
+pub struct Before {
+    pub block: BlockId,
+    pub vars: usize,
+    pub aside: usize,
 }
 
-// What an `if` keeps while its arms are read: the condition, the blocks of the then arm and of the join, and of the then arm its
-// last block and its value.
+// What an `if` keeps while its arms are read: where it began, the condition, the blocks of the then arm and of the join, and of
+// the then arm its last block and its value.
 #[derive(Clone, Copy)]
 pub struct Branch {
+    pub before: Before,
     pub cond: Opnd,
     pub first: BlockId,
     pub join: BlockId,
@@ -38,581 +42,251 @@ pub struct Branch {
     pub value: Opnd,
 }
 
-// Whether statements end at the next word; if not, that word.
-#[derive(Clone, Copy)]
-pub enum Stops {
-    Here,
-    Not(Word),
-    Refused(usize),
-}
-
-// ---- a cursor with one part changed
-
-fn at_block(cursor: Cursor, b: BlockId) -> Cursor
-    ensures { result ≡ block_cur b cursor }
-{
-    let counts = cursor.counts;
-    let class = cursor.class;
-    let receiver = cursor.receiver;
-    Cursor {
-        at: cursor.at,
-        counts,
-        class,
-        receiver,
-        block: b,
-        vars: cursor.vars,
-        aside: cursor.aside,
-        args: cursor.args,
-    }
-}
-
-fn with_vars(cursor: Cursor, vars: usize, aside: usize) -> Cursor
-    ensures { result ≡ vars_cur vars aside cursor }
-{
-    let counts = cursor.counts;
-    let class = cursor.class;
-    let receiver = cursor.receiver;
-    let block = cursor.block;
-    Cursor {
-        at: cursor.at,
-        counts,
-        class,
-        receiver,
-        block,
-        vars,
-        aside,
-        args: cursor.args,
-    }
-}
-
 // ---- additions to the tables
 
 // A block of the function being read, which is the last.
-fn new_block(program: &mut [usize], cursor: Cursor, limits: Limits) -> Opened
-    requires program_ready { ProgramReady program.old cursor.counts }
-    requires small { Small limits }
-    ensures { Opens limits program.old cursor program.new result }
+fn new_block(p: &mut Parser) -> Result<BlockId, Refusal>
+    ensures { ParserOpens p.old p.new result }
 {
-    let counts = cursor.counts;
-    match program::next_block(program, counts, limits) {
-        NewBlock::Added(b, d) => Opened::On(cursor::counted(cursor, d), b),
-        NewBlock::Refused(e) => Opened::Refused(e),
-    }
+    p.program.next_block()
 }
 
 // A terminator is added to block b.
-fn add_end(
-    program: &mut [usize],
-    cursor: Cursor,
-    limits: Limits,
-    b: BlockId,
-    op: Op,
-    g: Given,
-) -> Moved
-    requires program_ready { ProgramReady program.old cursor.counts }
-    requires small { Small limits }
-    requires b_lt_blocks { b.0 < cursor.counts.blocks }
-    ensures { AddsEnd limits b op g program.old cursor program.new result }
+fn add_end(p: &mut Parser, b: BlockId, op: Op, g: Given) -> Result<(), Refusal>
+    requires { b.0 < p.old.program.counts.blocks }
+    ensures { ParserAddsEnd b op g p.old p.new result }
 {
-    let counts = cursor.counts;
-    match program::push_insn(program, counts, limits, b, op, g) {
-        NewInsn::Added(_, d) => Moved::On(cursor::counted(cursor, d)),
-        NewInsn::Refused(e) => Moved::Refused(e),
-    }
+    p.program.push_insn(b, op, g)?;
+    Ok(())
 }
 
 // The block that takes instructions gets a terminator, unless it has one.
-pub fn end_block(program: &mut [usize], cursor: Cursor, limits: Limits, op: Op, g: Given) -> Moved
-    requires program_ready { ProgramReady program.old cursor.counts }
-    requires small { Small limits }
-    requires block_lt_blocks { cursor.block.0 < cursor.counts.blocks }
-    ensures { EndsBlock limits op g program.old cursor program.new result }
+pub fn end_block(p: &mut Parser, op: Op, g: Given) -> Result<(), Refusal>
+    requires { p.old.block.0 < p.old.program.counts.blocks }
+    ensures { ParserEndsBlock op g p.old p.new result }
 {
-    let b = cursor.block;
-    let counts = cursor.counts;
-    if lookups::is_terminated(program, counts, b) {
-        return Moved::On(cursor);
+    let b = p.block;
+    let program = p.program.program(p.script);
+    if lookups::is_terminated(&program, b) {
+        return Ok(());
     }
-    add_end(program, cursor, limits, b, op, g)
+    add_end(p, b, op, g)
 }
 
 // Behind `return`.
-fn parse_return(
-    script: &[u8],
-    program: &mut [usize],
-    scratch: &mut [usize],
-    cursor: Cursor,
-    limits: Limits,
-    depth: usize,
-) -> Parsed
-    requires fact { In script.now program.old scratch.old cursor }
-    requires small { Small limits }
-    ensures { CursorDid (parse_return (limits_of limits) script.now (parse_expr (limits_of limits) script.now depth)) 1
-        script.now program.old scratch.old cursor program.new scratch.new (parsed_of result) }
+fn parse_return(p: &mut Parser, depth: usize) -> Result<Opnd, Refusal>
+    requires { Reading p.old }
+    ensures { ParserDid (λ L s. parse_return L s (parse_expr L s depth)) 1 p.old p.new (operand p.new result) }
 {
-    match expressions::parse_expr(script, program, scratch, cursor, limits, 0, depth) {
-        Parsed::Done(c1, v) => {
-            let b = c1.block;
-            match add_end(program, c1, limits, b, Op::Return, Given::One(v)) {
-                Moved::On(c2) => Parsed::Done(c2, Opnd::Const(Kind::Nil)),
-                Moved::Refused(e) => Parsed::Refused(e),
-            }
-        }
-        Parsed::Refused(e) => Parsed::Refused(e),
-    }
+    let v = expressions::parse_expr(p, 0, depth)?;
+    let b = p.block;
+    add_end(p, b, Op::Return, Given::One(v))?;
+    Ok(Opnd::Const(Kind::Nil))
 }
 
-// ---- the end of an `if`, whose condition was read up to c0
+// ---- the end of an `if`, whose condition was read up to c₀
 
 // What the then arm bound is set aside; the else arm's first block is opened, and the choice is added.
-fn open_else(
-    script: &[u8],
-    program: &mut [usize],
-    scratch: &mut [usize],
-    c0: Cursor,
-    cursor: Cursor,
-    limits: Limits,
-    q: Branch,
-) -> Opened
-    requires fact { In script.now program.old scratch.old cursor }
-    requires small { Small limits }
-    requires arm { Arm c0 cursor q }
-    ensures { OpensElse limits script.now program.old scratch.old c0 cursor q program.new scratch.new result }
+fn open_else(p: &mut Parser, q: Branch) -> Result<BlockId, Refusal>
+    requires reading { Reading p.old }
+    requires arm { InArm (cursor_of p.old) q }
+    ensures kept { ParserKept p.old p.new }
+    ensures opens { (c₀ : Cursor) → Arm c₀ (cursor_of p.old) q → ParserOpensElse c₀ q p.old p.new result }
 {
-    match new_block(program, cursor, limits) {
-        Opened::On(c1, b) => {
-            let before = c0.block;
-            let v = q.cond;
-            let first = q.first;
-            match add_end(
-                program,
-                c1,
-                limits,
-                before,
-                Op::IfTrue(first, b),
-                Given::One(v),
-            ) {
-                Moved::On(c2) => {
-                    let mark = c0.vars;
-                    let top = c0.aside;
-                    let n = variables::set_aside(script, scratch, mark, c2.vars - mark, top);
-                    Opened::On(at_block(with_vars(c2, mark, top + n), b), b)
-                }
-                Moved::Refused(e) => Opened::Refused(e),
-            }
-        }
-        Opened::Refused(e) => Opened::Refused(e),
-    }
+    let Before { block, vars, aside } = q.before;
+    let b = new_block(p)?;
+    add_end(p, block, Op::IfTrue(q.first, b), Given::One(q.cond))?;
+    let n = variables::set_aside(p.script, p.scratch, vars, p.vars - vars, aside);
+    p.vars = vars;
+    p.aside = aside + n;
+    p.block = b;
+    Ok(b)
 }
 
 // The join of the arms takes instructions, first a join for each variable that an arm bound.
-fn join_vars(
-    script: &[u8],
-    program: &mut [usize],
-    scratch: &mut [usize],
-    c0: Cursor,
-    cursor: Cursor,
-    limits: Limits,
-    q: Blocks,
-) -> Moved
-    requires fact { In script.now program.old scratch.old cursor }
-    requires small { Small limits }
-    requires statement_inside { StatementInside c0 cursor }
-    requires at_lt_blocks { q.at.0 < cursor.counts.blocks }
-    requires sorted { Sorted (row script.now scratch.old c0.aside (cursor.aside - c0.aside)) }
-    ensures { JoinsArms limits script.now program.old scratch.old c0 cursor q program.new scratch.new result }
+fn join_vars(p: &mut Parser, before: Before, q: Blocks) -> Result<(), Refusal>
+    requires reading { Reading p.old }
+    requires within { Within (cursor_of p.old) before }
+    requires at_lt_blocks { q.at.0 < p.old.program.counts.blocks }
+    requires sorted { Sorted (row p.old.script.now p.old.scratch.now before.aside (p.old.aside - before.aside)) }
+    ensures kept { ParserKept p.old p.new }
+    ensures joins { (c₀ : Cursor) → before ≡ before_of c₀ → StatementInside c₀ (cursor_of p.old) → ParserJoinsArms c₀ q p.old p.new result }
 {
-    let counts = cursor.counts;
-    let mark = c0.vars;
-    let top = c0.aside;
-    match phis::join_arms(
-        script,
-        scratch,
-        program,
-        counts,
-        limits,
-        q,
-        mark,
-        cursor.vars,
-        top,
-        cursor.aside - top,
-    ) {
-        JoinedVars::On(n, d) => {
-            let b = q.at;
-            Moved::On(at_block(with_vars(cursor::counted(cursor, d), n, top), b))
-        }
-        JoinedVars::Refused(e) => Moved::Refused(e),
-    }
+    let sides = Sides {
+        mark: before.vars,
+        n: p.vars,
+        left: Row {
+            lo: before.aside,
+            len: p.aside - before.aside,
+        },
+    };
+    p.vars = phis::join_arms(p.script, p.scratch, &mut p.program, q, sides)?;
+    p.aside = before.aside;
+    p.block = q.at;
+    Ok(())
 }
 
 // `end`, and the join of the arms' values.
 fn join_value(
-    script: &[u8],
-    program: &mut [usize],
-    scratch: &[usize],
-    cursor: Cursor,
-    limits: Limits,
+    p: &mut Parser,
     left: BlockId,
     v: Opnd,
     right: BlockId,
     x: Opnd,
-) -> Parsed
-    requires fact { In script.now program.old scratch.now cursor }
-    requires small { Small limits }
-    ensures { CursorDid (join_value (limits_of limits) script.now left.0 (opnd_of v) right.0 (opnd_of x)) 1 script.now
-        program.old scratch.now cursor program.new scratch.now (parsed_of result) }
+) -> Result<Opnd, Refusal>
+    requires { Reading p.old }
+    ensures { ParserDid (λ L s. join_value L s left.0 (opnd_of v) right.0 (opnd_of x)) 1 p.old p.new (operand p.new result) }
 {
-    match cursor::expect(script, cursor, lexer::END) {
-        Moved::On(c1) => {
-            let counts = c1.counts;
-            let at = c1.block;
-            match phis::phi(program, counts, limits, Blocks { at, left, right }, v, x) {
-                NewPhi::Of(o, d) => Parsed::Done(cursor::counted(c1, d), o),
-                NewPhi::Refused(e) => Parsed::Refused(e),
-            }
-        }
-        Moved::Refused(e) => Parsed::Refused(e),
-    }
+    p.expect(Token::End)?;
+    let at = p.block;
+    phis::phi(&mut p.program, Blocks { at, left, right }, v, x)
 }
 
 // An `if` without an else arm: the choice, and the joins.
-fn finish_if(
-    script: &[u8],
-    program: &mut [usize],
-    scratch: &mut [usize],
-    c0: Cursor,
-    cursor: Cursor,
-    limits: Limits,
-    q: Branch,
-) -> Parsed
-    requires fact { In script.now program.old scratch.old cursor }
-    requires small { Small limits }
-    requires arm { Arm c0 cursor q }
-    ensures { DidFrom
-        (finish_if (limits_of limits) script.now c0.block.0 (vars script.now scratch.old c0.vars)
+fn finish_if(p: &mut Parser, q: Branch) -> Result<Opnd, Refusal>
+    requires reading { Reading p.old }
+    requires arm { InArm (cursor_of p.old) q }
+    ensures kept { ParserKept p.old p.new }
+    ensures did { (c₀ : Cursor) → Arm c₀ (cursor_of p.old) q → ParserDidFrom
+        (λ L s. finish_if L s c₀.block.0 (vars s p.old.scratch.now c₀.vars)
         (opnd_of q.cond) q.first.0 q.join.0 q.last.0 (opnd_of q.value)
-        (vars script.now scratch.old cursor.vars))
-        1
-        script.now program.old scratch.old c0 cursor program.new scratch.new (parsed_of result) }
+        (vars s p.old.scratch.now p.old.vars))
+        1 c₀ p.old p.new (operand p.new result) }
 {
-    let before = c0.block;
-    let v = q.cond;
-    let first = q.first;
-    let join = q.join;
-    match add_end(
-        program,
-        cursor,
-        limits,
-        before,
-        Op::IfTrue(first, join),
-        Given::One(v),
-    ) {
-        Moved::On(c1) => match join_vars(
-            script,
-            program,
-            scratch,
-            c0,
-            c1,
-            limits,
-            Blocks {
-                at: join,
-                left: before,
-                right: first,
-            },
-        ) {
-            Moved::On(c2) => {
-                let last = q.last;
-                let x = q.value;
-                join_value(
-                    script,
-                    program,
-                    scratch,
-                    c2,
-                    limits,
-                    before,
-                    Opnd::Const(Kind::Nil),
-                    last,
-                    x,
-                )
-            }
-            Moved::Refused(e) => Parsed::Refused(e),
-        },
-        Moved::Refused(e) => Parsed::Refused(e),
-    }
+    let before = q.before.block;
+    add_end(p, before, Op::IfTrue(q.first, q.join), Given::One(q.cond))?;
+    let arms = Blocks {
+        at: q.join,
+        left: before,
+        right: q.first,
+    };
+    join_vars(p, q.before, arms)?;
+    join_value(p, before, Opnd::Const(Kind::Nil), q.last, q.value)
 }
 
 // An `if` with an else arm, whose first block and value are b and y.
-fn finish_else(
-    script: &[u8],
-    program: &mut [usize],
-    scratch: &mut [usize],
-    c0: Cursor,
-    cursor: Cursor,
-    limits: Limits,
-    q: Branch,
-    b: BlockId,
-    y: Opnd,
-) -> Parsed
-    requires fact { In script.now program.old scratch.old cursor }
-    requires small { Small limits }
-    requires statement_inside { StatementInside c0 cursor }
-    requires join_lt_blocks { q.join.0 < cursor.counts.blocks }
-    requires sorted { Sorted (row script.now scratch.old c0.aside (cursor.aside - c0.aside)) }
-    ensures { FinishesElse limits script.now program.old scratch.old c0 cursor q b y program.new scratch.new result }
+fn finish_else(p: &mut Parser, q: Branch, b: BlockId, y: Opnd) -> Result<Opnd, Refusal>
+    requires reading { Reading p.old }
+    requires within { Within (cursor_of p.old) q.before }
+    requires join_lt_blocks { q.join.0 < p.old.program.counts.blocks }
+    requires sorted { Sorted (row p.old.script.now p.old.scratch.now q.before.aside (p.old.aside - q.before.aside)) }
+    ensures kept { ParserKept p.old p.new }
+    ensures finishes { (c₀ : Cursor) → q.before ≡ before_of c₀ → StatementInside c₀ (cursor_of p.old)
+        → ParserFinishesElse c₀ q b y p.old p.new result }
 {
-    let left = q.first;
-    let join = q.join;
-    match join_vars(
-        script,
-        program,
-        scratch,
-        c0,
-        cursor,
-        limits,
-        Blocks {
-            at: join,
-            left,
-            right: b,
-        },
-    ) {
-        Moved::On(c1) => {
-            let last = q.last;
-            let x = q.value;
-            let right = cursor.block;
-            join_value(script, program, scratch, c1, limits, last, x, right, y)
-        }
-        Moved::Refused(e) => Parsed::Refused(e),
-    }
+    let right = p.block;
+    let arms = Blocks {
+        at: q.join,
+        left: q.first,
+        right: b,
+    };
+    join_vars(p, q.before, arms)?;
+    join_value(p, q.last, q.value, right, y)
 }
 
 // ---- the cycle
 
-// Whether the next word ends an arm, or a function's statements.
-fn at_end(script: &[u8], cursor: Cursor, arm: bool) -> Stops
-    ensures { Halts script.now arm cursor result }
+// The next word, unless it ends an arm, or a function's statements.
+fn word_ahead(p: &Parser, arm: bool) -> Result<Option<Word>, Refusal>
+    ensures { Halts p.now.script.now arm (cursor_of p.now) (stops_in result) }
 {
-    match cursor::peek(script, cursor) {
-        Lexed::Found(x) => {
-            if x.kind == lexer::END {
-                return Stops::Here;
-            }
-            if arm {
-                if x.kind == lexer::ELSE {
-                    return Stops::Here;
-                }
-                return Stops::Not(x);
-            }
-            Stops::Not(x)
-        }
-        Lexed::Refused(e) => Stops::Refused(e),
+    let x = p.peek()?;
+    if x.token == Token::End {
+        return Ok(None);
     }
+    if arm && x.token == Token::Else {
+        return Ok(None);
+    }
+    Ok(Some(x))
 }
 
 // The value is that of the last statement, nil if there is none.
 #[cycle(statement)]
-pub fn parse_statements(
-    script: &[u8],
-    program: &mut [usize],
-    scratch: &mut [usize],
-    cursor: Cursor,
-    limits: Limits,
-    arm: bool,
-    depth: usize,
-) -> Parsed
-    requires fact { In script.now program.old scratch.old cursor }
-    requires small { Small limits }
-    ensures { CursorDid
-        (parse_statements (limits_of limits) script.now (stops_at arm) (parse_statement (limits_of limits) script.now depth)) 0
-        script.now program.old scratch.old cursor program.new scratch.new (parsed_of result) }
+pub fn parse_statements(p: &mut Parser, arm: bool, depth: usize) -> Result<Opnd, Refusal>
+    requires { Reading p.old }
+    ensures { ParserDid (λ L s. parse_statements L s (stops_at arm) (parse_statement L s depth)) 0 p.old p.new (operand p.new result) }
 {
-    let mut cur = cursor;
     let mut v = Opnd::Const(Kind::Nil);
-    loop {
-        match at_end(script, cur, arm) {
-            Stops::Refused(e) => {
-                return Parsed::Refused(e);
-            }
-            Stops::Here => {
-                return Parsed::Done(cur, v);
-            }
-            Stops::Not(x) => match parse_statement(
-                script, program, scratch, cur, limits, x, depth,
-            ) {
-                Parsed::Refused(e) => {
-                    return Parsed::Refused(e);
-                }
-                Parsed::Done(c1, v1) => {
-                    cur = c1;
-                    v = v1;
-                }
-            },
-        }
+    while let Some(x) = word_ahead(p, arm)? {
+        v = parse_statement(p, x, depth)?;
     }
+    Ok(v)
 }
 
 // An arm, whose first block takes instructions; its last jumps to the join, unless it has a terminator.
 #[cycle(statement)]
-fn parse_block(
-    script: &[u8],
-    program: &mut [usize],
-    scratch: &mut [usize],
-    cursor: Cursor,
-    limits: Limits,
-    join: BlockId,
-    depth: usize,
-) -> Parsed
-    requires fact { In script.now program.old scratch.old cursor }
-    requires small { Small limits }
-    ensures { CursorDid
-        (parse_arm (limits_of limits) script.now (parse_statement (limits_of limits) script.now depth) join.0) 0
-        script.now program.old scratch.old cursor program.new scratch.new (parsed_of result) }
+fn parse_block(p: &mut Parser, join: BlockId, depth: usize) -> Result<Opnd, Refusal>
+    requires { Reading p.old }
+    ensures { ParserDid (λ L s. parse_arm L s (parse_statement L s depth) join.0) 0 p.old p.new (operand p.new result) }
 {
-    match parse_statements(script, program, scratch, cursor, limits, true, depth) {
-        Parsed::Refused(e) => Parsed::Refused(e),
-        Parsed::Done(c1, v) => match end_block(program, c1, limits, Op::Jump(join), Given::Zero) {
-            Moved::Refused(e) => Parsed::Refused(e),
-            Moved::On(c2) => Parsed::Done(c2, v),
-        },
-    }
+    let v = parse_statements(p, true, depth)?;
+    end_block(p, Op::Jump(join), Given::Zero)?;
+    Ok(v)
 }
 
 // Behind the then arm.
 #[cycle(statement)]
-fn parse_else(
-    script: &[u8],
-    program: &mut [usize],
-    scratch: &mut [usize],
-    c0: Cursor,
-    cursor: Cursor,
-    limits: Limits,
-    q: Branch,
-    depth: usize,
-) -> Parsed
-    requires fact { In script.now program.old scratch.old cursor }
-    requires small { Small limits }
-    requires arm { Arm c0 cursor q }
-    ensures { DidFrom
-        (parse_else (limits_of limits) script.now (parse_statement (limits_of limits) script.now depth) c0.block.0
-        (vars script.now scratch.old c0.vars) (opnd_of q.cond) q.first.0 q.join.0 q.last.0 (opnd_of q.value))
-        1
-        script.now program.old scratch.old c0 cursor program.new scratch.new (parsed_of result) }
+fn parse_else(p: &mut Parser, q: Branch, depth: usize) -> Result<Opnd, Refusal>
+    requires reading { Reading p.old }
+    requires arm { InArm (cursor_of p.old) q }
+    ensures kept { ParserKept p.old p.new }
+    ensures did { (c₀ : Cursor) → Arm c₀ (cursor_of p.old) q → ParserDidFrom
+        (λ L s. parse_else L s (parse_statement L s depth) c₀.block.0
+        (vars s p.old.scratch.now c₀.vars) (opnd_of q.cond) q.first.0 q.join.0 q.last.0 (opnd_of q.value))
+        1 c₀ p.old p.new (operand p.new result) }
 {
-    match cursor::match_token(script, cursor, lexer::ELSE) {
-        Matched::Refused(e) => Parsed::Refused(e),
-        Matched::Not => finish_if(script, program, scratch, c0, cursor, limits, q),
-        Matched::Yes(c1) => match open_else(script, program, scratch, c0, c1, limits, q) {
-            Opened::Refused(e) => Parsed::Refused(e),
-            Opened::On(c2, b) => {
-                let join = q.join;
-                match parse_block(script, program, scratch, c2, limits, join, depth) {
-                    Parsed::Refused(e) => Parsed::Refused(e),
-                    Parsed::Done(c3, y) => finish_else(
-                        script, program, scratch, c0, c3, limits, q, b, y,
-                    ),
-                }
-            }
-        },
+    if p.match_token(Token::Else)? {
+        let b = open_else(p, q)?;
+        let y = parse_block(p, q.join, depth)?;
+        return finish_else(p, q, b, y);
     }
+    finish_if(p, q)
 }
 
 // Behind `if`. The blocks are numbered then, join, else.
 #[cycle(statement)]
-fn parse_if(
-    script: &[u8],
-    program: &mut [usize],
-    scratch: &mut [usize],
-    cursor: Cursor,
-    limits: Limits,
-    depth: usize,
-) -> Parsed
-    requires fact { In script.now program.old scratch.old cursor }
-    requires small { Small limits }
-    ensures { CursorDid
-        (parse_if (limits_of limits) script.now (parse_expr (limits_of limits) script.now depth)
-        (parse_statement (limits_of limits) script.now depth))
-        1
-        script.now program.old scratch.old cursor program.new scratch.new (parsed_of result) }
+fn parse_if(p: &mut Parser, depth: usize) -> Result<Opnd, Refusal>
+    requires { Reading p.old }
+    ensures { ParserDid (λ L s. parse_if L s (parse_expr L s depth) (parse_statement L s depth)) 1 p.old p.new (operand p.new result) }
 {
-    match expressions::parse_expr(script, program, scratch, cursor, limits, 0, depth) {
-        Parsed::Refused(e) => Parsed::Refused(e),
-        Parsed::Done(c1, v) => match new_block(program, c1, limits) {
-            Opened::Refused(e) => Parsed::Refused(e),
-            Opened::On(c2, first) => match new_block(program, c2, limits) {
-                Opened::Refused(e) => Parsed::Refused(e),
-                Opened::On(c3, join) => match parse_block(
-                    script,
-                    program,
-                    scratch,
-                    at_block(c3, first),
-                    limits,
-                    join,
-                    depth,
-                ) {
-                    Parsed::Refused(e) => Parsed::Refused(e),
-                    Parsed::Done(c4, x) => {
-                        let last = c4.block;
-                        parse_else(
-                            script,
-                            program,
-                            scratch,
-                            c1,
-                            c4,
-                            limits,
-                            Branch {
-                                cond: v,
-                                first,
-                                join,
-                                last,
-                                value: x,
-                            },
-                            depth,
-                        )
-                    }
-                },
-            },
-        },
-    }
+    let cond = expressions::parse_expr(p, 0, depth)?;
+    let before = Before {
+        block: p.block,
+        vars: p.vars,
+        aside: p.aside,
+    };
+    let first = new_block(p)?;
+    let join = new_block(p)?;
+    p.block = first;
+    let value = parse_block(p, join, depth)?;
+    let q = Branch {
+        before,
+        cond,
+        first,
+        join,
+        last: p.block,
+        value,
+    };
+    parse_else(p, q, depth)
 }
 
 // From the word x on, which is the next.
 #[cycle(statement)]
-fn parse_statement(
-    script: &[u8],
-    program: &mut [usize],
-    scratch: &mut [usize],
-    cursor: Cursor,
-    limits: Limits,
-    x: Word,
-    depth: usize,
-) -> Parsed
-    requires fact { In script.now program.old scratch.old cursor }
-    requires small { Small limits }
-    requires sees { Sees script.now cursor (Found x) }
-    ensures { CursorDid (parse_statement (limits_of limits) script.now depth) 1 script.now program.old
-        scratch.old cursor program.new scratch.new (parsed_of result) }
+fn parse_statement(p: &mut Parser, x: Word, depth: usize) -> Result<Opnd, Refusal>
+    requires reading { Reading p.old }
+    requires sees { Sees p.old.script.now (cursor_of p.old) (Ok x) }
+    ensures { ParserDid (λ L s. parse_statement L s depth) 1 p.old p.new (operand p.new result) }
 {
-    if x.kind == lexer::RETURN {
-        return parse_return(
-            script,
-            program,
-            scratch,
-            cursor::move_to(cursor, x.next),
-            limits,
-            depth,
-        );
+    if x.token == Token::Return {
+        p.at = x.next;
+        return parse_return(p, depth);
     }
-    if x.kind == lexer::IF {
+    if x.token == Token::If {
         if depth == 0 {
-            return Parsed::Refused(11);
+            return Err(Refusal::OverLimit);
         }
-        return parse_if(
-            script,
-            program,
-            scratch,
-            cursor::move_to(cursor, x.next),
-            limits,
-            depth - 1,
-        );
+        p.at = x.next;
+        return parse_if(p, depth - 1);
     }
-    expressions::parse_from(script, program, scratch, cursor, limits, x, 0, depth)
+    expressions::parse_from(p, x, 0, depth)
 }

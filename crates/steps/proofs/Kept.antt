@@ -2,17 +2,17 @@
 use mathlib.Core.Bool.{Bool as 𝔹, true, false, not, ◌&&◌, true≢false}
 use mathlib.Core.Logic.{◌⊎◌, inl, inr}
 use mathlib.Core.Path.{◌≡◌, refl, sym, ap, ◌∙◌, subst}
-use mathlib.Core.List.{List, [], ◌∷◌, ◌++◌}
+use mathlib.Core.List.{List, [], ◌∷◌}
 use Prim.Native.Nat.{ℕ, ◌+◌, ◌^◌, ◌≤◌, ◌<◌}
 use native.Mathlib.Omega.{arith}
 use borrow.Author.Tests.{eqb-true, ltb-true, ltb-false}
 use lib.Dec.{eqb, ltb}
-use lib.ListN.{length, get_or, set, take, drop}
+use lib.ListN.{length, get_or, set}
 use Rattle.kinds.specs.declared.Kind.{Kind}
 use Rattle.kinds.specs.declared.Kind.TheVariants.{Empty}
 use Rattle.rules.specs.Actions.{answered}
 use Rattle.rules.specs.Program.{Limits, Program}
-use Rattle.rules.specs.Machine.{State, state_of, take_block, take_insn, step, visit, go_live, taken}
+use Rattle.rules.specs.Machine.{State, take_block, take_insn, step, visit, go_live, taken}
 use Rattle.rules.proofs.Exactness.Answers.{answer}
 use Rattle.rules.proofs.Wellformed.Tests.{and-true}
 use Rattle.program.specs.View as P
@@ -24,14 +24,12 @@ use Rattle.records.specs.Records.{record_at, row_of}
 use Rattle.records.specs.declared.Record.{Record}
 use Rattle.state.specs.declared.Sizes.{Sizes}
 use Rattle.state.specs.declared.Regs.{Regs}
-use Rattle.state.specs.declared.Acted.{Acted}
-use Rattle.state.specs.declared.Acted.TheVariants.{On, Refused}
-use Rattle.state.specs.View.{Attrs, kinds_of, blocks_of, state_view, StateHeld, StateReady}
-use Rattle.state.specs.Changes.{went}
+use Rattle.state.specs.Acted.{Acted, On, Refused}
+use Rattle.state.specs.View.{Attrs, kinds_of, blocks_of, state_view, StateReady}
 use Rattle.state.proofs.Pushes.{insns-length}
 use Rattle.machine.specs.opnds.Reads.{kind_in}
 use Rattle.machine.proofs.opnds.Given.{kind_of_lem}
-use Rattle.machine.specs.blocks.Blocks.{blocks_in, ReadyNext, BlockStepped}
+use Rattle.machine.specs.blocks.Blocks.{blocks_in, BlockStepped}
 use Rattle.flows.specs.declared.Words.{Words}
 use Rattle.flows.specs.Flows.{words_of}
 use Rattle.machine.specs.receivers.Receivers.{StateMatches, ClassesBelow}
@@ -47,12 +45,14 @@ use Rattle.settled.proofs.Settling.{none_settled}
 use Rattle.settled.proofs.Stamps.{same_or, put-long, put-tables, put-here, put_other}
 use Rattle.settled.proofs.Sorts.{op_sets, read-op, set-op, range, read-inside, read_below, set-inside, read-passes}
 use Rattle.memory.specs.Layout.{worklist_most}
-use Rattle.state.specs.Layout.{state_length, stamps_at}
-use Rattle.steps.specs.declared.Timed.{Timed}
+use Rattle.state.specs.Layout.{stamps_at}
+use Rattle.std.specs.Prelude.{Result, Ok, Err}
+use Rattle.refusals.specs.declared.Refusal.{Refusal}
+use Rattle.refusals.specs.Refusals.{number_of}
 use Rattle.steps.specs.Steps.{insns_in, block_next, RecordOf, Facing, Front}
-use Rattle.steps.specs.Stamps.{tables_of, stamp_of, Idles, Passes, Dated, DatedIf, Stamped, StampedIf, Visited, Timely}
+use Rattle.steps.specs.Stamps.{tables_of, stamp_of, Idles, Passes, Stamped, Visited, Timely}
 use Rattle.steps.proofs.Stepping.{some_insn, block-step, insn_step}
-use Rattle.steps.proofs.Stamps.{back_tables, back_long, back_stamp, stale, front, record_is, state_of_lem, row_read, began, visited, few, front_of_lem}
+use Rattle.steps.proofs.Stamps.{Back, stale, front, record_is, state_of_lem, row_read, began, visited, few, front_of_lem}
 
 -- ---- the instruction in front, by its record n
 
@@ -76,9 +76,8 @@ module _ {s p : List ℕ} {c : Counts} {x u : List ℕ} {z : Sizes} {m : List �
   its_operands = record { ready = F.analysed.indexed.ready; range = range n visiting fitting; receiver = read-inside n visiting fitting; value = set-inside n visiting fitting }
 
   -- what is asked where the stamp of a read is made
-  pub stamp_asked : n.tag ≡ 13 → {w : List ℕ} → StateHeld z w → (o : Words) → Decides p z m n (words_of o)
-      → StateHeld z w × (StateMatches z p c × ((o.tag ≡ 8 → ClassesBelow z.classes o.bits) × (i < z.insns)))
-  stamp_asked e k o d = (k, (matches visiting, (read_below n visiting fitting e o (d.receiver e), F.front.inside)))
+  pub stamp_asked : n.tag ≡ 13 → (o : Words) → Decides p z m n (words_of o) → StateMatches z p c × (o.tag ≡ 8 → ClassesBelow z.classes o.bits)
+  stamp_asked e o d = (matches visiting, read_below n visiting fitting e o (d.receiver e))
 
 -- ---- a visit that surely does nothing
 
@@ -144,121 +143,102 @@ module _ {s p : List ℕ} {c : Counts} {x u : List ℕ} {z : Sizes} {m : List �
 
 -- ---- all stamps after a visit
 
-module _ {s p : List ℕ} {c : Counts} {x u : List ℕ} {z : Sizes} {m : List ℕ} {q : Regs} {i e : ℕ} {n : Record} {w : List ℕ} {t : Timed}
+module _ {s p : List ℕ} {c : Counts} {x u : List ℕ} {z : Sizes} {m : List ℕ} {q : Regs} {i e : ℕ} {n : Record} {w : List ℕ} {r : Regs} {t : ℕ}
     (F : Facing s p c x u z (tables_of m) q i n) (S : Stamped s p c z m q e)
-    (G : Visited s p c z (λ L P y. take_insn L P (insns_in y) y) m q w t) where
+    (G : Visited s p c z (λ L P y. take_insn L P (insns_in y) y) m q w r (Ok t)) where
   abbrev Comes : List ℕ → Type 0
-  Comes l = Timely s p c z (λ L P y. take_insn L P (insns_in y) y) m q l t
-
-  pub visit-refused : {k : ℕ} → t.went ≡ Refused k → Comes w
-  visit-refused f = record { step = G.step; stamps = subst (StampedIf s p c z w t.epoch) (sym f) tt }
+  Comes l = Timely s p c z (λ L P y. take_insn L P (insns_in y) y) m q l r (Ok t)
 
   -- of another sort than a read
   other_sort : {j : ℕ} → (record_at p j).tag ≡ 13 → ((record_at p i).tag ≡ 13 → ⊥) → j ≡ i → ⊥
   other_sort h k a = k (ap (λ (y : ℕ). (record_at p y).tag) (sym a) ∙ h)
 
-  module _ {r : Regs} (f : t.went ≡ On r) where
-    came : BlockStepped z (MachineFits s p c) (λ L P y. take_insn L P (insns_in y) y) (tables_of m) q (tables_of w) (On r)
-    came = subst (BlockStepped z (MachineFits s p c) (λ L P y. take_insn L P (insns_in y) y) (tables_of m) q (tables_of w)) f G.step
+  -- the stamps of reads are made anew, and all else stays
+  comes : {l : List ℕ} → length l ≡ length w → tables_of l ≡ tables_of w → ((j : ℕ) → (record_at p j).tag < 13 → stamp_of l j ≡ stamp_of w j)
+      → ((j : ℕ) → j < z.insns → (record_at p j).tag ≡ 13 → SettledFor s p c z (tables_of w) (name_of (record_at p j)) j (stamp_of l j)) → Comes l
+  comes {l} long same stamps reads = record {
+    step = subst (λ (y : List ℕ). BlockStepped z (MachineFits s p c) (λ L P y. take_insn L P (insns_in y) y) (tables_of m) q y (On r)) (sym same) G.step;
+    stamps = record {
+      dated = record {
+        long = long ∙ G.dated.long;
+        past = λ j a h. let b = G.dated.past j a h in let k = stamps j h in omega arith;
+        idle = λ j a h k. subst (λ (y : List ℕ). Idles s p c z y j) (sym same) (G.dated.idle j a h (sym (stamps j h) ∙ k));
+        slow = G.dated.slow;
+      };
+      reads = λ j a h. subst (λ (y : List ℕ). SettledFor s p c z y (name_of (record_at p j)) j (stamp_of l j)) (sym same) (reads j a h);
+    };
+  }
 
-    pub held_on : StateHeld z (tables_of w)
-    held_on = let k = came.ok.ready in k.held
+  -- a stamp that was not touched
+  as_before : {j : ℕ} → (record_at p j).tag ≡ 13 → SettledFor s p c z (tables_of w) (name_of (record_at p j)) j (stamp_of m j)
+      → SettledFor s p c z (tables_of w) (name_of (record_at p j)) j (stamp_of w j)
+  as_before {j} h = subst (SettledFor s p c z (tables_of w) (name_of (record_at p j)) j) (sym (G.others j (omega arith)))
 
-    pub ring_on : r.insns.len ≤ worklist_most
-    ring_on = let k = came.ok.ready in k.insn_len
+  other-on : (record_at p i).tag < 13 → Comes w
+  other-on k = comes refl refl (λ j h. refl) (λ j a h. as_before h (other_settled F G.step (other_sort h (λ g. omega arith)) (S.reads j a h) (omega arith)))
 
-    dated : Dated s p c z w r t.epoch
-    dated = subst (DatedIf s p c z w t.epoch) f G.dated
+  pub read-on : n.tag ≡ 13 → {b : ℕ} → SettledFor s p c z (tables_of w) (name_of n) i b → Comes (set w (stamps_at + i) b)
+  read-on k {b} K =
+      let l = G.dated.long in
+      let tag : (record_at p i).tag ≡ 13 = sym (ap (λ (y : Record). y.tag) (its_record F)) ∙ k in
+      comes (put-long w i b l ∙ sym l) (put-tables w i b l) (λ j h. put_other w i b l j (λ a. let y = ap (λ (y : ℕ). (record_at p y).tag) a in omega arith)) (λ j a h. go j a h tag (same_or j i))
+    where
+      own : SettledFor s p c z (tables_of w) (name_of (record_at p i)) i b
+      own = subst (λ (y : Record). SettledFor s p c z (tables_of w) (name_of y) i b) (its_record F) K
 
-    pub long-on : length w ≡ state_length
-    long-on = dated.long
+      go : (j : ℕ) → j < z.insns → (record_at p j).tag ≡ 13 → (record_at p i).tag ≡ 13 → (j ≡ i) ⊎ (j ≡ i → ⊥)
+          → SettledFor s p c z (tables_of w) (name_of (record_at p j)) j (stamp_of (set w (stamps_at + i) b) j)
+      go j a h tag (inl y) =
+          subst (λ (y : ℕ). SettledFor s p c z (tables_of w) (name_of (record_at p y)) y (stamp_of (set w (stamps_at + i) b) y)) (sym y)
+          (subst (SettledFor s p c z (tables_of w) (name_of (record_at p i)) i) (sym (put-here w i b G.dated.long (few F))) own)
+      go j a h tag (inr y) =
+          subst (SettledFor s p c z (tables_of w) (name_of (record_at p j)) j) (sym (put_other w i b G.dated.long j y)) (as_before h (other_settled F G.step y (S.reads j a h) (omega arith)))
 
-    -- the stamps of reads are made anew, and all else stays
-    comes : {l : List ℕ} → length l ≡ length w → tables_of l ≡ tables_of w → ((j : ℕ) → (record_at p j).tag < 13 → stamp_of l j ≡ stamp_of w j)
-        → ((j : ℕ) → j < z.insns → (record_at p j).tag ≡ 13 → SettledFor s p c z (tables_of w) (name_of (record_at p j)) j (stamp_of l j)) → Comes l
-    comes {l} long same stamps reads = record {
-      step = subst (λ (y : List ℕ). BlockStepped z (MachineFits s p c) (λ L P y. take_insn L P (insns_in y) y) (tables_of m) q y t.went) (sym same) G.step;
-      stamps = subst (StampedIf s p c z l t.epoch) (sym f) (record {
-        dated = record {
-          long = long ∙ dated.long;
-          past = λ j a h. let b = dated.past j a h in let k = stamps j h in omega arith;
-          idle = λ j a h k. subst (λ (y : List ℕ). Idles s p c z y j) (sym same) (dated.idle j a h (sym (stamps j h) ∙ k));
-          slow = dated.slow;
-        };
-        reads = λ j a h. subst (λ (y : List ℕ). SettledFor s p c z y (name_of (record_at p j)) j (stamp_of l j)) (sym same) (reads j a h);
-      });
-    }
+  module _ (k : 13 < n.tag) where
+    tag : 13 < (record_at p i).tag
+    tag = subst (λ (y : Record). 13 < y.tag) (its_record F) k
 
-    -- a stamp that was not touched
-    as_before : {j : ℕ} → (record_at p j).tag ≡ 13 → SettledFor s p c z (tables_of w) (name_of (record_at p j)) j (stamp_of m j)
-        → SettledFor s p c z (tables_of w) (name_of (record_at p j)) j (stamp_of w j)
-    as_before {j} h = subst (SettledFor s p c z (tables_of w) (name_of (record_at p j)) j) (sym (G.others j (omega arith)))
+    -- a setting that woke no read
+    quiet_on : r.insns.len + 1 ≡ q.insns.len → Comes w
+    quiet_on h = comes refl refl (λ j h. refl) (λ j a y. as_before y (quiet_settled F G.step (other_sort y (λ o. let b = tag in omega arith)) a y h (S.reads j a y)))
 
-    other-on : (record_at p i).tag < 13 → Comes w
-    other-on k = comes refl refl (λ j h. refl) (λ j a h. as_before h (other_settled F came (other_sort h (λ g. omega arith)) (S.reads j a h) (omega arith)))
-
-    pub read-on : n.tag ≡ 13 → {b : ℕ} → SettledFor s p c z (tables_of w) (name_of n) i b → Comes (set w (stamps_at + i) b)
-    read-on k {b} K =
-        let l = dated.long in
-        let tag : (record_at p i).tag ≡ 13 = sym (ap (λ (y : Record). y.tag) (its_record F)) ∙ k in
-        comes (put-long w i b l ∙ sym l) (put-tables w i b l) (λ j h. put_other w i b l j (λ a. let y = ap (λ (y : ℕ). (record_at p y).tag) a in omega arith)) (λ j a h. go j a h tag (same_or j i))
+    -- one after which only the reads kept their stamps whose kinds cover the kind that was set
+    unsettled_on : {v : Kind} {l : List ℕ} → v ≡ kind_in (kinds_of z (tables_of m)) (nth (operands_of p (row_of n)) 1) → Unsettled p z v z.insns w l → Comes l
+    unsettled_on {v} {l} e U = comes U.long U.tables kept (λ j a h. go j a h (U.stamps j) (U.reads j a h))
       where
-        own : SettledFor s p c z (tables_of w) (name_of (record_at p i)) i b
-        own = subst (λ (y : Record). SettledFor s p c z (tables_of w) (name_of y) i b) (its_record F) K
+        kept : (j : ℕ) → (record_at p j).tag < 13 → stamp_of l j ≡ stamp_of w j
+        kept j h = same (U.stamps j)
+          where
+            same : (stamp_of l j ≡ stamp_of w j) ⊎ ((stamp_of l j ≡ 0) × ((record_at p j).tag ≡ 13)) → stamp_of l j ≡ stamp_of w j
+            same (inl y) = y
+            same (inr y) = absurd (let o = y.1 in omega arith)
 
-        go : (j : ℕ) → j < z.insns → (record_at p j).tag ≡ 13 → (record_at p i).tag ≡ 13 → (j ≡ i) ⊎ (j ≡ i → ⊥)
-            → SettledFor s p c z (tables_of w) (name_of (record_at p j)) j (stamp_of (set w (stamps_at + i) b) j)
-        go j a h tag (inl y) =
-            subst (λ (y : ℕ). SettledFor s p c z (tables_of w) (name_of (record_at p y)) y (stamp_of (set w (stamps_at + i) b) y)) (sym y)
-            (subst (SettledFor s p c z (tables_of w) (name_of (record_at p i)) i) (sym (put-here w i b dated.long (few F))) own)
-        go j a h tag (inr y) =
-            subst (SettledFor s p c z (tables_of w) (name_of (record_at p j)) j) (sym (put_other w i b dated.long j y)) (as_before h (other_settled F came y (S.reads j a h) (omega arith)))
+        value : v ≡ kind_in (kinds_of z (tables_of m)) (nth (operands_of p (row_of (record_at p i))) 1)
+        value = e ∙ ap (λ (y : Record). kind_in (kinds_of z (tables_of m)) (nth (operands_of p (row_of y)) 1)) (its_record F)
 
-    module _ (k : 13 < n.tag) where
-      tag : 13 < (record_at p i).tag
-      tag = subst (λ (y : Record). 13 < y.tag) (its_record F) k
+        none : (j : ℕ) → stamp_of l j ≡ 0 → SettledFor s p c z (tables_of w) (name_of (record_at p j)) j (stamp_of l j)
+        none j y = subst (SettledFor s p c z (tables_of w) (name_of (record_at p j)) j) (sym y) none_settled
 
-      -- a setting that woke no read
-      quiet_on : r.insns.len + 1 ≡ q.insns.len → Comes w
-      quiet_on h = comes refl refl (λ j h. refl) (λ j a y. as_before y (quiet_settled F came (other_sort y (λ o. let b = tag in omega arith)) a y h (S.reads j a y)))
+        go : (j : ℕ) → j < z.insns → (record_at p j).tag ≡ 13 → (stamp_of l j ≡ stamp_of w j) ⊎ ((stamp_of l j ≡ 0) × ((record_at p j).tag ≡ 13))
+            → (stamp_of l j ≡ 0) ⊎ Covered (get_or (kinds_of z (tables_of w)) j Empty) v
+            → SettledFor s p c z (tables_of w) (name_of (record_at p j)) j (stamp_of l j)
+        go j a h (inr y) o = none j y.0
+        go j a h (inl y) (inl o) = none j o
+        go j a h (inl y) (inr o) =
+            subst (SettledFor s p c z (tables_of w) (name_of (record_at p j)) j) (sym y)
+            (as_before h (covered_settled F G.step (other_sort h (λ o. let b = tag in omega arith)) (S.reads j a h) tag value o))
 
-      -- one after which only the reads kept their stamps whose kinds cover the kind that was set
-      unsettled_on : {v : Kind} {l : List ℕ} → v ≡ kind_in (kinds_of z (tables_of m)) (nth (operands_of p (row_of n)) 1) → Unsettled p z v z.insns w l → Comes l
-      unsettled_on {v} {l} e U = comes U.long U.tables kept (λ j a h. go j a h (U.stamps j) (U.reads j a h))
-        where
-          kept : (j : ℕ) → (record_at p j).tag < 13 → stamp_of l j ≡ stamp_of w j
-          kept j h = same (U.stamps j)
-            where
-              same : (stamp_of l j ≡ stamp_of w j) ⊎ ((stamp_of l j ≡ 0) × ((record_at p j).tag ≡ 13)) → stamp_of l j ≡ stamp_of w j
-              same (inl y) = y
-              same (inr y) = absurd (let o = y.1 in omega arith)
+  -- a setting that woke reads, and all else
+  pub set_on_lem : {v : Kind} {l : List ℕ} → (ltb 13 n.tag && not (eqb (r.insns.len + 1) q.insns.len)) ≡ true → Decides p z (tables_of m) n v → Unsettled p z v z.insns w l → Comes l
+  set_on_lem h D U = let k = ltb-true 13 n.tag (and-true (ltb 13 n.tag) (not (eqb (r.insns.len + 1) q.insns.len)) h).0 in unsettled_on k (D.value k) U
 
-          value : v ≡ kind_in (kinds_of z (tables_of m)) (nth (operands_of p (row_of (record_at p i))) 1)
-          value = e ∙ ap (λ (y : Record). kind_in (kinds_of z (tables_of m)) (nth (operands_of p (row_of y)) 1)) (its_record F)
-
-          none : (j : ℕ) → stamp_of l j ≡ 0 → SettledFor s p c z (tables_of w) (name_of (record_at p j)) j (stamp_of l j)
-          none j y = subst (SettledFor s p c z (tables_of w) (name_of (record_at p j)) j) (sym y) none_settled
-
-          go : (j : ℕ) → j < z.insns → (record_at p j).tag ≡ 13 → (stamp_of l j ≡ stamp_of w j) ⊎ ((stamp_of l j ≡ 0) × ((record_at p j).tag ≡ 13))
-              → (stamp_of l j ≡ 0) ⊎ Covered (get_or (kinds_of z (tables_of w)) j Empty) v
-              → SettledFor s p c z (tables_of w) (name_of (record_at p j)) j (stamp_of l j)
-          go j a h (inr y) o = none j y.0
-          go j a h (inl y) (inl o) = none j o
-          go j a h (inl y) (inr o) =
-              subst (SettledFor s p c z (tables_of w) (name_of (record_at p j)) j) (sym y)
-              (as_before h (covered_settled F came (other_sort h (λ o. let b = tag in omega arith)) (S.reads j a h) tag value o))
-
-    -- a setting that woke reads, and all else
-    pub set_on_lem : {v : Kind} {l : List ℕ} → (ltb 13 n.tag && not (eqb (r.insns.len + 1) q.insns.len)) ≡ true → Decides p z (tables_of m) n v → Unsettled p z v z.insns w l → Comes l
-    set_on_lem h D U = let k = ltb-true 13 n.tag (and-true (ltb 13 n.tag) (not (eqb (r.insns.len + 1) q.insns.len)) h).0 in unsettled_on k (D.value k) U
-
-    pub rest-on : (n.tag ≡ 13 → ⊥) → (ltb 13 n.tag && not (eqb (r.insns.len + 1) q.insns.len)) ≡ false → Comes w
-    rest-on o h = go (ltb 13 n.tag) refl (eqb (r.insns.len + 1) q.insns.len) refl h
-      where
-        go : (a : 𝔹) → ltb 13 n.tag ≡ a → (b : 𝔹) → eqb (r.insns.len + 1) q.insns.len ≡ b → (a && not b) ≡ false → Comes w
-        go true a true b y = quiet_on (ltb-true 13 n.tag a) (eqb-true (r.insns.len + 1) q.insns.len b)
-        go true a false b y = absurd (true≢false y)
-        go false a b e y = other-on (subst (λ (y : Record). y.tag < 13) (its_record F) (let l = ltb-false 13 n.tag a in omega arith))
+  pub rest-on : (n.tag ≡ 13 → ⊥) → (ltb 13 n.tag && not (eqb (r.insns.len + 1) q.insns.len)) ≡ false → Comes w
+  rest-on o h = go (ltb 13 n.tag) refl (eqb (r.insns.len + 1) q.insns.len) refl h
+    where
+      go : (a : 𝔹) → ltb 13 n.tag ≡ a → (b : 𝔹) → eqb (r.insns.len + 1) q.insns.len ≡ b → (a && not b) ≡ false → Comes w
+      go true a true b y = quiet_on (ltb-true 13 n.tag a) (eqb-true (r.insns.len + 1) q.insns.len b)
+      go true a false b y = absurd (true≢false y)
+      go false a b e y = other-on (subst (λ (y : Record). y.tag < 13) (its_record F) (let l = ltb-false 13 n.tag a in omega arith))
 
 -- ---- the step, by what it takes
 
@@ -274,33 +254,32 @@ live-kept L P n j b [] t e q h = subst (λ (y : State). Settled P n j b y.kinds 
 live-kept L P n j b (x ∷ l) t e q h = live_settled L P n j b x (taken true t.insn_worklist l t) e (state_of_lem L P (go_live L P x (taken true t.insn_worklist l t)) e q) h
 
 module _ {s p : List ℕ} {c : Counts} {z : Sizes} {m : List ℕ} {q : Regs} {t : 𝔹} (b : t ≡ block_next q) where
-  pub timely_insn : {w : List ℕ} {r : Timed} → t ≡ false → Timely s p c z (λ L P y. take_insn L P (insns_in y) y) m q w r → Timely s p c z step m q w r
+  pub timely_insn : {w : List ℕ} {r : Regs} {a : Result ℕ Refusal} → t ≡ false → Timely s p c z (λ L P y. take_insn L P (insns_in y) y) m q w r a → Timely s p c z step m q w r a
   timely_insn h d = record { step = insn_step z (tables_of m) q b h d.step; stamps = d.stamps }
 
-  pub timely_block : {x u : List ℕ} {fits : Program → Attrs → Type 0} {w : List ℕ} {o : Acted} {e : ℕ} → t ≡ true → Analysed s p c x u z
-      → ((P : Program) (v : Attrs) → MachineFits s p c P v → fits P v) → Stamped s p c z m q e → length w ≡ length (take stamps_at m)
-      → BlockStepped z fits (λ L P y. take_block L P (blocks_in y) y) (tables_of m) q w o → Timely s p c z step m q (w ++ drop stamps_at m) (record { went = o; epoch = e + 1 })
-  timely_block {x} {u} {fits} {w} {o} {e} h A f S same d = record {
-    step = subst (λ (l : List ℕ). BlockStepped z (MachineFits s p c) step (tables_of m) q l o) (sym tables) (block-step z (tables_of m) q b h f d);
-    stamps = go o refl d.ok;
-  }
-    where
-      tables : tables_of (w ++ drop stamps_at m) ≡ w
-      tables = back_tables m w S.dated.long same
+  module _ {fits : Program → Attrs → Type 0} {w o : List ℕ} (h : t ≡ true) (f : (P : Program) (v : Attrs) → MachineFits s p c P v → fits P v) (B : Back m w o) where
+    block_came : {a : Acted} → BlockStepped z fits (λ L P y. take_block L P (blocks_in y) y) (tables_of m) q w a → BlockStepped z (MachineFits s p c) step (tables_of m) q (tables_of o) a
+    block_came {a} d = subst (λ (l : List ℕ). BlockStepped z (MachineFits s p c) step (tables_of m) q l a) (sym B.tables) (block-step z (tables_of m) q b h f d)
 
-      kept : {r : Regs} → o ≡ On r → {n : Name} {j y : ℕ} → SettledFor s p c z (tables_of m) n j y → SettledFor s p c z w n j y
-      kept {r} g {n} {j} {y} K = record {
-        is = λ P v a.
-            let L = A.indexed.limits in
-            live-kept L P (name_in s n) j y (blocks_of (tables_of m) q) (state_view z v (tables_of m) q) (state_view z v w r)
-            (sym (d.is L A.indexed.suited.room.worklist P v (f P v a)) ∙ ap (λ (x : Acted). state_of L P (went z v w x)) g) (K.is P v a);
-      }
+    pub block_no : {r : Regs} {a : Refusal} → BlockStepped z fits (λ L P y. take_block L P (blocks_in y) y) (tables_of m) q w (Refused (number_of a)) → Timely s p c z step m q o r (Err a)
+    block_no d = record { step = block_came d; stamps = tt }
 
-      go : (y : Acted) → o ≡ y → ReadyNext z q w y → StampedIf s p c z (w ++ drop stamps_at m) (e + 1) y
-      go (On r) g k = record {
-        dated = stale S.dated (back_long m w S.dated.long same) (back_stamp m w S.dated.long same) k.count;
+    pub timely_block : {x u : List ℕ} {e : ℕ} {r : Regs} → Analysed s p c x u z → Stamped s p c z m q e → BlockStepped z fits (λ L P y. take_block L P (blocks_in y) y) (tables_of m) q w (On r)
+        → Timely s p c z step m q o r (Ok (e + 1))
+    timely_block {x} {u} {e} {r} A S d = record {
+      step = block_came d;
+      stamps = record {
+        dated = stale S.dated B.long B.stamps d.ok.count;
         reads = λ j a i.
-            subst (SettledFor s p c z (tables_of (w ++ drop stamps_at m)) (name_of (record_at p j)) j) (sym (back_stamp m w S.dated.long same j))
-            (subst (λ (l : List ℕ). SettledFor s p c z l (name_of (record_at p j)) j (stamp_of m j)) (sym tables) (kept g (S.reads j a i)));
-      }
-      go (Refused n) g k = tt
+            subst (SettledFor s p c z (tables_of o) (name_of (record_at p j)) j) (sym (B.stamps j))
+            (subst (λ (l : List ℕ). SettledFor s p c z l (name_of (record_at p j)) j (stamp_of m j)) (sym B.tables) (kept (S.reads j a i)));
+      };
+    }
+      where
+        kept : {n : Name} {j y : ℕ} → SettledFor s p c z (tables_of m) n j y → SettledFor s p c z w n j y
+        kept {n} {j} {y} K = record {
+          is = λ P v a.
+              let L = A.indexed.limits in
+              live-kept L P (name_in s n) j y (blocks_of (tables_of m) q) (state_view z v (tables_of m) q) (state_view z v w r)
+              (sym (d.is L A.indexed.suited.room.worklist P v (f P v a))) (K.is P v a);
+        }

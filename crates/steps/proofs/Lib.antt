@@ -1,3 +1,4 @@
 pub mod Stepping
 pub mod Stamps
 pub mod Kept
+pub mod Methods

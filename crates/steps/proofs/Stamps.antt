@@ -1,14 +1,14 @@
 -- Stamps: a visit that is left out, and the stamps after one that is not. Assumes nothing.
-use mathlib.Core.Bool.{Bool as 𝔹, true, false, not, ◌&&◌, ◌||◌}
+use mathlib.Core.Bool.{true, false, ◌&&◌}
 use mathlib.Core.Logic.{◌⊎◌, inl, inr}
 use mathlib.Core.Path.{◌≡◌, refl, sym, ap, ◌∙◌, subst}
-use mathlib.Core.List.{List, [], ◌∷◌, ◌++◌}
-use Prim.Native.Nat.{ℕ, ◌+◌, ◌^◌, ◌≤◌, ◌<◌}
+use mathlib.Core.List.{List, [], ◌∷◌}
+use Prim.Native.Nat.{ℕ, ◌+◌, ◌≤◌, ◌<◌}
 use native.Mathlib.Omega.{arith}
 use borrow.Author.Tests.{eqb-true, ltb-true}
 use lib.Dec.{eqb, ltb}
-use lib.ListN.{length, get_or, set, take, drop, length-append, length-drop, get_or-append}
-use lib.Seq.{get_or-append-add, get_or-take, get_or-drop, take_at}
+use lib.ListN.{length, get_or, set, length-append}
+use lib.Seq.{get_or-append-add}
 use Rattle.kinds.specs.declared.Kind.TheVariants.{Empty}
 use Rattle.kinds.specs.Kinds.{kind_from}
 use Rattle.rules.specs.Actions.{Answer, answered, refused}
@@ -25,42 +25,45 @@ use Rattle.records.specs.declared.Record.{Record}
 use Rattle.records.proofs.Rows.{record_row}
 use Rattle.state.specs.declared.Sizes.{Sizes}
 use Rattle.state.specs.declared.Regs.{Regs}
-use Rattle.state.specs.declared.Acted.{Acted}
-use Rattle.state.specs.declared.Acted.TheVariants.{On, Refused}
-use Rattle.state.specs.View.{Attrs, kinds_of, insns_of, blocks_of, state_view, StateReady}
+use Rattle.state.specs.declared.State as S
+use Rattle.state.specs.Acted.{Acted, On, Refused}
+use Rattle.state.specs.View.{Attrs, kinds_of, insns_of, blocks_of, state_view}
 use Rattle.state.specs.Changes.{TookInsn}
-use Rattle.state.proofs.Tables.{kind_at}
 use Rattle.state.proofs.Pushes.{insns-length, blocks-length}
-use Rattle.machine.specs.blocks.Blocks.{ReadyNext, BlockStepped}
-use Rattle.machine.specs.Analysed.{Analysed, MachineFits, Steady}
+use Rattle.machine.specs.blocks.Blocks.{BlockStepped}
+use Rattle.machine.specs.Analysed.{Analysed, MachineFits}
 use Rattle.machine.proofs.States.{attrs, attrs-fit}
 use Rattle.idle.proofs.Idle.{Alike, visit-idle, visit_still}
-use Rattle.settled.specs.Reads.{name_of, SettledFor}
+use Rattle.settled.specs.Reads.{name_of, SettledFor, whole}
 use Rattle.settled.proofs.Settling.{none_settled}
-use Rattle.settled.proofs.Stamps.{tables-long, same_or, put-long, put-tables, put-here, put_other}
+use Rattle.settled.proofs.Stamps.{whole_tables, same_or, put-long, put-tables, put-here, put_other}
 use Rattle.settled.proofs.Sorts.{op-aside}
 use Rattle.memory.specs.Layout.{instructions_most, worklist_most}
 use Rattle.state.specs.Layout.{kind_bits_at, state_length, stamps_at}
-use Rattle.steps.specs.declared.Timed.{Timed}
+use Rattle.std.specs.Prelude.{Result, Ok, Err}
+use Rattle.refusals.specs.declared.Refusal.{Refusal}
+use Rattle.refusals.specs.Refusals.{number_of}
 use Rattle.steps.specs.Steps.{insns_in, block_next, RecordOf, Facing, Front}
 use Rattle.steps.specs.Stamps.{tables_of, stamp_of, Idles, Passes, StampsFresh, Fronts, Dated, Stamped, Visited, Timely}
 use Rattle.steps.proofs.Stepping.{take-front}
 
 -- ---- the tables, with the stamps behind them
 
--- the tables were lent, and came back as w
-module _ (m w : List ℕ) (long : length m ≡ state_length) (same : length w ≡ length (take stamps_at m)) where
-  back_length : length w ≡ stamps_at
-  back_length = same ∙ tables-long m long
+-- of a memory m the tables were lent, and came back as w; o is the memory after it
+pub record Back (m w o : List ℕ) : Type 0 where
+  pub tables : tables_of o ≡ w
+  pub long : length o ≡ state_length
+  pub stamps : (i : ℕ) → stamp_of o i ≡ stamp_of m i
 
-  pub back_tables : tables_of (w ++ drop stamps_at m) ≡ w
-  back_tables = take_at w (drop stamps_at m) stamps_at back_length
+pub whole_stamp : (s : S.State) (a : List ℕ) (i : ℕ) → stamp_of (whole s a) i ≡ get_or a i 0
+whole_stamp s a i = ap (λ (k : ℕ). get_or (whole s a) (k + i) 0) (sym s.ready.held.len) ∙ get_or-append-add s.words.now a i 0
 
-  pub back_long : length (w ++ drop stamps_at m) ≡ state_length
-  back_long = let a = length-append w (drop stamps_at m) in let d = length-drop stamps_at m in let b = back_length in omega arith
-
-  pub back_stamp : (i : ℕ) → stamp_of (w ++ drop stamps_at m) i ≡ stamp_of m i
-  back_stamp i = ap (λ (k : ℕ). get_or (w ++ drop stamps_at m) (k + i) 0) (sym back_length) ∙ get_or-append-add w (drop stamps_at m) i 0 ∙ get_or-drop stamps_at m i 0
+pub whole_back : (s t : S.State) (a : List ℕ) → length (whole s a) ≡ state_length → Back (whole s a) t.words.now (whole t a)
+whole_back s t a long = record {
+  tables = whole_tables t a;
+  long = let l = length-append s.words.now a in let n = length-append t.words.now a in let h = s.ready.held.len in let k = t.ready.held.len in omega arith;
+  stamps = λ i. whole_stamp t a i ∙ sym (whole_stamp s a i);
+}
 
 -- ---- a later epoch
 
@@ -91,7 +94,7 @@ fresh_stamped {s} {p} {c} {z} {m} F = record {
 
 pub skipped : {s p : List ℕ} {c : Counts} {z : Sizes} {m : List ℕ} {q a : Regs} {e i j : ℕ} → Stamped s p c z m q e → Passes s p c z (tables_of m) i → Fronts z (tables_of m) q i
     → TookInsn z (tables_of m) q j a
-    → Timely s p c z (λ L P t. take_insn L P (insns_in t) t) m q m (record { went = On a; epoch = e })
+    → Timely s p c z (λ L P t. take_insn L P (insns_in t) t) m q m a (Ok e)
 skipped {s} {p} {c} {z} {m} {q} {a} {e} {i} {j} S h F t =
     let D = S.dated in
     let passes : Passes s p c z (tables_of m) j = subst (Passes s p c z (tables_of m)) (sym (F.is j (insns_of (tables_of m) a) t.is)) h in
@@ -144,10 +147,7 @@ module _ {s p : List ℕ} {c : Counts} {x u : List ℕ} {z : Sizes} {m : List �
   unfolding kinds_of
   inside = let n = listed-length z.insns (λ (k : ℕ). kind_from (get_or m k 0) (get_or m (kind_bits_at + k) 0)) in let h = F.inside in omega arith
 
-  module _ (tag : get_or w i 0 ≡ get_or m i 0) (bits : get_or w (kind_bits_at + i) 0 ≡ get_or m (kind_bits_at + i) 0) (blocks : r.blocks.len ≡ q.blocks.len) where
-    same_kind : get_or (kinds_of z w) i Empty ≡ get_or (kinds_of z m) i Empty
-    same_kind = kind_at z w i F.inside ∙ ap (λ (k : ℕ). kind_from k (get_or w (kind_bits_at + i) 0)) tag ∙ ap (kind_from (get_or m i 0)) bits ∙ sym (kind_at z m i F.inside)
-
+  module _ (same_kind : get_or (kinds_of z w) i Empty ≡ get_or (kinds_of z m) i Empty) (blocks : r.blocks.len ≡ q.blocks.len) where
     same_blocks : length (blocks_of w r) ≡ length (blocks_of m q)
     same_blocks = blocks-length w r ∙ blocks ∙ sym (blocks-length m q)
 
@@ -168,124 +168,71 @@ module _ {s p : List ℕ} {c : Counts} {x u : List ℕ} {z : Sizes} {m : List �
 
 -- ---- the stamps after a visit: m before it, and w what came back of the tables
 
-all_same : (a b c : 𝔹) → ((not a || not b) || not c) ≡ false → (a ≡ true) × (b ≡ true) × (c ≡ true)
-all_same true true true h = (refl, refl, refl)
-all_same true true false h = (cc, cc, cc)
-all_same true false c h = (cc, cc, cc)
-all_same false b c h = (cc, cc, cc)
-
 pub few : {s p : List ℕ} {c : Counts} {x u : List ℕ} {z : Sizes} {m : List ℕ} {q : Regs} {i : ℕ} {n : Record} → Facing s p c x u z m q i n → i < instructions_most
 few F = let h = F.ready.held in let a = h.insns in let b = F.front.inside in omega arith
 
 pub front_of_lem : {z : Sizes} {m : List ℕ} {q : Regs} {i : ℕ} → Front z m q i → block_next q ≡ false → Fronts z m q i
 front_of_lem F b = record { inside = F.inside b; is = F.is b }
 
--- what a visit without a stamp asks
-pub asked : {s p : List ℕ} {c : Counts} {x u : List ℕ} {z : Sizes} {m : List ℕ} {q : Regs} {i : ℕ} {n : Record} → Facing s p c x u z m q i n
-    → Analysed s p c x u z × (Steady s p c z m × (StateReady z m q × (((0 < q.insns.len) × (q.count < 2 ^ 63)) × RecordOf p m q n)))
-asked F = (F.analysed, (F.steady, (F.ready, ((F.some, F.small), F.record_of))))
-
-pub ring_fits : {z : Sizes} {fits : Program → Attrs → Type 0} {g : Limits → Program → State → Answer State} {m : List ℕ} {q r : Regs} {w : List ℕ}
-    {o : Acted}
-    → BlockStepped z fits g m q w o → o ≡ On r → r.insns.len ≤ worklist_most
-ring_fits {z} {fits} {g} {m} {q} {r} {w} d f = let k = (subst (ReadyNext z q w) f d.ok).ready in k.insn_len
-
-pub came_long : {s p : List ℕ} {c : Counts} {z : Sizes} {m : List ℕ} {q : Regs} {e : ℕ} → Dated s p c z m q e → (w : List ℕ)
-    → length w ≡ length (take stamps_at m) → length (w ++ drop stamps_at m) ≡ state_length
-came_long {m = m} S w same = back_long m w S.long same
-
-module _ {s p : List ℕ} {c : Counts} {z : Sizes} {m : List ℕ} {q : Regs} {e : ℕ} {w : List ℕ} {o : Acted} (S : Dated s p c z m q e)
-    (same : length w ≡ length (take stamps_at m)) (d : BlockStepped z (MachineFits s p c) (λ L P t. take_insn L P (insns_in t) t) (tables_of m) q w o) where
-  abbrev Visits : List ℕ → Timed → Type 0
-  Visits l t = Visited s p c z (λ L P t. take_insn L P (insns_in t) t) m q l t
+module _ {s p : List ℕ} {c : Counts} {z : Sizes} {m : List ℕ} {q : Regs} {e : ℕ} {w o : List ℕ} (S : Dated s p c z m q e) (B : Back m w o) where
+  abbrev Visits : List ℕ → Regs → Result ℕ Refusal → Type 0
+  Visits l r t = Visited s p c z (λ L P t. take_insn L P (insns_in t) t) m q l r t
 
   abbrev SteppedTo : List ℕ → Acted → Type 0
   SteppedTo l y = BlockStepped z (MachineFits s p c) (λ L P t. take_insn L P (insns_in t) t) (tables_of m) q l y
 
-  came : {y : Acted} → o ≡ y → SteppedTo w y
-  came {y} f = subst (SteppedTo w) f d
+  came_back : {y : Acted} → SteppedTo w y → SteppedTo (tables_of o) y
+  came_back {y} d = subst (λ (l : List ℕ). SteppedTo l y) (sym B.tables) d
 
-  came_back : {y : Acted} → o ≡ y → SteppedTo (tables_of (w ++ drop stamps_at m)) y
-  came_back {y} f = subst (λ (l : List ℕ). SteppedTo l y) (sym (back_tables m w S.long same)) (came f)
+  pub visit_no : {r : Regs} {x : Refusal} → SteppedTo w (Refused (number_of x)) → Visits o r (Err x)
+  visit_no d = record { step = came_back d; dated = tt; others = λ k _. B.stamps k }
 
-  pub visit_no : {n : ℕ} → o ≡ Refused n → Visits (w ++ drop stamps_at m) (record { went = Refused n; epoch = e })
-  visit_no f = record { step = came_back f; dated = tt; others = λ k _. back_stamp m w S.long same k }
+  pub visit_changed : {r : Regs} → SteppedTo w (On r) → Visits o r (Ok (e + 1))
+  visit_changed d = record { step = came_back d; dated = stale S B.long B.stamps d.ok.count; others = λ k _. B.stamps k }
 
-  pub visit_changed : {r : Regs} → o ≡ On r → Visits (w ++ drop stamps_at m) (record { went = On r; epoch = e + 1 })
-  visit_changed {r} f = record {
-    step = came_back f;
-    dated = stale S (back_long m w S.long same) (back_stamp m w S.long same) (came f).ok.count;
-    others = λ k _. back_stamp m w S.long same k;
-  }
-
-  low : (k : ℕ) → k < stamps_at → get_or (w ++ drop stamps_at m) k 0 ≡ get_or w k 0
-  low k h = get_or-append w (drop stamps_at m) 0 k (let a = same ∙ tables-long m S.long in omega arith)
-
-  module _ {x u : List ℕ} {i : ℕ} {n : Record} {r : Regs} (F : Facing s p c x u z (tables_of m) q i n) (f : o ≡ On r)
-      (h : ((not (eqb (get_or (w ++ drop stamps_at m) i 0) (get_or m i 0))
-      || not (eqb (get_or (w ++ drop stamps_at m) (kind_bits_at + i) 0) (get_or m (kind_bits_at + i) 0)))
-      || not (eqb r.blocks.len q.blocks.len))
-      ≡ false) where
-    told : (eqb (get_or (w ++ drop stamps_at m) i 0) (get_or m i 0) ≡ true)
-        × (eqb (get_or (w ++ drop stamps_at m) (kind_bits_at + i) 0) (get_or m (kind_bits_at + i) 0) ≡ true) × (eqb r.blocks.len q.blocks.len ≡ true)
-    told = all_same (eqb (get_or (w ++ drop stamps_at m) i 0) (get_or m i 0))
-        (eqb (get_or (w ++ drop stamps_at m) (kind_bits_at + i) 0) (get_or m (kind_bits_at + i) 0)) (eqb r.blocks.len q.blocks.len) h
-
-    word : (k : ℕ) → k < stamps_at → eqb (get_or (w ++ drop stamps_at m) k 0) (get_or m k 0) ≡ true → get_or w k 0 ≡ get_or (tables_of m) k 0
-    word k l t = sym (low k l) ∙ eqb-true (get_or (w ++ drop stamps_at m) k 0) (get_or m k 0) t ∙ sym (get_or-take stamps_at m k 0 l)
-
-    tag_same : get_or w i 0 ≡ get_or (tables_of m) i 0
-    tag_same = word i (let a = few F in omega arith) told.0
-
-    bits-same : get_or w (kind_bits_at + i) 0 ≡ get_or (tables_of m) (kind_bits_at + i) 0
-    bits-same = word (kind_bits_at + i) (let a = few F in omega arith) told.1
-
-    ring_same : r.blocks.len ≡ q.blocks.len
-    ring_same = eqb-true r.blocks.len q.blocks.len told.2
-
+  module _ {x u : List ℕ} {i : ℕ} {n : Record} {r : Regs} (F : Facing s p c x u z (tables_of m) q i n) (d : SteppedTo w (On r))
+      (same_kind : get_or (kinds_of z w) i Empty ≡ get_or (kinds_of z (tables_of m)) i Empty) (ring_same : r.blocks.len ≡ q.blocks.len) where
     kept : (j : ℕ) → Idles s p c z (tables_of m) j → Idles s p c z w j
-    kept = stays F.analysed F.front F.some (came f) tag_same bits-same ring_same
+    kept = stays F.analysed F.front F.some d same_kind ring_same
 
-    dates_kept : Dated s p c z (w ++ drop stamps_at m) r e
+    dates_kept : Dated s p c z o r e
     dates_kept = record {
-      long = back_long m w S.long same;
-      past = λ k l t. let a = S.past k l t in let b = back_stamp m w S.long same k in omega arith;
-      idle = λ k l t g. subst (λ (y : List ℕ). Idles s p c z y k) (sym (back_tables m w S.long same)) (kept k (S.idle k l t (sym (back_stamp m w S.long same k) ∙ g)));
-      slow = let a = S.slow in let b = (came f).ok.count in omega arith;
+      long = B.long;
+      past = λ k l t. let a = S.past k l t in let b = B.stamps k in omega arith;
+      idle = λ k l t g. subst (λ (y : List ℕ). Idles s p c z y k) (sym B.tables) (kept k (S.idle k l t (sym (B.stamps k) ∙ g)));
+      slow = let a = S.slow in let b = d.ok.count in omega arith;
     }
 
-    pub visit-kept : Visits (w ++ drop stamps_at m) (record { went = On r; epoch = e })
-    visit-kept = record { step = came_back f; dated = dates_kept; others = λ k _. back_stamp m w S.long same k }
+    pub visit-kept : Visits o r (Ok e)
+    visit-kept = record { step = came_back d; dated = dates_kept; others = λ k _. B.stamps k }
 
-    pub visit_stamped : (ltb n.tag 13 && eqb (r.insns.len + 1) q.insns.len) ≡ true → Visits (set (w ++ drop stamps_at m) (stamps_at + i) e) (record { went = On r; epoch = e })
+    pub visit_stamped : (ltb n.tag 13 && eqb (r.insns.len + 1) q.insns.len) ≡ true → Visits (set o (stamps_at + i) e) r (Ok e)
     visit_stamped t =
-        let M = w ++ drop stamps_at m in
-        let l = back_long m w S.long same in
         let b = and-true (ltb n.tag 13) (eqb (r.insns.len + 1) q.insns.len) t in
-        let here : Idles s p c z (tables_of M) i = subst (λ (y : List ℕ). Idles s p c z y i) (sym (back_tables m w S.long same))
-        (kept i (idles F.analysed F.front F.some (came f) tag_same bits-same ring_same F.record_of (ltb-true n.tag 13 b.0)
+        let here : Idles s p c z (tables_of o) i = subst (λ (y : List ℕ). Idles s p c z y i) (sym B.tables)
+        (kept i (idles F.analysed F.front F.some d same_kind ring_same F.record_of (ltb-true n.tag 13 b.0)
         (eqb-true (r.insns.len + 1) q.insns.len b.1))) in
         record {
-          step = subst (λ (y : List ℕ). SteppedTo y (On r)) (sym (put-tables M i e l)) (came_back f);
+          step = subst (λ (y : List ℕ). SteppedTo y (On r)) (sym (put-tables o i e B.long)) (came_back d);
           dated = record {
-            long = put-long M i e l;
+            long = put-long o i e B.long;
             past = λ k a h. at_most k a h (same_or k i);
-            idle = λ k a h y. subst (λ (y : List ℕ). Idles s p c z y k) (sym (put-tables M i e l)) (each_idles here k a h y (same_or k i));
+            idle = λ k a h y. subst (λ (y : List ℕ). Idles s p c z y k) (sym (put-tables o i e B.long)) (each_idles here k a h y (same_or k i));
             slow = dates_kept.slow;
           };
-          others = λ k h. put_other M i e l k (apart (ltb-true n.tag 13 b.0) k h) ∙ back_stamp m w S.long same k;
+          others = λ k h. put_other o i e B.long k (apart (ltb-true n.tag 13 b.0) k h) ∙ B.stamps k;
         }
       where
         apart : n.tag < 13 → (k : ℕ) → 13 ≤ (record_at p k).tag → k ≡ i → ⊥
         apart l k h a = let b = ap (λ (y : Record). y.tag) (record_is F.front F.some p F.record_of) in let d = ap (λ (j : ℕ). (record_at p j).tag) a in omega arith
 
-        at_most : (k : ℕ) → k < z.insns → (record_at p k).tag < 13 → (k ≡ i) ⊎ (k ≡ i → ⊥) → stamp_of (set (w ++ drop stamps_at m) (stamps_at + i) e) k ≤ e
+        at_most : (k : ℕ) → k < z.insns → (record_at p k).tag < 13 → (k ≡ i) ⊎ (k ≡ i → ⊥) → stamp_of (set o (stamps_at + i) e) k ≤ e
         at_most k a h (inl y) =
-            subst (λ (j : ℕ). stamp_of (set (w ++ drop stamps_at m) (stamps_at + i) e) j ≤ e) (sym y) (let v = put-here (w ++ drop stamps_at m) i e (back_long m w S.long same) (few F) in omega arith)
-        at_most k a h (inr y) = let v = put_other (w ++ drop stamps_at m) i e (back_long m w S.long same) k y in let b = dates_kept.past k a h in omega arith
+            subst (λ (j : ℕ). stamp_of (set o (stamps_at + i) e) j ≤ e) (sym y) (let v = put-here o i e B.long (few F) in omega arith)
+        at_most k a h (inr y) = let v = put_other o i e B.long k y in let b = dates_kept.past k a h in omega arith
 
-        each_idles : Idles s p c z (tables_of (w ++ drop stamps_at m)) i → (k : ℕ) → k < z.insns → (record_at p k).tag < 13
-            → stamp_of (set (w ++ drop stamps_at m) (stamps_at + i) e) k ≡ e → (k ≡ i) ⊎ (k ≡ i → ⊥)
-            → Idles s p c z (tables_of (w ++ drop stamps_at m)) k
-        each_idles here k a h y (inl j) = subst (Idles s p c z (tables_of (w ++ drop stamps_at m))) (sym j) here
-        each_idles here k a h y (inr j) = dates_kept.idle k a h (sym (put_other (w ++ drop stamps_at m) i e (back_long m w S.long same) k j) ∙ y)
+        each_idles : Idles s p c z (tables_of o) i → (k : ℕ) → k < z.insns → (record_at p k).tag < 13
+            → stamp_of (set o (stamps_at + i) e) k ≡ e → (k ≡ i) ⊎ (k ≡ i → ⊥)
+            → Idles s p c z (tables_of o) k
+        each_idles here k a h y (inl j) = subst (Idles s p c z (tables_of o)) (sym j) here
+        each_idles here k a h y (inr j) = dates_kept.idle k a h (sym (put_other o i e B.long k j) ∙ y)

@@ -3,7 +3,7 @@ use mathlib.Core.Bool.{Bool as 𝔹, true, false, not, cond, ◌&&◌, ◌||◌}
 use mathlib.Core.Logic.{◌⊎◌, inl, inr}
 use mathlib.Core.Path.{◌≡◌, refl, sym, ap, ◌∙◌, subst}
 use mathlib.Core.List.{List, [], ◌∷◌}
-use Prim.Native.Nat.{ℕ, zero, suc, ◌+◌, ◌≤◌, ◌<◌}
+use Prim.Native.Nat.{ℕ, zero, suc, ◌≤◌, ◌<◌}
 use native.Mathlib.Omega.{arith}
 use borrow.Author.Tests.{eqb-true}
 use lib.Dec.{eqb}
@@ -12,10 +12,10 @@ use Rattle.rules.specs.Program.{Limits, Program}
 use Rattle.rules.specs.Machine.{State, state_of, take_block, take_insn, drain_block, step, visit, taken}
 use Rattle.state.specs.declared.Sizes.{Sizes}
 use Rattle.state.specs.declared.Regs.{Regs}
-use Rattle.state.specs.declared.Acted.{Acted}
+use Rattle.state.specs.Acted.{Acted, On, Refused}
 use Rattle.state.specs.View.{Attrs, insns_of, blocks_of, state_view, StateReady}
-use Rattle.state.specs.Changes.{StateDid, TookInsn}
-use Rattle.machine.specs.blocks.Blocks.{HasCode, CodeIs, blocks_in, BlockStepped}
+use Rattle.state.specs.Changes.{StateDid, ReadyAfter, TookInsn}
+use Rattle.machine.specs.blocks.Blocks.{HasCode, CodeIs, blocks_in, ReadyNext, BlockStepped}
 use Rattle.machine.proofs.blocks.Indexed.{has_code, code_is}
 use Rattle.program.specs.View.{ReadsInsn}
 use Rattle.program.specs.declared.Counts.{Counts}
@@ -25,7 +25,6 @@ use Rattle.records.specs.declared.Record.{Record}
 use Rattle.records.proofs.Rows.{record_row}
 use Rattle.state.proofs.Pushes.{insns-length, blocks-length}
 use Rattle.machine.specs.Analysed.{Analysed, MachineFits}
-use Rattle.machine.proofs.blocks.Live.{next-ready}
 use Rattle.memory.specs.Layout.{blocks_room}
 use Rattle.steps.specs.Steps.{insns_in, block_next, RecordOf, Front}
 
@@ -49,12 +48,12 @@ pub front-row : {s p : List ℕ} {c : Counts} {x u : List ℕ} {z : Sizes} {m : 
 front-row {s} {p} {c} {x} {u} {z} {m} {q} {a} {i} A t h e =
     subst (ReadsInsn p c i) (sym (e ∙ ap row_of (h i (insns_of m a) t.is))) (record_row i A.indexed.ready (omega (arith, t.below, A.indexed.sized.insns)))
 
-first_of : {i x : ℕ} {l k : List ℕ} → i ∷ l ≡ x ∷ k → i ≡ x
-first_of e = cc
-
 -- the instruction that is taken is the one in front
 pub front_insn : {z : Sizes} {m : List ℕ} {q a : Regs} {i : ℕ} → StateReady z m q → TookInsn z m q i a → Front z m q i
 front_insn r t = record { below = let h = r.held in omega (arith, t.below, h.insns); inside = λ _. t.below; is = λ _ j l e. first_of (sym e ∙ t.is) }
+  where
+    first_of : {x y : ℕ} {k w : List ℕ} → x ∷ k ≡ y ∷ w → x ≡ y
+    first_of e = cc
 
 pub take-front : (L : Limits) (p : Program) (i : ℕ) (l q : List ℕ) (s : State) → l ≡ i ∷ q → state_of L p (visit L p i (taken false q s.block_worklist s)) ≡ take_insn L p l s
 take-front L p i l q s e = rw e
@@ -65,8 +64,12 @@ insn_stepped z m q {fits} {i} {a} {w} {r} t d = record {
   is = λ L room p v h.
       ap (state_of L p) (d.is L room p v h) ∙ ap (λ (s : State). state_of L p (visit L p i s)) (t.state v)
       ∙ take-front L p i (insns_of m q) (insns_of m a) (state_view z v m q) t.is;
-  ok = next-ready z q a w r t.count d.ok;
+  ok = next_ready r d.ok;
 }
+  where
+    next_ready : (b : Acted) → ReadyAfter z a w b → ReadyNext z q w b
+    next_ready (On b) h = record { ready = h.ready; count = h.count ∙ t.count }
+    next_ready (Refused n) h = tt
 
 -- ---- the rules' step, by what waits
 
@@ -108,9 +111,6 @@ pub positive : (n : ℕ) → eqb n 0 ≡ false → 0 < n
 positive zero e = absurd (let z : ◌≡◌ {A = ℕ} 0 1 = cc in omega arith)
 positive (suc n) e = omega arith
 
-differ : true ≡ false → ⊥
-differ e = let z : ◌≡◌ {A = ℕ} 0 1 = cc in omega arith
-
 block_by : (d b i : 𝔹) → ((d && not b) || i) ≡ true → (i ≡ true) ⊎ ((d ≡ true) × (b ≡ false))
 block_by true true true h = inl refl
 block_by true false true h = inl refl
@@ -125,18 +125,8 @@ insn_by true false i h = (cc, λ e. cc)
 insn_by false b i h = (h, λ e. cc)
 
 module _ (z : Sizes) (m : List ℕ) (q : Regs) where
-  pub some_block : {t : 𝔹} → t ≡ block_next q → t ≡ true → 0 < q.insns.len + q.blocks.len → 0 < q.blocks.len
-  some_block e h lt = go (block_by q.draining (eqb q.blocks.len 0) (eqb q.insns.len 0) (sym e ∙ h))
-    where
-      go : (eqb q.insns.len 0 ≡ true) ⊎ ((q.draining ≡ true) × (eqb q.blocks.len 0 ≡ false)) → 0 < q.blocks.len
-      go (inl i) = omega (arith, eqb-true q.insns.len 0 i)
-      go (inr b) = positive q.blocks.len b.1
-
   pub some_insn : {t : 𝔹} → t ≡ block_next q → t ≡ false → 0 < q.insns.len
   some_insn e h = positive q.insns.len (insn_by q.draining (eqb q.blocks.len 0) (eqb q.insns.len 0) (sym e ∙ h)).0
-
-  pub front-block : {t : 𝔹} → t ≡ block_next q → t ≡ true → Front z m q 0
-  front-block e h = record { below = omega arith; inside = λ b. absurd (differ (sym h ∙ e ∙ b)); is = λ b. absurd (differ (sym h ∙ e ∙ b)) }
 
   pub block-step : {fits less : Program → Attrs → Type 0} {t : 𝔹} {w : List ℕ} {r : Acted} → t ≡ block_next q → t ≡ true → ((P : Program) (v : Attrs) → less P v → fits P v)
       → BlockStepped z fits (λ L P s. take_block L P (blocks_in s) s) m q w r → BlockStepped z less step m q w r

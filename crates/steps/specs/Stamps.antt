@@ -1,5 +1,7 @@
 -- Stamps: which instructions a visit would leave all as it is. Assumes nothing.
-use Rattle.std.specs.Prelude.{◌≡◌, List, ◌∷◌, ℕ, ◌+◌, ◌≤◌, ◌<◌, length}
+use Rattle.std.specs.Prelude.{◌≡◌, List, ◌∷◌, ℕ, ◌+◌, ◌≤◌, ◌<◌, length, Result, Ok, Err}
+use Rattle.refusals.specs.declared.Refusal.{Refusal}
+use Rattle.refusals.specs.Refusals.{number_of}
 use Rattle.rules.specs.Actions.{Answer, answered}
 use Rattle.rules.specs.Program.{Limits, Program}
 use Rattle.rules.specs.Machine.{State, visit}
@@ -7,15 +9,13 @@ use Rattle.program.specs.declared.Counts.{Counts}
 use Rattle.records.specs.Records.{record_at}
 use Rattle.state.specs.declared.Sizes.{Sizes}
 use Rattle.state.specs.declared.Regs.{Regs}
-use Rattle.state.specs.declared.Acted.{Acted}
-use Rattle.state.specs.declared.Acted.TheVariants.{On, Refused}
+use Rattle.state.specs.Acted.{Acted, On, Refused}
 use Rattle.state.specs.View.{Attrs, kinds_of, live_of, called_of, insns_of, state_view, StateReady}
 use Rattle.machine.specs.blocks.Blocks.{BlockStepped}
 use Rattle.machine.specs.Analysed.{MachineFits}
 use Rattle.settled.specs.Reads.{name_of, SettledFor}
 use Rattle.memory.specs.Layout.{instructions_most, worklist_most}
 use Rattle.state.specs.Layout.{stamps_at}
-use Rattle.steps.specs.declared.Timed.{Timed}
 pub use Rattle.settled.specs.Reads.{tables_of, stamp_of}
 
 -- a visit of i leaves every state as it is that has the kinds, the live blocks and the callers of these tables
@@ -52,21 +52,26 @@ pub record Stamped (s p : List ℕ) (c : Counts) (z : Sizes) (m : List ℕ) (q :
   pub dated : Dated s p c z m q epoch
   pub reads : (i : ℕ) → i < z.insns → (record_at p i).tag ≡ 13 → SettledFor s p c z (tables_of m) (name_of (record_at p i)) i (stamp_of m i)
 
-abbrev pub DatedIf : List ℕ → List ℕ → Counts → Sizes → List ℕ → ℕ → Acted → Type 0
-DatedIf s p c z m epoch (On q) = Dated s p c z m q epoch
-DatedIf s p c z m epoch (Refused n) = Unit {0}
+-- what a step comes to, by the registers that it leaves and what it gives back: the epoch after it, or a refusal
+abbrev pub went_to : Regs → Result ℕ Refusal → Acted
+went_to q (Ok epoch) = On q
+went_to q (Err x) = Refused (number_of x)
 
-abbrev pub StampedIf : List ℕ → List ℕ → Counts → Sizes → List ℕ → ℕ → Acted → Type 0
-StampedIf s p c z m epoch (On q) = Stamped s p c z m q epoch
-StampedIf s p c z m epoch (Refused n) = Unit {0}
+abbrev pub DatedIf : List ℕ → List ℕ → Counts → Sizes → List ℕ → Regs → Result ℕ Refusal → Type 0
+DatedIf s p c z m q (Ok epoch) = Dated s p c z m q epoch
+DatedIf s p c z m q (Err x) = Unit {0}
+
+abbrev pub StampedIf : List ℕ → List ℕ → Counts → Sizes → List ℕ → Regs → Result ℕ Refusal → Type 0
+StampedIf s p c z m q (Ok epoch) = Stamped s p c z m q epoch
+StampedIf s p c z m q (Err x) = Unit {0}
 
 -- a step of the tables, after which the stamps of the instructions that neither read nor set an attribute hold again, and those of the others are as they were
-pub record Visited (s p : List ℕ) (c : Counts) (z : Sizes) (f : Limits → Program → State → Answer State) (m : List ℕ) (q : Regs) (w : List ℕ) (r : Timed) : Type 0 where
-  pub step : BlockStepped z (MachineFits s p c) f (tables_of m) q (tables_of w) r.went
-  pub dated : DatedIf s p c z w r.epoch r.went
+pub record Visited (s p : List ℕ) (c : Counts) (z : Sizes) (f : Limits → Program → State → Answer State) (m : List ℕ) (q : Regs) (w : List ℕ) (r : Regs) (t : Result ℕ Refusal) : Type 0 where
+  pub step : BlockStepped z (MachineFits s p c) f (tables_of m) q (tables_of w) (went_to r t)
+  pub dated : DatedIf s p c z w r t
   pub others : (i : ℕ) → 13 ≤ (record_at p i).tag → stamp_of w i ≡ stamp_of m i
 
 -- a step of the tables, after which all stamps hold again
-pub record Timely (s p : List ℕ) (c : Counts) (z : Sizes) (f : Limits → Program → State → Answer State) (m : List ℕ) (q : Regs) (w : List ℕ) (r : Timed) : Type 0 where
-  pub step : BlockStepped z (MachineFits s p c) f (tables_of m) q (tables_of w) r.went
-  pub stamps : StampedIf s p c z w r.epoch r.went
+pub record Timely (s p : List ℕ) (c : Counts) (z : Sizes) (f : Limits → Program → State → Answer State) (m : List ℕ) (q : Regs) (w : List ℕ) (r : Regs) (t : Result ℕ Refusal) : Type 0 where
+  pub step : BlockStepped z (MachineFits s p c) f (tables_of m) q (tables_of w) (went_to r t)
+  pub stamps : StampedIf s p c z w r t

@@ -2,54 +2,32 @@
 #![tactic(auto)]
 
 ghost use Rattle.std.specs.Prelude.{true, false, ◌≡◌, ◌+◌, ◌<◌, ◌^◌};
-ghost use Rattle.rules.specs.Machine.{take_insn, step as stepped};
-ghost use Rattle.state.specs.View.{StateReady};
-ghost use Rattle.machine.specs.blocks.Blocks.{BlockStepped};
+ghost use Rattle.rules.specs.Machine.{step as stepped};
+ghost use Rattle.machine.specs.blocks.Blocks.{Stepped};
 ghost use Rattle.machine.specs.Analysed.{Analysed, MachineFits, Steady};
-ghost use Rattle.steps.specs.Stamps.{tables_of, Dated, Stamped, Visited, Timely, Passes};
-ghost use Rattle.steps.specs.Steps.{insns_in, block_next, RecordOf, Facing, Front};
+ghost use Rattle.steps.specs.Stamps.{Passes};
+ghost use Rattle.steps.specs.Steps.{block_next, RecordOf, Front};
+ghost use Rattle.steps.specs.Methods.{insn_next, FacingIn, DatedIn, StampedIn, VisitedIn, TimelyIn};
 
 use ids::InsnId;
-use program::{Counts, Name};
+use machine::Tables;
+use program::Name;
 use records::Record;
-use state::{Acted, Regs, Sizes};
-
-// The words of the state's tables; behind them stands a stamp for each instruction.
-pub const STAMPS: usize = settled::STAMPS;
-
-// What a step came to, and the epoch after it.
-#[derive(Clone, Copy)]
-pub struct Timed {
-    pub went: Acted,
-    pub epoch: usize,
-}
+use refusals::Refusal;
+use state::{Regs, State};
 
 // The instruction in front is taken off, and visited; insn is its record.
-fn step_insn(
-    script: &[u8],
-    program: &[usize],
-    counts: Counts,
-    chains: &[usize],
-    users: &[usize],
-    state: &mut [usize],
-    sizes: Sizes,
-    regs: Regs,
-    insn: Record,
-) -> Acted
-    requires analysed { Analysed script.now program.now counts chains.now users.now sizes }
-    requires steady { Steady script.now program.now counts sizes state.old }
-    requires state_ready { StateReady sizes state.old regs }
-    requires len_nonzero { (0 < regs.insns.len) × (regs.count < 2 ^ 63) }
-    requires record_of { RecordOf program.now state.old regs insn }
-    ensures { BlockStepped sizes (MachineFits script.now program.now counts) (λ L P t. take_insn L P (insns_in t) t) state.old regs state.new result }
+fn step_insn(tables: &Tables, state: &mut State, insn: Record) -> Result<(), Refusal>
+    requires analysed { Analysed tables.now.code.program.script.now tables.now.code.program.words.now tables.now.code.program.counts
+        tables.now.code.chains.now tables.now.users.now state.old.sizes }
+    requires steady { Steady tables.now.code.program.script.now tables.now.code.program.words.now tables.now.code.program.counts state.old.sizes state.old.words.now }
+    requires len_nonzero { (0 < state.old.regs.insns.len) × (state.old.regs.count < 2 ^ 63) }
+    requires record_of { RecordOf tables.now.code.program.words.now state.old.words.now state.old.regs insn }
+    ensures { Stepped (MachineFits tables.now.code.program.script.now tables.now.code.program.words.now tables.now.code.program.counts)
+        insn_next state.old state.new result }
 {
-    let t = state::take_insn(state, sizes, regs);
-    let next = t.q;
-    let i = t.insn;
-    let row = records::row(insn);
-    visits::visit(
-        script, program, counts, chains, users, state, sizes, next, i, row,
-    )
+    let i = state.take_insn();
+    visits::visit(tables, state, i, insn.row())
 }
 
 // Whether the next entry is a block.
@@ -60,174 +38,110 @@ pub fn block_next(regs: Regs) -> bool
 }
 
 // The instruction i in front is taken off and visited; insn is its record. Where it neither reads nor sets an attribute, and the visit left kinds,
-// live blocks and callers, and put nothing in, i is stamped with the epoch.
+// live blocks and callers, and put nothing in, i is stamped with the epoch. The epoch after it.
 fn visit_timed(
-    script: &[u8],
-    program: &[usize],
-    counts: Counts,
-    chains: &[usize],
-    users: &[usize],
-    state: &mut [usize],
-    sizes: Sizes,
-    regs: Regs,
-    i: usize,
+    tables: &Tables,
+    state: &mut State,
+    stamps: &mut [usize],
+    i: InsnId,
     insn: Record,
     epoch: usize,
-) -> Timed
-    requires facing { Facing script.now program.now counts chains.now users.now sizes (tables_of state.old) regs i insn }
-    requires dated { Dated script.now program.now counts sizes state.old regs epoch }
-    ensures { Visited script.now program.now counts sizes (λ L P t. take_insn L P (insns_in t) t) state.old regs state.new result }
+) -> Result<usize, Refusal>
+    requires facing { FacingIn tables.now state.old i.0 insn }
+    requires dated { DatedIn tables.now state.old stamps.old epoch }
+    ensures { VisitedIn tables.now state.old stamps.old state.new stamps.new result }
 {
-    let tag = state[i];
-    let bits = state[state::BITS + i];
-    let w = step_insn(
-        script,
-        program,
-        counts,
-        chains,
-        users,
-        &mut state[..STAMPS],
-        sizes,
-        regs,
-        insn,
-    );
-    match w {
-        Acted::On(r) => {
-            if (state[i] != tag)
-                | (state[state::BITS + i] != bits)
-                | (r.blocks.len != regs.blocks.len)
-            {
-                return Timed {
-                    went: w,
-                    epoch: epoch + 1,
-                };
-            }
-            if (insn.tag < 13) & (r.insns.len + 1 == regs.insns.len) {
-                state[STAMPS + i] = epoch;
-                return Timed { went: w, epoch };
-            }
-            Timed { went: w, epoch }
-        }
-        Acted::Refused(n) => Timed { went: w, epoch },
+    let kind = flows::insn_words(state, i);
+    let before = state.regs;
+    step_insn(tables, state, insn)?;
+    if (flows::insn_words(state, i) != kind) | (state.regs.blocks.len != before.blocks.len) {
+        return Ok(epoch + 1);
     }
+    if (insn.tag < 13) & (state.regs.insns.len + 1 == before.insns.len) {
+        stamps[i.0 as usize] = epoch;
+        return Ok(epoch);
+    }
+    Ok(epoch)
 }
 
 // The same; a read is then stamped with those of its receiver's classes for which it is settled, and after a setting that woke reads only those stay stamped whose kinds cover the kind that was set.
 fn visit_insn(
-    script: &[u8],
-    program: &[usize],
-    counts: Counts,
-    chains: &[usize],
-    users: &[usize],
-    state: &mut [usize],
-    sizes: Sizes,
-    regs: Regs,
-    i: usize,
+    tables: &Tables,
+    state: &mut State,
+    stamps: &mut [usize],
+    i: InsnId,
     insn: Record,
     epoch: usize,
-) -> Timed
-    requires facing { Facing script.now program.now counts chains.now users.now sizes (tables_of state.old) regs i insn }
-    requires stamped { Stamped script.now program.now counts sizes state.old regs epoch }
-    ensures { Timely script.now program.now counts sizes (λ L P t. take_insn L P (insns_in t) t) state.old regs state.new result }
+) -> Result<usize, Refusal>
+    requires facing { FacingIn tables.now state.old i.0 insn }
+    requires stamped { StampedIn tables.now state.old stamps.old epoch }
+    ensures { TimelyIn insn_next tables.now state.old stamps.old state.new stamps.new result }
 {
-    let k = settled::decisive_words(program, counts, &state[..STAMPS], sizes, insn);
-    let t = visit_timed(
-        script, program, counts, chains, users, state, sizes, regs, i, insn, epoch,
-    );
-    let went = t.went;
-    match went {
-        Acted::On(r) => {
-            if insn.tag == 13 {
-                let n = Name {
-                    start: insn.x,
-                    len: insn.y,
-                };
-                state[STAMPS + i] = settled::stamp(
-                    script,
-                    program,
-                    counts,
-                    &state[..STAMPS],
-                    sizes,
-                    n,
-                    InsnId(i as u32),
-                    k,
-                );
-                return t;
-            }
-            if (13 < insn.tag) & (r.insns.len + 1 != regs.insns.len) {
-                settled::unsettle(program, state, sizes, k);
-                return t;
-            }
-            t
-        }
-        Acted::Refused(n) => t,
+    let k = settled::decisive_words(&tables.code.program, state, insn);
+    let waiting = state.regs.insns.len;
+    let next = visit_timed(tables, state, stamps, i, insn, epoch)?;
+    if insn.tag == 13 {
+        let n = Name {
+            start: insn.x,
+            len: insn.y,
+        };
+        stamps[i.0 as usize] = settled::stamp(&tables.code.program, state, n, i, k);
+        return Ok(next);
     }
+    if (13 < insn.tag) & (state.regs.insns.len + 1 != waiting) {
+        settled::unsettle(&tables.code.program, state, stamps, k);
+        return Ok(next);
+    }
+    Ok(next)
 }
 
 // Whether a visit of the instruction i in front surely does nothing: it is stamped with this epoch, or is a read that is settled for its receiver's classes.
 fn idle(
-    script: &[u8],
-    program: &[usize],
-    counts: Counts,
-    chains: &[usize],
-    users: &[usize],
-    state: &[usize],
-    sizes: Sizes,
-    regs: Regs,
-    i: usize,
+    tables: &Tables,
+    state: &State,
+    stamps: &[usize],
+    i: InsnId,
     insn: Record,
     epoch: usize,
 ) -> bool
-    requires facing { Facing script.now program.now counts chains.now users.now sizes (tables_of state.now) regs i insn }
-    requires stamped { Stamped script.now program.now counts sizes state.now regs epoch }
-    ensures { result ≡ true → Passes script.now program.now counts sizes (tables_of state.now) i }
+    requires facing { FacingIn tables.now state.now i.0 insn }
+    requires stamped { StampedIn tables.now state.now stamps.now epoch }
+    ensures { result ≡ true → Passes tables.now.code.program.script.now tables.now.code.program.words.now tables.now.code.program.counts
+        state.now.sizes state.now.words.now i.0 }
 {
     if insn.tag == 13 {
-        let o = settled::operand_words(program, counts, &state[..STAMPS], sizes, insn, 0);
-        return (o.tag == 8) & (state[STAMPS + i] == o.bits);
+        let o = settled::operand_words(&tables.code.program, state, insn, 0);
+        return (o.tag == 8) & (stamps[i.0 as usize] == o.bits);
     }
-    (insn.tag < 13) & (state[STAMPS + i] == epoch)
+    (insn.tag < 13) & (stamps[i.0 as usize] == epoch)
 }
 
 // One entry is taken off a worklist; where it is an instruction, that is i, and insn its record. A visit that surely does nothing is left out.
+// The epoch after it.
 pub fn step(
-    script: &[u8],
-    program: &[usize],
-    counts: Counts,
-    chains: &[usize],
-    users: &[usize],
-    state: &mut [usize],
-    sizes: Sizes,
-    regs: Regs,
-    i: usize,
+    tables: &Tables,
+    state: &mut State,
+    stamps: &mut [usize],
+    i: InsnId,
     insn: Record,
     epoch: usize,
-) -> Timed
-    requires analysed { Analysed script.now program.now counts chains.now users.now sizes }
-    requires steady { Steady script.now program.now counts sizes (tables_of state.old) }
-    requires state_ready { StateReady sizes (tables_of state.old) regs }
-    requires len_nonzero { (0 < regs.insns.len + regs.blocks.len) × (regs.count < 2 ^ 63) }
-    requires record_of { block_next regs ≡ false → RecordOf program.now (tables_of state.old) regs insn }
-    requires front { Front sizes (tables_of state.old) regs i }
-    requires stamped { Stamped script.now program.now counts sizes state.old regs epoch }
-    ensures { Timely script.now program.now counts sizes stepped state.old regs state.new result }
+) -> Result<usize, Refusal>
+    requires analysed { Analysed tables.now.code.program.script.now tables.now.code.program.words.now tables.now.code.program.counts
+        tables.now.code.chains.now tables.now.users.now state.old.sizes }
+    requires steady { Steady tables.now.code.program.script.now tables.now.code.program.words.now tables.now.code.program.counts state.old.sizes state.old.words.now }
+    requires len_nonzero { (0 < state.old.regs.insns.len + state.old.regs.blocks.len) × (state.old.regs.count < 2 ^ 63) }
+    requires record_of { block_next state.old.regs ≡ false → RecordOf tables.now.code.program.words.now state.old.words.now state.old.regs insn }
+    requires front { Front state.old.sizes state.old.words.now state.old.regs i.0 }
+    requires stamped { StampedIn tables.now state.old stamps.old epoch }
+    ensures { TimelyIn stepped tables.now state.old stamps.old state.new stamps.new result }
 {
-    if block_next(regs) {
-        let w = machine::blocks::step_block(&mut state[..STAMPS], sizes, regs, chains);
-        return Timed {
-            went: w,
-            epoch: epoch + 1,
-        };
+    if block_next(state.regs) {
+        machine::blocks::step_block(state, tables.code.chains)?;
+        return Ok(epoch + 1);
     }
-    if idle(
-        script, program, counts, chains, users, state, sizes, regs, i, insn, epoch,
-    ) {
-        let t = state::take_insn(&state[..STAMPS], sizes, regs);
-        let next = t.q;
-        let went = Acted::On(next);
-        return Timed { went, epoch };
+    if idle(tables, state, stamps, i, insn, epoch) {
+        state.take_insn();
+        return Ok(epoch);
     }
-    visit_insn(
-        script, program, counts, chains, users, state, sizes, regs, i, insn, epoch,
-    )
+    visit_insn(tables, state, stamps, i, insn, epoch)
 }

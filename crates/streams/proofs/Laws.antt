@@ -6,25 +6,18 @@ use Rattle.std.specs.Io.KnownBytes.{Appends, Consumes, Keeps}
 use Rattle.std.proofs.KnownBytes.{Appends-trans, Consumes-trans, Consumes-kept}
 use borrow.Rule.Slice.PartMut.{mid_of, put_mid, post_of, same_len_mid, mid_len}
 use lib.Seq.{take-add, take-append-le, take-append-add}
-use Rattle.streams.specs.declared.Input.{Input}
-use Rattle.streams.specs.declared.Input.TheVariants.{Read}
-use Rattle.streams.specs.Input.{InputFits}
 
 -- at the loop's head
 pub record Reading (d₀ d : List ℕ) (done : ℕ) : Type 0 where
   pub in_range : done ≤ length d
   pub len_same : length d ≡ length d₀
 
--- the rest of the buffer was lent, and came back
-module _ (d u : List ℕ) {d₀ : List ℕ} {done : ℕ} (g : Reading d₀ d done) (e : length u ≡ length (mid_of done (length d - done) d)) where
-  module _ {r : Input} {n : ℕ} (f : InputFits u r) (q : r ≡ Read n) where
-    pub reading_room : done + n ≤ length d
-    reading_room = omega (arith, (rw q at f).0, mid_len done (length d) d (omega arith), g.in_range)
-
-    pub reading_more : Reading d₀ (put_mid done (length d - done) d u) (done + n)
-    reading_more =
-        let l = same_len_mid done (length d - done) d u e in
-        record { in_range = omega (arith, l, reading_room); len_same = l ∙ g.len_same }
+-- the rest of the buffer was lent, and came back with n bytes
+pub reading_more : (u : List ℕ) {d d₀ : List ℕ} {done n : ℕ} → Reading d₀ d done → length u ≡ length (mid_of done (length d - done) d) → n ≤ length u
+    → Reading d₀ (put_mid done (length d - done) d u) (done + n)
+reading_more u {d} {d₀} {done} g e h =
+    let l = same_len_mid done (length d - done) d u e in
+    record { in_range = omega (arith, l, e, h, mid_len done (length d) d (omega arith), g.in_range); len_same = l ∙ g.len_same }
 
 -- ---- where the bytes are known
 
@@ -38,10 +31,6 @@ take_mid a k n d u h l =
 pub taken_more : (a b c : Option (List ℕ)) (done k n : ℕ) (d u : List ℕ) → done ≤ length d → n ≤ length u → Consumes a b (take done d) → Consumes b c (take n u)
     → Consumes a c (take (done + n) (put_mid done k d u))
 taken_more a b c done k n d u h l p q = subst (Consumes _ _) (sym (take_mid done k n d u h l)) (Consumes-trans _ _ _ _ _ p q)
-
-pub taken_kept : (a b c : Option (List ℕ)) (done k : ℕ) (d u : List ℕ) → done ≤ length d → Consumes a b (take done d) → Keeps b c
-    → Consumes a c (take done (put_mid done k d u))
-taken_kept a b c done k d u h p q = subst (Consumes _ _) (sym (take-put_mid_below _ _ _ _ _ (le_refl _) h)) (Consumes-kept _ _ _ _ p q)
 
 -- the pieces that were written
 pub written_more : (a b c : Option (List ℕ)) (done n : ℕ) (bytes : List ℕ) → Appends a b (take done bytes)

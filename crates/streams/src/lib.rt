@@ -1,99 +1,79 @@
 // Standard input and output.
 #![tactic(auto)]
 
-ghost use Rattle.std.specs.Prelude.{◌≤◌, length, take};
-ghost use Rattle.std.specs.Io.KnownBytes.{Appends};
-ghost use Rattle.streams.specs.Input.{InputFits, PieceTaken, InputTaken};
+ghost use Rattle.std.specs.Prelude.{◌<◌, length, take, IfErr};
+ghost use Rattle.std.specs.Io.{ReadsAtMost, WritesAtMost};
+ghost use Rattle.std.specs.Io.KnownBytes.{Appends, ReadConsumes, WriteAppends};
+ghost use Rattle.streams.specs.Moved.{taken_of, InputFits, InputTaken};
 
-use std::io::{Error, ErrorKind, Read, Write};
+use std::io::{self, ErrorKind, Read, Write};
 
 // How often a call is made that signals interrupt before it moves a byte. Nothing bounds how many signals come, and a loop must end.
 const TRIES: usize = 10000;
 
-// How many bytes were read, or that a read failed.
-#[derive(Clone, Copy)]
-pub enum Input {
-    Read(usize),
-    Failed,
+// A write failed: how many bytes were taken until then.
+#[derive(Clone, Copy, PartialEq, Eq, Debug)]
+pub struct Unwritten {
+    pub taken: usize,
 }
 
-// Whether it was a signal that made a call fail.
-fn interrupted(e: Error) -> bool {
-    e.kind() == ErrorKind::Interrupted
-}
-
-// One write: how many bytes were taken, none where it failed.
-fn write_some<W: Write>(to: &mut W, bytes: &[u8]) -> usize
-    ensures in_bounds { result ≤ length bytes.now }
-    ensures appends { Appends (W.contents to.old) (W.contents to.new) (take result bytes.now) }
+// One write: how many bytes were taken.
+fn write_some<W: Write>(to: &mut W, bytes: &[u8]) -> io::Result<usize>
+    ensures in_bounds { WritesAtMost result bytes.now }
+    ensures appends { WriteAppends (W.contents to.old) (W.contents to.new) result bytes.now }
 {
-    let mut tries = TRIES;
-    while 0 < tries {
+    for _ in 1..TRIES {
         match to.write(bytes) {
-            Ok(n) => return n,
-            Err(e) => {
-                if !interrupted(e) {
-                    return 0;
-                }
-            }
+            Err(e) if e.kind() == ErrorKind::Interrupted => {}
+            done => return done,
         }
-        tries -= 1;
     }
-    0
+    to.write(bytes)
 }
 
-// Writes all bytes, and answers how many were taken: fewer than all where a write failed, after which none is made.
-pub fn write<W: Write>(to: &mut W, bytes: &[u8]) -> usize
-    ensures in_bounds { result ≤ length bytes.now }
-    ensures appends { Appends (W.contents to.old) (W.contents to.new) (take result bytes.now) }
+// Writes all bytes, up to the first write that fails or takes none.
+// Stays: a loop over `write`, since std's `write_all` doesn't say how many bytes were taken before it failed.
+pub fn write<W: Write>(to: &mut W, bytes: &[u8]) -> Result<(), Unwritten>
+    ensures short { IfErr result (λ e. e.taken < length bytes.now) }
+    ensures appends { Appends (W.contents to.old) (W.contents to.new) (take (taken_of bytes.now result) bytes.now) }
 {
-    let mut done = 0;
-    while done < bytes.len() {
-        let n = write_some(to, &bytes[done..]);
-        if n == 0 {
-            return done;
+    let mut taken = 0;
+    while taken < bytes.len() {
+        match write_some(to, &bytes[taken..]) {
+            Ok(n) if 0 < n => taken += n,
+            _ => return Err(Unwritten { taken }),
         }
-        done += n;
     }
-    done
+    Ok(())
 }
 
 // One read: no bytes at the end of the input.
-fn read_some<R: Read>(from: &mut R, buffer: &mut [u8]) -> Input
-    ensures fits { InputFits buffer.new result }
-    ensures taken { PieceTaken (R.remaining from.old) (R.remaining from.new) buffer.new result }
+fn read_some<R: Read>(from: &mut R, buffer: &mut [u8]) -> io::Result<usize>
+    ensures in_bounds { ReadsAtMost result buffer.new }
+    ensures taken { ReadConsumes (R.remaining from.old) (R.remaining from.new) result buffer.new }
 {
-    let mut tries = TRIES;
-    while 0 < tries {
+    for _ in 1..TRIES {
         match from.read(buffer) {
-            Ok(n) => return Input::Read(n),
-            Err(e) => {
-                if !interrupted(e) {
-                    return Input::Failed;
-                }
-            }
+            Err(e) if e.kind() == ErrorKind::Interrupted => {}
+            done => return done,
         }
-        tries -= 1;
     }
-    Input::Failed
+    from.read(buffer)
 }
 
-// Reads until the input ends or the buffer is full.
-pub fn read<R: Read>(from: &mut R, buffer: &mut [u8]) -> Input
+// Reads until the input ends or the buffer is full, and answers how many bytes that are.
+// Stays: a loop over `read`, since std's `read_exact` doesn't say how many bytes an input has that ends before the buffer is full.
+pub fn read<R: Read>(from: &mut R, buffer: &mut [u8]) -> io::Result<usize>
     ensures fits { InputFits buffer.new result }
     ensures taken { InputTaken (R.remaining from.old) (R.remaining from.new) buffer.new result }
 {
     let mut done = 0;
     while done < buffer.len() {
-        match read_some(from, &mut buffer[done..]) {
-            Input::Read(n) => {
-                if n == 0 {
-                    return Input::Read(done);
-                }
-                done += n;
-            }
-            Input::Failed => return Input::Failed,
+        let n = read_some(from, &mut buffer[done..])?;
+        if n == 0 {
+            break;
         }
+        done += n;
     }
-    Input::Read(done)
+    Ok(done)
 }

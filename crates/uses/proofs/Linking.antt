@@ -1,17 +1,21 @@
 -- What each way through the linking shows, on plain values. Assumes nothing.
 use mathlib.Core.Bool.{Bool as 𝔹, true, false, ◌||◌, or-true, or-false}
 use mathlib.Core.Path.{◌≡◌, refl, sym, ap, ◌∙◌, subst}
-use mathlib.Core.List.{List, [], ◌∷◌}
+use mathlib.Core.List.{List, [], ◌∷◌, map}
 use Prim.Native.Nat.{ℕ, zero, suc, ◌+◌, ◌-◌, ◌*◌, ◌≤◌, ◌<◌, min}
 use native.Mathlib.Decide.{ℕ_discrete}
 use native.Mathlib.Numerals.{add-one}
 use native.Mathlib.Omega.{arith}
-use borrow.Author.Tests.{eq-eqb, ne_eqb, lt-ltb, le-ltb}
+use borrow.Author.Tests.{both_ways, eqb-true, eqb-false, eq-eqb, ne_eqb, lt-ltb, le-ltb}
 use lib.ListN.{length, get_or, set, length-set}
 use lib.Seq.{get_or-set_same, get_or-set_other}
 use Rattle.rules.specs.Lists.{any, cons_if}
 use Rattle.program.specs.Tab.{tab}
-use Rattle.program.specs.Rows.{opnds_in, opnd_at, insn_at}
+use Rattle.rules.specs.Program as P
+use Rattle.program.specs.Rows.{opnds_in, opnd_at, opnd_of, nth, insn_at}
+use Rattle.program.proofs.Reading.{operand_read}
+use Rattle.std.specs.Prelude.{Option, Some, None, unwrap_or, is_some, nat_eq}
+use Rattle.std.specs.Option.{option_eq}
 use Rattle.program.specs.View.{ProgramReady}
 use Rattle.program.specs.declared.Counts.{Counts}
 use Rattle.program.specs.declared.Row.{Row}
@@ -27,40 +31,49 @@ use Rattle.memory.specs.Layout.{instructions_most, uses_most}
 use Rattle.program.specs.Layout.{opnds_at}
 use Rattle.uses.specs.Layout.{items_at, links_at, uses_size}
 use Rattle.uses.specs.Users.{most_of, used_at, used_to, names, names_to, uses_at, first_of, Cells, front, UsersPut, Linked}
-use Rattle.uses.proofs.Totals.{used_room, sum_more}
+use Rattle.uses.proofs.Totals.{used_room, sum_more, same_names}
 
 -- ---- a cell
 
-pub first_some : (w : List ℕ) (h : ℕ) → h < uses_most → get_or w (items_at + h) 0 ≡ first_of w h
+pub first_some : (w : List ℕ) (h : ℕ) → h < uses_most → Some (get_or w (items_at + h) 0) ≡ first_of w h
 unfolding first_of
 first_some w h g = rw (lt-ltb h uses_most g)
 
-pub first-none : (w : List ℕ) (h : ℕ) → uses_most ≤ h → uses_most ≡ first_of w h
+pub first-none : (w : List ℕ) (h : ℕ) → uses_most ≤ h → None ≡ first_of w h
 unfolding first_of
 first-none w h g = rw (le-ltb h uses_most g)
 
-front-new : (w : List ℕ) (e i h : ℕ) (l : List ℕ) → Cells w e h l → (first_of w h ≡ i → ⊥) → front i l ≡ i ∷ l
+-- the test for a user
+same_some : (o : Option ℕ) (i : ℕ) → option_eq nat_eq o (Some i) ≡ true → o ≡ Some i
+same_some None i p = absurd (both_ways false refl p)
+same_some (Some x) i p = ap Some (eqb-true x i p)
+
+other_some : (o : Option ℕ) (i : ℕ) → option_eq nat_eq o (Some i) ≡ false → o ≡ Some i → ⊥
+other_some None i p q = both_ways false refl (ap (λ x. option_eq nat_eq x (Some i)) q ∙ eq-eqb i i refl)
+other_some (Some x) i p q = eqb-false x i p (ap (λ o. unwrap_or o 0) q)
+
+front-new : (w : List ℕ) (e i h : ℕ) (l : List ℕ) → Cells w e h l → (first_of w h ≡ Some i → ⊥) → front i l ≡ i ∷ l
 unfolding ChainsChained
 front-new w e i h [] d ne = refl
-front-new w e i h (x ∷ l) d ne = rw (ne_eqb x i (λ q. ne (sym (first_some w h d.1) ∙ (sym d.2 ∙ q))))
+front-new w e i h (x ∷ l) d ne = rw (ne_eqb x i (λ q. ne (sym (first_some w h d.1) ∙ ap Some (sym d.2 ∙ q))))
 
-front-old : (w : List ℕ) (e i h : ℕ) (l : List ℕ) → Cells w e h l → first_of w h ≡ i → i < instructions_most → front i l ≡ l
+front-old : (w : List ℕ) (e i h : ℕ) (l : List ℕ) → Cells w e h l → first_of w h ≡ Some i → front i l ≡ l
 unfolding ChainsChained
-front-old w e i h [] d q g = absurd (omega (arith, first-none w h (omega arith)))
-front-old w e i h (x ∷ l) d q g = rw (eq-eqb x i (d.2 ∙ (first_some w h d.1 ∙ q)))
+front-old w e i h [] d q = absurd (both_ways false refl (ap is_some (first-none w h (omega arith) ∙ q)))
+front-old w e i h (x ∷ l) d q = rw (eq-eqb x i (d.2 ∙ ap (λ o. unwrap_or o 0) (first_some w h d.1 ∙ q)))
 
-module _ (w : List ℕ) (e i j : ℕ) {x : ℕ} (q : x ≡ first_of w (get_or w j 0)) (fits : i < instructions_most) where
-  pub link_old : x ≡ i → UsersPut e i j w w e
+module _ (w : List ℕ) (e i j : ℕ) {x : Option ℕ} (q : x ≡ first_of w (get_or w j 0)) {t : 𝔹} (test : t ≡ option_eq nat_eq x (Some i)) where
+  pub link_old : t ≡ true → UsersPut e i j w w e
   link_old y =
       record {
         len_same = refl;
         low = omega arith;
         high = omega arith;
-        own = λ l d. rw (front-old w e i (get_or w j 0) l d (sym q ∙ y) fits) d;
+        own = λ l d. rw (front-old w e i (get_or w j 0) l d (sym q ∙ same_some x i (sym test ∙ y))) d;
         others = λ k l h ne d. d;
       }
 
-  module _ (ne : x ≡ i → ⊥) (room : uses_size ≤ length w) (some : 0 < e) (high : e ≤ uses_most) (inside : j < instructions_most) where
+  module _ (not_same : t ≡ false) (room : uses_size ≤ length w) (some : 0 < e) (high : e ≤ uses_most) (inside : j < instructions_most) where
     abbrev d : ℕ
     d = e - 1
 
@@ -116,7 +129,7 @@ module _ (w : List ℕ) (e i j : ℕ) {x : ℕ} (q : x ≡ first_of w (get_or w 
           high = omega arith;
           own = λ l c.
               let s : suc d ≡ e = omega arith in
-              rw (front-new w e i (get_or w j 0) l c (λ z. ne (q ∙ z)), get_or-set_same w2 j d 0 (omega (arith, len2)))
+              rw (front-new w e i (get_or w j 0) l c (λ z. other_some x i (sym test ∙ not_same) (q ∙ z)), get_or-set_same w2 j d 0 (omega (arith, len2)))
               (chained_more (at w3 items_at) (at w3 links_at) uses_most d i l (omega arith) (sym item_new) (rw (s, link_new-word) (stays (get_or w j 0) l c)));
           others = λ k l h n c. rw (low_word k h n) (chained_below (at w3 items_at) (at w3 links_at) uses_most e d _ l (omega arith) (stays _ l c));
         }
@@ -147,59 +160,55 @@ front-more : (t : 𝔹) (i : ℕ) (u : ℕ → 𝔹) (k f : ℕ) → i < k → f
 front-more true i u k f h = rw (eq-eqb i i refl)
 front-more false i u k f h = front-pick i u k f h
 
+-- the operand of a row, by its names
+names_read : (m : List ℕ) (i q j : ℕ) {r : Row} (o : Opnd) → r ≡ insn_at m i → q < r.count
+    → opnd_of o ≡ nth (map opnd_of (opnds_in m (opnds_at + 2 * r.first) r.count)) q → names j o ≡ names j (opnd_at m (opnds_at + 2 * (insn_at m i).first + 2 * q))
+names_read m i q j {r} o e h is =
+    sym (same_names j o)
+    ∙ (ap (P.same_opnd (P.Insn j)) (is ∙ sym (operand_read m (opnds_at + 2 * r.first) r.count q h refl))
+    ∙ (same_names j (opnd_at m (opnds_at + 2 * r.first + 2 * q)) ∙ ap (λ (x : Row). names j (opnd_at m (opnds_at + 2 * x.first + 2 * q))) e))
+
 -- the users from instruction i + 1 on, and i where it is among the first q operands
-pub record Turning (m : List ℕ) (n i used a : ℕ) (w₀ w : List ℕ) (e q : ℕ) : Type 0 where
-  pub len_same : length w ≡ length w₀
+pub record Turning (m : List ℕ) (n i used : ℕ) (w₀ w : List ℕ) (e q : ℕ) : Type 0 where
   pub len : uses_size ≤ length w
   pub cells : (j : ℕ) → j < n → Cells w e (get_or w j 0) (cons_if (names_to m i q j) i (pick (uses_at m j) (i + 1) (n - (i + 1))))
   pub room : used_to m i + used ≤ e + q
   pub few : e ≤ uses_most
-  pub high : q ≤ used
   pub used_is : used ≡ used_at m i
-  pub place : a ≡ opnds_at + 2 * (insn_at m i).first
 
 pub turn_start : {m : List ℕ} {n i e : ℕ} {w : List ℕ} {r : Row} {k u : ℕ} → r ≡ insn_at m i → k ≡ most_of r.op → u ≡ min r.count k → Linked m n (i + 1) e w
-    → Turning m n i u (opnds_at + 2 * r.first) w w e 0
+    → Turning m n i u w w e 0
 unfolding used_at
 turn_start {m} {n} {i} {e} {w} {r} {k} {u} p y z l =
     let is : u ≡ used_at m i = z ∙ rw (y, p) in
     record {
-      len_same = refl;
       len = l.len;
       cells = λ j h. rw (names-none m i j) (l.cells j h);
       room = omega (arith, l.room, sum_more (used_at m) i);
       few = l.few;
-      high = omega arith;
       used_is = is;
-      place = ap (λ (x : Row). opnds_at + 2 * x.first) p;
     }
 
-module _ {m : List ℕ} {n i used a : ℕ} {w₀ w : List ℕ} {e q : ℕ} (z : Turning m n i used a w₀ w e q) where
-  pub opnd_room : {c : Counts} → ProgramReady m c → i < c.insns → q < used → a + 2 * q + 1 < length m
-  unfolding used_at
-  opnd_room ok h g = omega (arith, z.used_is, z.place, ok.ranges i h, ok.opnds, ok.listed, ok.insns, ok.len_mem)
-
-  module _ (g : q < used) {o : Opnd} (is : o ≡ opnd_at m (a + 2 * q)) where
+module _ {m : List ℕ} {n i used : ℕ} {w₀ w : List ℕ} {e q : ℕ} (z : Turning m n i used w₀ w e q) where
+  module _ (g : q < used) {r : Row} (at_row : r ≡ insn_at m i) (h : q < r.count) (o : Opnd)
+      (is : opnd_of o ≡ nth (map opnd_of (opnds_in m (opnds_at + 2 * r.first) r.count)) q) where
     more : (j : ℕ) → names_to m i (q + 1) j ≡ (names_to m i q j || names j o)
-    more j = names_more m i q j ∙ sym (ap (λ (x : Opnd). names_to m i q j || names j x) (is ∙ ap (λ x. opnd_at m (x + 2 * q)) z.place))
+    more j = names_more m i q j ∙ sym (ap (λ x. names_to m i q j || x) (names_read m i q j o at_row h is))
 
-    same : ((j : ℕ) → j < n → names j o ≡ false) → Turning m n i used a w₀ w e (q + 1)
+    same : ((j : ℕ) → j < n → names j o ≡ false) → Turning m n i used w₀ w e (q + 1)
     same f =
         record {
-          len_same = z.len_same;
           len = z.len;
           cells = λ j h. rw (more j, f j h, or-false (names_to m i q j)) (z.cells j h);
           room = omega (arith, z.room);
           few = z.few;
-          high = omega arith;
           used_is = z.used_is;
-          place = z.place;
         }
 
-    pub turn_const : {k : Kind} → o ≡ Const k → Turning m n i used a w₀ w e (q + 1)
+    pub turn_const : {k : Kind} → o ≡ Const k → Turning m n i used w₀ w e (q + 1)
     turn_const y = same (λ j h. ap (names j) y)
 
-    pub turn_far : {t : InsnId} → o ≡ Insn t → n ≤ t.0 → Turning m n i used a w₀ w e (q + 1)
+    pub turn_far : {t : InsnId} → o ≡ Insn t → n ≤ t.0 → Turning m n i used w₀ w e (q + 1)
     turn_far {t} y f = same (λ j h. ap (names j) y ∙ ne_eqb j t.0 (λ x. omega arith))
 
     linked : {t : InsnId} {w' : List ℕ} {r : ℕ} → o ≡ Insn t → t.0 < n → UsersPut e i t.0 w w' r
@@ -210,10 +219,9 @@ module _ {m : List ℕ} {n i used a : ℕ} {w₀ w : List ℕ} {e q : ℕ} (z : 
         (rw (front-more (names_to m i q t.0) i (uses_at m t.0) (i + 1) (n - (i + 1)) (omega arith)) at
         (p.own (cons_if (names_to m i q t.0) i (pick (uses_at m t.0) (i + 1) (n - (i + 1)))) (z.cells t.0 f)))
 
-    pub turn_link : {t : InsnId} {w' : List ℕ} {r : ℕ} → o ≡ Insn t → t.0 < n → n ≤ instructions_most → UsersPut e i t.0 w w' r → Turning m n i used a w₀ w' r (q + 1)
+    pub turn_link : {t : InsnId} {w' : List ℕ} {r : ℕ} → o ≡ Insn t → t.0 < n → n ≤ instructions_most → UsersPut e i t.0 w w' r → Turning m n i used w₀ w' r (q + 1)
     turn_link {t} {w'} {r} y f b p =
         record {
-          len_same = p.len_same ∙ z.len_same;
           len = omega (arith, z.len, p.len_same);
           cells = λ j h.
               elim (ℕ_discrete j t.0) [
@@ -224,58 +232,31 @@ module _ {m : List ℕ} {n i used a : ℕ} {w₀ w : List ℕ} {e q : ℕ} (z : 
               ];
           room = omega (arith, z.room, p.low);
           few = omega (arith, z.few, p.high);
-          high = omega arith;
           used_is = z.used_is;
-          place = z.place;
         }
 
-    pub link_room : 0 < e
-    link_room = omega (arith, z.room)
-
-  pub turn_done : used ≤ q → i < n → Linked m n i e w
+  pub turn_done : q ≡ used → i < n → Linked m n i e w
   unfolding uses_at
   turn_done g h =
-      let is : q ≡ used_at m i = omega (arith, z.high, z.used_is) in
+      let is : q ≡ used_at m i = omega (arith, z.used_is) in
       record {
         len = z.len;
         cells = λ j l.
             let a : n - i ≡ suc (n - (i + 1)) = omega arith in
             rw (a, pick-suc (uses_at m j) i (n - (i + 1)), ← add-one i) (rw is at (z.cells j l));
-        room = omega (arith, z.room, z.high);
+        room = omega (arith, z.room);
         few = z.few;
       }
 
 -- ---- all instructions
 
-pub record Linking (m : List ℕ) (n : ℕ) (w₀ w : List ℕ) (e i : ℕ) : Type 0 where
-  pub len_same : length w ≡ length w₀
-  pub high : i ≤ n
-  pub linked : Linked m n i e w
-
-pub all_start : {m v w : List ℕ} {c : Counts} → ProgramReady m c → uses_size ≤ length v → ChainsFilled 0 instructions_most uses_most v w → Linking m c.insns w w uses_most c.insns
+pub all_start : {m v w : List ℕ} {c : Counts} → ProgramReady m c → uses_size ≤ length v → ChainsFilled 0 instructions_most uses_most v w → Linked m c.insns c.insns uses_most w
 all_start {m} {v} {w} {c} ok room f =
     record {
-      len_same = refl;
-      high = omega arith;
-      linked = record {
-        len = omega (arith, f.only.len_same);
-        cells = λ j h.
-            let a : 0 + j ≡ j = omega arith in
-            rw (sym (ap (λ k. get_or w k 0) a) ∙ f.here j (omega (arith, ok.insns)), pick_end (uses_at m j) c.insns) (chained_end (at w items_at) (at w links_at) uses_most uses_most);
-        room = used_room ok;
-        few = omega arith;
-      };
+      len = omega (arith, f.only.len_same);
+      cells = λ j h.
+          let a : 0 + j ≡ j = omega arith in
+          rw (sym (ap (λ k. get_or w k 0) a) ∙ f.here j (omega (arith, ok.insns)), pick_end (uses_at m j) c.insns) (chained_end (at w items_at) (at w links_at) uses_most uses_most);
+      room = used_room ok;
+      few = omega arith;
     }
-
-module _ {m : List ℕ} {n : ℕ} {w₀ w : List ℕ} {e i : ℕ} (z : Linking m n w₀ w e i) where
-  pub all-next : 0 < i → Linked m n (i - 1 + 1) e w
-  all-next h = let a : i - 1 + 1 ≡ i = omega arith in rw a z.linked
-
-  pub all_more : {w' : List ℕ} {r : ℕ} → 0 < i → length w' ≡ length w → Linked m n (i - 1) r w' → Linking m n w₀ w' r (i - 1)
-  all_more h s l = record { len_same = s ∙ z.len_same; high = omega (arith, z.high); linked = l }
-
-  pub all_done : i ≤ 0 → Linked m n 0 e w
-  all_done h = let a : i ≡ 0 = omega arith in rw a at z.linked
-
-pub insn_room : {m : List ℕ} {c : Counts} {i : ℕ} {r : Row} → ProgramReady m c → i < c.insns → r ≡ insn_at m i → r.first ≤ uses_most
-insn_room {m} {c} {i} {r} ok h e = let f : r.first ≡ (insn_at m i).first = ap (λ (x : Row). x.first) e in omega (arith, ok.ranges i h, ok.opnds, ok.listed, ok.insns)

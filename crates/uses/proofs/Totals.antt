@@ -35,7 +35,7 @@ use Rattle.uses.specs.Users.{most_of, used_at, sum_to, used_to, names, names_to,
 
 -- ---- the operands of an instruction
 
-same_names : (j : ℕ) (o : Opnd) → P.same_opnd (P.Insn j) (opnd_of o) ≡ names j o
+pub same_names : (j : ℕ) (o : Opnd) → P.same_opnd (P.Insn j) (opnd_of o) ≡ names j o
 same_names j (Const k) = refl
 same_names j (Insn i) = refl
 

@@ -1,5 +1,5 @@
 -- The users of each instruction's result: chains in the work memory, then one after the other. Assumes nothing.
-use Rattle.std.specs.Prelude.{Bool as 𝔹, false, cond, ◌≡◌, List, [], ◌∷◌, ℕ, zero, suc, ◌+◌, ◌-◌, ◌*◌, ◌≤◌, ◌<◌, min, eqb, ltb, length, get_or}
+use Rattle.std.specs.Prelude.{Bool as 𝔹, false, cond, ◌≡◌, Option, Some, None, List, [], ◌∷◌, ℕ, zero, suc, ◌+◌, ◌-◌, ◌*◌, ◌≤◌, ◌<◌, min, eqb, ltb, length, get_or}
 use Rattle.rules.specs.Lists.{any}
 use Rattle.rules.specs.Uses.{uses}
 use Rattle.program.specs.Tab.{tab}
@@ -56,9 +56,9 @@ uses_at m j i = names_to m i (used_at m i) j
 abbrev pub users_of : List ℕ → ℕ → ℕ → List ℕ
 users_of m n j = pick (uses_at m j) 0 n
 
--- the user in a cell; uses_most where there is none
-unfoldable pub first_of : List ℕ → ℕ → ℕ
-first_of w h = cond (ltb h uses_most) (get_or w (items_at + h) 0) uses_most
+-- the user in a cell
+unfoldable pub first_of : List ℕ → ℕ → Option ℕ
+first_of w h = cond (ltb h uses_most) (Some (get_or w (items_at + h) 0)) None
 
 -- a list as a chain of cells, none below e
 abbrev pub Cells : List ℕ → ℕ → ℕ → List ℕ → Type 0

@@ -6,19 +6,22 @@ use mathlib.Core.List.{List, [], ◌∷◌, ◌++◌}
 use native.Mathlib.Decide.{ℕ_discrete, dec_lt}
 use native.Mathlib.Numerals.{add-one}
 use native.Mathlib.Omega.{arith}
-use lib.Dec.{eqb}
 use lib.ListN.{length, get_or, set, replicate, length-set}
 use lib.Seq.{get_or-set_same, get_or-set_other}
-use borrow.Author.Tests.{eqb-false}
+use Rattle.std.proofs.Common.{Bor}
+use Rattle.std.specs.Slice.{IsItemAt}
+use Rattle.std.specs.List.{CopiedTo, SameBelow, SameFrom}
 use Rattle.kinds.specs.Kinds.{kind_from}
 use Rattle.rules.specs.Lists.{same, precedes}
-use Rattle.rules.specs.Program.{Name, Opnd}
-use Rattle.rules.specs.Reading.{Env, lookup, bind}
+use Rattle.rules.specs.Actions.{answered}
+use Rattle.rules.specs.Program.{Limits, Name, Opnd}
+use Rattle.rules.specs.Reading.{Env, Parser, lookup, bind, nil}
+use Rattle.rules.specs.Lists.{or_else}
 use Rattle.lexer.specs.Names.{name}
 use Rattle.lexer.proofs.Texts.{same_eq}
 use Rattle.memory.specs.Layout.{script_most}
 use Rattle.variables.specs.Layout.{bindings_most, entries_most, variables_size, tag_room}
-use Rattle.variables.specs.Scopes.{Above, Sorted, over, env_of}
+use Rattle.variables.specs.Scopes.{Above, Sorted, over, env_of, join_rows}
 use Rattle.variables.proofs.scopes.Order as Order
 use Rattle.variables.proofs.scopes.Order.{impossible, same_self, below_differ, below-same, stands}
 use Rattle.variables.proofs.scopes.Sorted.{above_trans, lookup-here, lookup-on}
@@ -26,19 +29,34 @@ use Rattle.variables.proofs.scopes.Made.{env_sorted, lookup-env}
 use Rattle.variables.proofs.scopes.Joins.{rows-done, rows_left, rows_right, rows_both}
 use Rattle.variables.proofs.scopes.Rows.{RowBelow, below_trans, sorted_below, sorted_rest, bind-at, bind_between}
 use Rattle.variables.specs.Memory.{start_in, length_in, tag_in, name_in, opnd_from, Entry, entry_of, entry, put, binding_in, made, vars, row, Kept}
-use Rattle.variables.specs.Promises.{Packed, Tagged, VariableBinds, BindsAgain, IsAt, VariableFinds, Values, VariableStands, Belongs, Sought, Lifted, Inserts, Leaves, VariablesTurned, latest}
-use Rattle.variables.specs.Promises.{VariablesBlank, Noted, Fills, Since, Notes, Full, VariablePasses, NotesRow, NotesBoth, VariableJoins, Nexts}
-use Rattle.variables.specs.declared.Stored.{Stored}
-use Rattle.variables.specs.declared.FoundVar.{FoundVar}
-use Rattle.variables.specs.declared.FoundVar.TheVariants.{At, Nothing}
-use Rattle.variables.specs.declared.Spot as Spot
-use Rattle.variables.specs.declared.Spot.{Spot}
-use Rattle.variables.specs.declared.Side.{Side}
-use Rattle.variables.specs.declared.Side.TheVariants.{Left, Right, Both, Done}
-use Rattle.variables.specs.declared.Joint.{Joint}
-use Rattle.variables.specs.declared.NextJoin as NextJoin
-use Rattle.variables.specs.declared.NextJoin.{NextJoin}
-use Rattle.variables.proofs.Entries.{put-length, put_this, put_other, kept-all, kept_trans, kept-part, kept_put, made_kept, row_move, row_kept, row_split, row_first, cut}
+use Rattle.std.specs.Prelude.{Some, None, Ok, Err, unwrap_or}
+use Rattle.std.specs.declared.cmp.Ordering.{Ordering}
+use Rattle.std.specs.declared.cmp.Ordering.TheVariants.{Less, Equal, Greater}
+use Rattle.std.specs.declared.option.Option.{Option}
+use Rattle.std.specs.declared.result.Result.{Result}
+use Rattle.variables.specs.Promises.{
+  Packed,
+  Tagged,
+  VariableBinds,
+  BindsAgain,
+  IsAt,
+  VariableFinds,
+  Values,
+  Stands,
+  BothAside,
+  VariableStands,
+  Belongs,
+  Sought,
+  Lifted,
+  Inserts,
+  Leaves,
+  VariablesTurned,
+  latest,
+}
+use Rattle.variables.specs.Promises.{VariablesBlank, Noted, Fills, Since, Notes, Full, VariablePasses, NotesRow, NotesBoth, VariableJoins}
+use Rattle.variables.specs.declared.Rows.{Rows}
+use Rattle.variables.specs.declared.operands.Stored.{Stored}
+use Rattle.variables.proofs.Entries.{put-length, put_this, kept-all, kept_trans, kept-part, kept_put, made_kept, row_move, row_kept, row_split, row_first, cut}
 
 -- ---- names
 
@@ -49,19 +67,34 @@ retagged w t h =
     let b : length_in (w / tag_room * tag_room + t) ≡ length_in w = omega arith in
     record { name = λ s. rw (a, b); tag = omega arith }
 
-module _ (s : List ℕ) {r : Bool} where
-  pub named-is : (w a k : ℕ) {x y : ℕ} → x ≡ start_in w → y ≡ length_in w → r ≡ same (name s x y) (name s a k) → r ≡ same (name_in s w) (name s a k)
-  unfolding name_in
-  named-is w a k p q h = rw (← p, ← q) h
+pub named-is : (s : List ℕ) {r : Bool} (w a k : ℕ) {x y : ℕ} → x ≡ start_in w → y ≡ length_in w → r ≡ same (name s x y) (name s a k) → r ≡ same (name_in s w) (name s a k)
+unfolding name_in
+named-is s w a k p q h = rw (← p, ← q) h
 
-  pub same-is : (v w : ℕ) {x y : ℕ} → x ≡ start_in w → y ≡ length_in w → r ≡ same (name_in s v) (name s x y) → r ≡ same (name_in s v) (name_in s w)
+module _ (s : List ℕ) (v w : ℕ) {a b x y : ℕ} (p : a ≡ start_in v) (q : b ≡ length_in v) (p' : x ≡ start_in w) (q' : y ≡ length_in w)
+    {r : Bool} (e : r ≡ precedes (name s a b) (name s x y)) where
+  before-is : r ≡ precedes (name_in s v) (name_in s w)
   unfolding name_in
-  same-is v w p q h = rw (← p, ← q) h
+  before-is = rw (← p, ← q, ← p', ← q') e
 
-  pub precedes-is : (v w : ℕ) {a b x y : ℕ} → a ≡ start_in v → b ≡ length_in v → x ≡ start_in w → y ≡ length_in w → r ≡ precedes (name s a b) (name s x y)
-      → r ≡ precedes (name_in s v) (name_in s w)
-  unfolding name_in
-  precedes-is v w c d p q h = rw (← c, ← d, ← p, ← q) h
+  pub order_less : r ≡ true → precedes (name_in s v) (name_in s w) ≡ true
+  order_less f = sym before-is ∙ f
+
+  module _ {t : Bool} (u : t ≡ same (name_in s v) (name s x y)) where
+    same-is : t ≡ same (name_in s v) (name_in s w)
+    unfolding name_in
+    same-is = rw (← p', ← q') u
+
+    pub order_equal : t ≡ true → name_in s v ≡ name_in s w
+    order_equal f = same_eq (name_in s v) (name_in s w) (sym same-is ∙ f)
+
+    pub order_greater : r ≡ false → t ≡ false → precedes (name_in s w) (name_in s v) ≡ true
+    order_greater f g = by (stands (name_in s v) (name_in s w))
+      where
+        by : Order.OrderStands (name_in s v) (name_in s w) → precedes (name_in s w) (name_in s v) ≡ true
+        by (Order.before c d h i) = impossible c (sym before-is ∙ f)
+        by (Order.equal c d h) = impossible h (sym same-is ∙ g)
+        by (Order.behind c d h i) = d
 
 -- ---- bindings
 
@@ -87,20 +120,19 @@ binds m n a k t x {m'} {w} h p e = rw e (record {
   aside = put-aside m n w x h;
 })
 
-pub binds_again : (m : List ℕ) (n w t x : ℕ) {m' : List ℕ} {v : ℕ} → (variables_size ≤ length m) × ((n < bindings_most) × (t < tag_room)) → Tagged w t v → m' ≡ put m n v x
+pub binds_again : (m : List ℕ) (n w t x : ℕ) {m' : List ℕ} {v : ℕ} → (variables_size ≤ length m) × (n < bindings_most) → Tagged w t v → m' ≡ put m n v x
     → BindsAgain n w t x m m'
 binds_again m n w t x {m'} {v} h p e =
-    let room : (variables_size ≤ length m) × (n < bindings_most) = (h.0, h.1.0) in
     rw e (record {
       len_same = put-length m n v x;
-      is = λ s. rw (p.name s, p.tag) at (put-vars m n v x room s);
-      old = put-old m n v x room;
-      aside = put-aside m n v x room;
+      is = λ s. rw (p.name s, p.tag) at (put-vars m n v x h s);
+      old = put-old m n v x h;
+      aside = put-aside m n v x h;
     })
 
-pub operand_is : (m : List ℕ) (i : ℕ) {t : ℕ} → (t ≡ tag_in (get_or m i 0)) × (t < tag_room) → IsAt m i (record { tag = t; bits = get_or m (entries_most + i) 0 })
+pub operand_is : (m : List ℕ) (i : ℕ) {t : ℕ} {p : t < tag_room} → (t ≡ tag_in (get_or m i 0)) × (t < tag_room) → IsAt m i (record { tag = t; bits = get_or m (entries_most + i) 0; small = p })
 unfolding entry
-operand_is m i h = record { tag = h.0; bits = refl; small = h.1 }
+operand_is m i h = record { tag = h.0; bits = refl }
 
 -- ---- find, at its loop's head: a lookup in the bindings not yet seen is one in all
 
@@ -120,17 +152,16 @@ module _ {s m : List ℕ} {n : ℕ} {k : Name} {i : ℕ} (g : Finding s m n k i)
       go zero h = absurd (omega arith)
       go (suc j) h = let e : suc j - 1 ≡ j = omega arith in let z : 0 + j ≡ j = omega arith in rw (e, z)
 
-  pub find_none : i ≤ 0 → VariableFinds s m n k Nothing
+  pub find_none : i ≤ 0 → VariableFinds s m n k None
   unfolding made
-  find_none h = record { is = (let e : i ≡ 0 = omega arith in rw e at g.same) ∙ sym (lookup-env k (made s m 0 n)); small = tt }
+  find_none h = record { is = (let e : i ≡ 0 = omega arith in rw e at g.same) ∙ sym (lookup-env k (made s m 0 n)) }
 
-  pub find_hit : {r : Bool} {o : Stored} → 0 < i → r ≡ same (name_in s (get_or m (i - 1) 0)) k → r ≡ true → IsAt m (i - 1) o → VariableFinds s m n k (At o)
+  pub find_hit : {r : Bool} {o : Stored} → 0 < i → r ≡ same (name_in s (get_or m (i - 1) 0)) k → r ≡ true → IsAt m (i - 1) o → VariableFinds s m n k (Some o)
   unfolding entry
   find_hit {r} {o} h e f u =
       let b = binding_in s (entry m (i - 1)) in
       record {
         is = rw (u.tag, u.bits) (sym (lookup-here k b (made s m 0 (i - 1)) (same_eq b.0 k (sym e ∙ f))) ∙ (ap (lookup k) (sym (made-last h)) ∙ (g.same ∙ sym (lookup-env k (made s m 0 n)))));
-        small = u.small;
       }
 
   pub find_more : {r : Bool} → 0 < i → r ≡ same (name_in s (get_or m (i - 1) 0)) k → r ≡ false → Finding s m n k (i - 1)
@@ -141,14 +172,26 @@ module _ {s m : List ℕ} {n : ℕ} {k : Name} {i : ℕ} (g : Finding s m n k i)
 
 -- ---- value
 
-module _ (s m : List ℕ) (n w : ℕ) {a k : ℕ} {r : FoundVar} (p : a ≡ start_in w) (q : k ≡ length_in w) (g : VariableFinds s m n (name s a k) r) where
-  pub value_found : {o : Stored} → r ≡ At o → Values s m n w o
-  unfolding name_in
-  value_found e = record { is = rw (← p, ← q, ← g.is, e); small = rw e at g.small }
+-- the operand nil, as it is stored
+abbrev nil-stored : 1 < tag_room → Stored
+nil-stored p = record { tag = 1; bits = 0; small = p }
 
-  pub value-nil : r ≡ Nothing → Values s m n w (record { tag = 1; bits = 0 })
-  unfolding name_in opnd_from kind_from
-  value-nil e = record { is = rw (← p, ← q, ← g.is, e); small = omega arith }
+module _ (s m : List ℕ) (n w : ℕ) where
+  value_found : {o : Stored} → VariableFinds s m n (name_in s w) (Some o) → Values s m n w o
+  value_found {o} g = record { is = ap (λ z. or_else z nil) g.is }
+
+  value-nil : (p : 1 < tag_room) → VariableFinds s m n (name_in s w) None → Values s m n w (nil-stored p)
+  unfolding opnd_from kind_from
+  value-nil p g = record { is = ap (λ z. or_else z nil) g.is }
+
+  value-either : (p : 1 < tag_room) (r : Option Stored) → VariableFinds s m n (name_in s w) r → Values s m n w (unwrap_or r (nil-stored p))
+  value-either p (Some o) g = value_found g
+  value-either p None g = value-nil p g
+
+  pub value_is : {a k : ℕ} {r : Option Stored} {o : Stored} (p : 1 < tag_room) → a ≡ start_in w → k ≡ length_in w → VariableFinds s m n (name s a k) r
+      → o ≡ unwrap_or r (nil-stored p) → Values s m n w o
+  unfolding name_in
+  value_is {r = r} p e f g h = rw h (value-either p r (rw (e, f) at g))
 
 -- ---- names of a row
 
@@ -200,86 +243,65 @@ pub seek_start : (s m : List ℕ) (lo n w : ℕ) → Seeking s m lo n w 0 n
 unfolding row
 seek_start s m lo n w = record { low = omega arith; high = omega arith; below = (let e : n - n ≡ 0 = omega arith in rw e tt); above = λ z. absurd (omega arith) }
 
-module _ {s m : List ℕ} {lo n w i : ℕ} where
-  sought_at : VariableStands s m lo n w i → Sought s m lo n w (Spot.TheVariants.At i)
-  sought_at g = record { at = λ j e. let f : i ≡ j = cc in rw f at g; new = λ j e. let z : ◌≡◌ {A = ℕ} 0 1 = cc in absurd (omega arith) }
-
-  sought_new : Belongs s m lo n w i → Sought s m lo n w (Spot.TheVariants.New i)
-  sought_new g = record { at = λ j e. (let z : ◌≡◌ {A = ℕ} 0 1 = cc in absurd (omega arith)); new = λ j e. let f : i ≡ j = cc in rw f at g }
-
 module _ {s m : List ℕ} {lo n w a b : ℕ} (g : Seeking s m lo n w a b) where
-  pub seek_none : b ≤ a → Sought s m lo n w (Spot.TheVariants.New a)
-  seek_none h = let e : b ≡ a = omega (arith, g.low) in sought_new (record { inside = omega (arith, g.high); below = rw e at g.below; above = g.above })
+  pub seek_none : b ≤ a → Belongs s m lo n w a
+  seek_none h = let e : b ≡ a = omega (arith, g.low) in record { inside = omega (arith, g.high); below = rw e at g.below; above = g.above }
 
-  module _ {j : ℕ} (h : (a ≤ j) × (j < b)) {r : Bool} (e : r ≡ precedes (name_in s w) (name_in s (get_or m (lo + j) 0))) where
-    pub seek_down : Sorted (row s m lo n) → r ≡ true → Seeking s m lo n w a j
+  module _ {j : ℕ} (h : (a ≤ j) × (j < b)) {r : Ordering} (e : Stands (name_in s w) (name_in s (get_or m (lo + j) 0)) r) where
+    pub seek_down : Sorted (row s m lo n) → r ≡ Less → Seeking s m lo n w a j
     seek_down t f = record {
       low = h.0;
       high = omega (arith, g.high);
-      below = above-row s m w (lo + j) (n - j) (sorted_from s m lo n j (omega (arith, g.high)) t) (omega (arith, g.high)) (sym e ∙ f);
+      below = above-row s m w (lo + j) (n - j) (sorted_from s m lo n j (omega (arith, g.high)) t) (omega (arith, g.high)) (rw f at e);
       above = g.above;
     }
 
-    module _ (f : r ≡ false) {t : Bool} (u : t ≡ same (name_in s (get_or m (lo + j) 0)) (name_in s w)) where
-      pub seek_at : t ≡ true → Sought s m lo n w (Spot.TheVariants.At j)
-      unfolding entry
-      seek_at v = sought_at (record { inside = omega (arith, g.high); is = same_eq _ _ (sym u ∙ v) })
+    pub seek_at : r ≡ Equal → VariableStands s m lo n w j
+    unfolding entry
+    seek_at f = record { inside = omega (arith, g.high); is = sym (rw f at e) }
 
-      pub seek_up : t ≡ false → Seeking s m lo n w (j + 1) b
-      unfolding entry
-      seek_up v = record {
-        low = omega arith;
-        high = g.high;
-        below = g.below;
-        above = λ z. let d : (j + 1) - 1 ≡ j = omega arith in rw d (by (stands (name_in s (get_or m (lo + j) 0)) (name_in s w)));
-      }
-        where
-          by : Order.OrderStands (name_in s (get_or m (lo + j) 0)) (name_in s w) → precedes (name_in s (get_or m (lo + j) 0)) (name_in s w) ≡ true
-          by (Order.before a b c d) = a
-          by (Order.equal a b c) = impossible c (sym u ∙ v)
-          by (Order.behind a b c d) = impossible b (sym e ∙ f)
+    pub seek_up : r ≡ Greater → Seeking s m lo n w (j + 1) b
+    unfolding entry
+    seek_up f = record {
+      low = omega arith;
+      high = g.high;
+      below = g.below;
+      above = λ z. let d : (j + 1) - 1 ≡ j = omega arith in rw d (rw f at e);
+    }
 
--- ---- lift, at its loop's head: the entries from i on have moved
+-- ---- lift: both columns are copied up by one
 
-pub record Lifting (at k : ℕ) (m₀ m : List ℕ) (i : ℕ) : Type 0 where
-  pub high : i ≤ k
-  pub len_same : length m ≡ length m₀
-  pub moved : (j : ℕ) → i ≤ j → j < k → entry m (at + 1 + j) ≡ entry m₀ (at + j)
-  pub low : Kept 0 (at + i + 1) m₀ m
-  pub far : Kept (at + k + 1) entries_most m₀ m
-
-pub lift-start : (at k : ℕ) (m : List ℕ) → Lifting at k m m k
-lift-start at k m = record { high = omega arith; len_same = refl; moved = λ j a b. absurd (omega arith); low = kept-all 0 (at + k + 1) m; far = kept-all (at + k + 1) entries_most m }
-
-module _ {at k : ℕ} {m₀ m : List ℕ} {i : ℕ} (g : Lifting at k m₀ m i) where
-  pub lift-done : i ≤ 0 → Lifted at k m₀ m
-  lift-done h = record {
-    len_same = g.len_same;
-    moved = λ j l. g.moved j (omega arith) l;
-    low = kept-part 0 (at + i + 1) 0 at m₀ m (omega arith) (omega arith) g.low;
-    high = g.far;
-  }
-
-  pub lift-more : {m' : List ℕ} → (variables_size ≤ length m₀) × (at + k < entries_most) → 0 < i
-      → m' ≡ put m ((at + (i - 1)) + 1) (get_or m (at + (i - 1)) 0) (get_or m (entries_most + (at + (i - 1))) 0) → Lifting at k m₀ m' (i - 1)
+module _ (at k : ℕ) (m m₁ m' : List ℕ) (room : (variables_size ≤ length m) × (at + k < entries_most)) where
+  pub lifts : length m₁ ≡ length m → length m' ≡ length m₁
+      → CopiedTo m m₁ at (at + 1) ((at + k) - at) × (SameBelow m m₁ (at + 1) × SameFrom m m₁ ((at + 1) + ((at + k) - at)))
+      → CopiedTo m₁ m' (entries_most + at) ((entries_most + at) + 1) (((entries_most + at) + k) - (entries_most + at))
+      × (SameBelow m₁ m' ((entries_most + at) + 1) × SameFrom m₁ m' (((entries_most + at) + 1) + (((entries_most + at) + k) - (entries_most + at))))
+      → Lifted at k m m'
   unfolding entry
-  lift-more {m'} c h e =
-      let p = at + (i - 1) in
-      let room : p + 1 < entries_most = omega (arith, g.high) in
-      rw e (record {
-        high = omega (arith, g.high);
-        len_same = put-length m (p + 1) (get_or m p 0) (get_or m (entries_most + p) 0) ∙ g.len_same;
-        moved = λ j a b. elim (ℕ_discrete j (i - 1)) [
-          | yes q ↦
-              (let n : at + 1 + j ≡ p + 1 = omega arith in
-              let n' : at + j ≡ p = omega arith in
-              rw (n, n') (put_this m (p + 1) (get_or m p 0) (get_or m (entries_most + p) 0) (omega (arith, g.len_same)) room ∙ g.low.same p (omega arith) (omega arith)))
-          | no q ↦ put_other m (p + 1) (get_or m p 0) (get_or m (entries_most + p) 0) (at + 1 + j) room (omega arith) (λ z. q (omega arith)) ∙ g.moved j (omega arith) b
-        ];
-        low = kept_trans (kept-part 0 (at + i + 1) 0 (at + (i - 1) + 1) m₀ m (omega arith) (omega arith) g.low)
-            (kept_put 0 (at + (i - 1) + 1) m (p + 1) (get_or m p 0) (get_or m (entries_most + p) 0) room (omega arith) (λ j a b z. omega arith));
-        far = kept_trans g.far (kept_put (at + k + 1) entries_most m (p + 1) (get_or m p 0) (get_or m (entries_most + p) 0) room (omega arith) (λ j a b z. omega (arith, g.high)));
-      })
+  lifts len len' c d = record {
+    len_same = len' ∙ len;
+    moved = λ i h.
+        let p : at + ((at + 1 + i) - (at + 1)) ≡ at + i = omega arith in
+        let q : (entries_most + at) + ((entries_most + (at + 1 + i)) - ((entries_most + at) + 1)) ≡ entries_most + (at + i) = omega arith in
+        let a : get_or m' (at + 1 + i) 0 ≡ get_or m (at + i) 0 = d.1.0 (at + 1 + i) 0 (omega arith) ∙ rw p at (c.0 (at + 1 + i) 0 (omega arith) (omega arith)) in
+        let b : get_or m' (entries_most + (at + 1 + i)) 0 ≡ get_or m (entries_most + (at + i)) 0
+        = rw q at (d.0 (entries_most + (at + 1 + i)) 0 (omega arith) (omega arith)) ∙ c.1.1 (entries_most + (at + i)) 0 (omega arith) in
+        rw (a, b);
+    low = record {
+      same = λ i l h.
+          let a : get_or m' i 0 ≡ get_or m i 0 = d.1.0 i 0 (omega arith) ∙ c.1.0 i 0 (omega arith) in
+          let b : get_or m' (entries_most + i) 0 ≡ get_or m (entries_most + i) 0 = d.1.0 (entries_most + i) 0 (omega arith) ∙ c.1.1 (entries_most + i) 0 (omega arith) in
+          rw (a, b);
+      beyond = λ i h. d.1.1 i 0 (omega arith) ∙ c.1.1 i 0 (omega arith);
+    };
+    high = record {
+      same = λ i l h.
+          let a : get_or m' i 0 ≡ get_or m i 0 = d.1.0 i 0 (omega arith) ∙ c.1.1 i 0 (omega arith) in
+          let b : get_or m' (entries_most + i) 0 ≡ get_or m (entries_most + i) 0 = d.1.1 (entries_most + i) 0 (omega arith) ∙ c.1.1 (entries_most + i) 0 (omega arith) in
+          rw (a, b);
+      beyond = λ i h. d.1.1 i 0 (omega arith) ∙ c.1.1 i 0 (omega arith);
+    };
+  }
 
 -- ---- insert
 
@@ -306,9 +328,9 @@ below_row s m lo n w (suc i) sorted g =
     (below_append (row s m lo i) y (name_in s w) (below_trans (row s m lo i) y.0 (name_in s w) (sorted_below (row s m lo i) y (row s m (lo + i + 1) (n - i - 1)) t) up) up)
 
 module _ (s : List ℕ) (lo n w x : ℕ) (m : List ℕ) (room : (variables_size ≤ length m) × (lo + n < entries_most)) (sorted : Sorted (row s m lo n)) where
-  pub insert_at : {r : Spot} (j : ℕ) (m' : List ℕ) → Sought s m lo n w r → r ≡ Spot.TheVariants.At j → m' ≡ put m (lo + j) w x → Inserts s lo n w x m m' n
+  pub insert_at : {r : Result ℕ ℕ} (j : ℕ) (m' : List ℕ) → Sought s m lo n w r → r ≡ Ok j → m' ≡ put m (lo + j) w x → Inserts s lo n w x m m' n
   insert_at j m' sought o e =
-      let g = sought.at j o in
+      let g : VariableStands s m lo n w j = rw o at sought in
       let in_row : j < n = g.inside in
       let p = put m (lo + j) w x in
       let front : row s p lo j ≡ row s m lo j
@@ -328,10 +350,10 @@ module _ (s : List ℕ) (lo n w x : ℕ) (m : List ℕ) (room : (variables_size 
         low = kept_put 0 lo m (lo + j) w x (omega arith) (omega arith) (λ i a b z. omega arith);
       })
 
-  pub insert_new : {r : Spot} (i : ℕ) (m1 m' : List ℕ) → Sought s m lo n w r → r ≡ Spot.TheVariants.New i → Lifted (lo + i) (n - i) m m1 → m' ≡ put m1 (lo + i) w x
+  pub insert_new : {r : Result ℕ ℕ} (i : ℕ) (m1 m' : List ℕ) → Sought s m lo n w r → r ≡ Err i → Lifted (lo + i) (n - i) m m1 → m' ≡ put m1 (lo + i) w x
       → Inserts s lo n w x m m' (n + 1)
   insert_new i m1 m' sought o l e =
-      let g = sought.new i o in
+      let g : Belongs s m lo n w i = rw o at sought in
       let in_row : i ≤ n = g.inside in
       let len1 : length m1 ≡ length m = l.len_same in
       let p = put m1 (lo + i) w x in
@@ -456,19 +478,11 @@ noted-blank s m lo n f = record { is = λ p a b c. f.is (p - bindings_most) }
 fills-none : (lo n : ℕ) (g : List ℕ) → Fills lo n g g
 fills-none lo n g = record { len_same = refl; more = λ i e. e; before = λ p a b. refl; behind = λ p a. refl }
 
-fills_trans : {lo n : ℕ} {g g' g'' : List ℕ} → Fills lo n g g' → Fills lo n g' g'' → Fills lo n g g''
-fills_trans e f = record {
-  len_same = f.len_same ∙ e.len_same;
-  more = λ i z. e.more i (f.more i z);
-  before = λ p a b. f.before p a b ∙ e.before p a b;
-  behind = λ p a. f.behind p a ∙ e.behind p a;
-}
-
 abbrev name-at : List ℕ → List ℕ → ℕ → Name
 name-at s m p = name_in s (entry m p).word
 
-module _ {s m : List ℕ} {lo n i : ℕ} (g : List ℕ) (room : (variables_size ≤ length m) × ((bindings_most ≤ length g) × (i < entries_most))) (place : (bindings_most ≤ lo) × (lo + n ≤ entries_most))
-    (sorted : Sorted (row s m lo n)) {r : Spot} (u : Sought s m lo n (get_or m i 0) r) where
+module _ (s m : List ℕ) (lo n i : ℕ) (g : List ℕ) (room : (bindings_most ≤ length g) × (i < entries_most)) (low : bindings_most ≤ lo) (inside : lo + n ≤ entries_most)
+    (sorted : Sorted (row s m lo n)) (r : Result ℕ ℕ) (u : Sought s m lo n (get_or m i 0) r) where
   -- an entry whose name binding i has not
   other : (base p : ℕ) → Since s m base (i + 1) lo n g → lo ≤ p → p < lo + n → same (name_in s (get_or m i 0)) (name-at s m p) ≡ false → i < latest s m (name-at s m p) base
       → get_or g (p - bindings_most) 0 ≡ latest s m (name-at s m p) base
@@ -477,10 +491,10 @@ module _ {s m : List ℕ} {lo n i : ℕ} (g : List ℕ) (room : (variables_size 
     | no z ↦ f.noted p a b (omega arith)
   ]
 
-  pub note_new : {j : ℕ} → r ≡ Spot.TheVariants.New j → Notes s m i lo n g g
+  pub note_new : {j : ℕ} → r ≡ Err j → Notes s m i lo n g g
   note_new {j} o =
       let w = get_or m i 0 in
-      let bl = u.new j o in
+      let bl : Belongs s m lo n (get_or m i 0) j = rw o at u in
       let j-in : j ≤ n = bl.inside in
       record {
         fills = fills-none lo n g;
@@ -493,15 +507,18 @@ module _ {s m : List ℕ} {lo n i : ℕ} (g : List ℕ) (room : (variables_size 
         };
       }
 
-  module _ {j : ℕ} (o : r ≡ Spot.TheVariants.At j) where
+  module _ {j : ℕ} (o : r ≡ Ok j) where
+    found : VariableStands s m lo n (get_or m i 0) j
+    found = rw o at u
+
     at_in : j < n
-    at_in = (u.at j o).inside
+    at_in = found.inside
 
     this : (base : ℕ) → i < base → i < latest s m (name-at s m (lo + j)) base
-    this base l = latest-least s m (name-at s m (lo + j)) base i l (rw (u.at j o).is (same_self (name_in s (get_or m i 0))))
+    this base l = latest-least s m (name-at s m (lo + j)) base i l (rw found.is (same_self (name_in s (get_or m i 0))))
 
     apart : (p : ℕ) → lo ≤ p → p < lo + n → (p ≡ lo + j → ⊥) → same (name_in s (get_or m i 0)) (name-at s m p) ≡ false
-    apart p a b z = rw (← (u.at j o).is) (elim (dec_lt p (lo + j)) [
+    apart p a b z = rw (← found.is) (elim (dec_lt p (lo + j)) [
       | yes y ↦ below_differ (name-at s m p) (name-at s m (lo + j)) (rising s m lo n p (lo + j) sorted a y (omega (arith, at_in)))
       | no y ↦ below-same (name-at s m (lo + j)) (name-at s m p) (rising s m lo n (lo + j) p sorted (omega arith) (omega arith) b)
     ])
@@ -561,21 +578,6 @@ module _ {s m : List ℕ} {lo n i : ℕ} (g : List ℕ) (room : (variables_size 
         };
       }
 
-module _ (g : List ℕ) (lo n u : ℕ) (room : (bindings_most ≤ length g) × ((bindings_most ≤ lo) × ((lo + n ≤ entries_most) × (u < n)))) where
-  pub pass-none : VariablePasses g lo n u u
-  pass-none = record { high = omega arith; full = λ f. f }
-
-  pub pass_one : (get_or g (lo - bindings_most + u) 0 ≡ 0 → ⊥) → VariablePasses g lo n u (u + 1)
-  pass_one v = record {
-    high = omega arith;
-    full = λ f. record {
-      is = λ p a b z. elim (ℕ_discrete p (lo + u)) [
-        | yes y ↦ (let d : p - bindings_most ≡ lo - bindings_most + u = omega arith in v (rw d at z))
-        | no y ↦ f.is p a (omega arith) z
-      ];
-    };
-  }
-
 -- note_row, at its loop's head: the bindings from i on are noted, and the first u entries have notes
 pub record Noting (s m : List ℕ) (base lo n : ℕ) (g₀ : List ℕ) (i u : ℕ) (g : List ℕ) : Type 0 where
   pub high : i ≤ base
@@ -584,9 +586,9 @@ pub record Noting (s m : List ℕ) (base lo n : ℕ) (g₀ : List ℕ) (i u : �
   pub fills : Fills lo n g₀ g
   pub is : Since s m base i lo n g
 
-pub noting_start : {s m g : List ℕ} {lo n : ℕ} (base : ℕ) → (bindings_most ≤ lo) × (lo + n ≤ entries_most) → bindings_most ≤ length g → Noted s m 0 lo n g → Noting s m base lo n g base 0 g
+pub noting_start : {s m g : List ℕ} {lo n : ℕ} (base : ℕ) → bindings_most ≤ lo → lo + n ≤ entries_most → bindings_most ≤ length g → Noted s m 0 lo n g → Noting s m base lo n g base 0 g
 unfolding latest
-noting_start {s} {m} {g} {lo} {n} base place room f = record {
+noting_start {s} {m} {g} {lo} {n} base low inside room f = record {
   high = omega arith;
   up = omega arith;
   full = record { is = λ p a b. absurd (omega arith) };
@@ -597,41 +599,7 @@ noting_start {s} {m} {g} {lo} {n} base place room f = record {
   };
 }
 
-module _ {s m : List ℕ} {base lo n : ℕ} {g₀ : List ℕ} {i u : ℕ} {g : List ℕ} (h : Noting s m base lo n g₀ i u g) where
-  pub noting_more : {g' : List ℕ} {v : ℕ} → 0 < i → Notes s m (i - 1) lo n g g' → VariablePasses g' lo n u v → Noting s m base lo n g₀ (i - 1) v g'
-  noting_more l f e =
-      let d : (i - 1) + 1 ≡ i = omega arith in
-      record {
-        high = omega (arith, h.high);
-        up = e.high;
-        full = e.full (record { is = λ p a b z. h.full.is p a b (f.fills.more (p - bindings_most) z) });
-        fills = fills_trans h.fills f.fills;
-        is = f.is base (omega (arith, h.high)) (rw d h.is);
-      }
-
-  pub noting_all : u ≡ n → NotesRow s m base lo n g₀ g
-  noting_all e = record {
-    fills = h.fills;
-    is = record {
-      is = λ p a b c. elim (dec_lt i (latest s m (name_in s (entry m p).word) base)) [
-        | yes y ↦ h.is.noted p a b y
-        | no y ↦ absurd (h.full.is p a (omega arith) (h.is.blank p a b (omega arith)))
-      ];
-    };
-  }
-
-  pub noting_done : i ≤ 0 → NotesRow s m base lo n g₀ g
-  noting_done e = record {
-    fills = h.fills;
-    is = record {
-      is = λ p a b c. elim (dec_lt 0 (latest s m (name_in s (entry m p).word) base)) [
-        | yes y ↦ h.is.noted p a b (omega arith)
-        | no y ↦ h.is.blank p a b (omega arith) ∙ (let d : 0 ≡ latest s m (name_in s (entry m p).word) base = omega arith in d)
-      ];
-    };
-  }
-
-module _ {s m : List ℕ} {base lo n hi k : ℕ} {g g1 : List ℕ} (place : (bindings_most ≤ lo) × ((lo + n ≤ hi) × (hi + k ≤ script_most)))
+module _ {s m : List ℕ} {base lo n hi k : ℕ} {g g1 : List ℕ} (low : bindings_most ≤ lo) (inside : hi + k ≤ entries_most) (apart : lo + n ≤ hi)
     (blank : VariablesBlank g) (f : NotesRow s m base lo n g g1) where
   pub note_second : Noted s m 0 hi k g1
   unfolding latest
@@ -645,6 +613,10 @@ module _ {s m : List ℕ} {base lo n hi k : ℕ} {g g1 : List ℕ} (place : (bin
 
 -- ---- value_at
 
+-- what `get` lends at a place that there is
+pub item-is : (g : List ℕ) (q : ℕ) (x : Bor ℕ) → IsItemAt g q (Some x) → (q < length g) × (x.now ≡ get_or g q 0)
+item-is g q x f = (f.3.0, f.4 (omega arith) 0)
+
 module _ {s m : List ℕ} {n p : ℕ} {g : List ℕ} (f : Noted s m n p 1 g) (h : p - bindings_most < length g) {i : ℕ} (e : i ≡ get_or g (p - bindings_most) 0) where
   noted-is : i ≡ latest s m (name_in s (entry m p).word) n
   noted-is = e ∙ f.is p (omega arith) (omega arith) h
@@ -655,13 +627,11 @@ module _ {s m : List ℕ} {n p : ℕ} {g : List ℕ} (f : Noted s m n p 1 g) (h 
   pub noted-low : n ≤ entries_most → i - 1 < entries_most
   noted-low h = omega (arith, noted-latest.finding.high)
 
-  pub value_none : i ≡ 0 → Values s m n (entry m p).word (record { tag = 1; bits = 0 })
-  unfolding name_in
-  value_none z = value-nil s m n (entry m p).word refl refl (find_none noted-latest.finding (omega arith)) refl
+  pub value_none : (b : 1 < tag_room) → i ≡ 0 → Values s m n (entry m p).word (nil-stored b)
+  value_none b z = value-nil s m n (entry m p).word b (find_none noted-latest.finding (omega arith))
 
   pub value-noted : {o : Stored} → (i ≡ 0 → ⊥) → IsAt m (i - 1) o → Values s m n (entry m p).word o
-  unfolding name_in
-  value-noted z u = value_found s m n (entry m p).word refl refl (find_hit noted-latest.finding (omega arith) refl (noted-latest.same (omega arith)) u) refl
+  value-noted z u = value_found s m n (entry m p).word (find_hit noted-latest.finding (omega arith) refl (noted-latest.same (omega arith)) u)
 
 pub value_looked : {s : List ℕ} {n : ℕ} {o : Stored} (m : List ℕ) (p : ℕ) → Values s m n (get_or m p 0) o → Values s m n (entry m p).word o
 unfolding entry
@@ -669,137 +639,79 @@ value_looked m p f = f
 
 -- ---- turn
 
-number : Side → ℕ
-number Left = 0
-number Right = 1
-number Both = 2
-number Done = 3
-
--- two sides that are not one
-no_side : {A : Type 0} (a b : Side) → eqb (number a) (number b) ≡ false → a ≡ b → A
-no_side a b f e = absurd (eqb-false (number a) (number b) f (ap number e))
-
 module _ (s m : List ℕ) (lo n hi k : ℕ) (sorted : Sorted (row s m lo n) × Sorted (row s m hi k)) where
-  is-left : (0 < n) × Above (name_in s (entry m lo).word) (row s m hi k) → VariablesTurned s m lo n hi k Left
-  unfolding number
-  is-left g = record { left = λ e. g; right = no_side Left Right refl; both = no_side Left Both refl; done = no_side Left Done refl }
-
-  is_right : (0 < k) × Above (name_in s (entry m hi).word) (row s m lo n) → VariablesTurned s m lo n hi k Right
-  unfolding number
-  is_right g = record { left = no_side Right Left refl; right = λ e. g; both = no_side Right Both refl; done = no_side Right Done refl }
-
-  pub turn_done : n ≡ 0 → k ≡ 0 → VariablesTurned s m lo n hi k Done
-  unfolding number
-  turn_done p q = record { left = no_side Done Left refl; right = no_side Done Right refl; both = no_side Done Both refl; done = λ e. (p, q) }
-
-  pub turn_right-only : n ≡ 0 → (k ≡ 0 → ⊥) → VariablesTurned s m lo n hi k Right
+  pub turn_right-only : n ≡ 0 → (k ≡ 0 → ⊥) → VariablesTurned s m lo n hi k (Some Greater)
   unfolding row
-  turn_right-only p q = is_right (omega arith, rw p tt)
+  turn_right-only p q = (omega arith, rw p tt)
 
-  pub turn_left-only : (n ≡ 0 → ⊥) → k ≡ 0 → VariablesTurned s m lo n hi k Left
+  pub turn_left-only : (n ≡ 0 → ⊥) → k ≡ 0 → VariablesTurned s m lo n hi k (Some Less)
   unfolding row
-  turn_left-only p q = is-left (omega arith, rw q tt)
+  turn_left-only p q = (omega arith, rw q tt)
 
-  module _ {r : Bool} (p : n ≡ 0 → ⊥) (q : k ≡ 0 → ⊥) (e : r ≡ precedes (name_in s (get_or m lo 0)) (name_in s (get_or m hi 0))) where
-    pub turn_left : r ≡ true → VariablesTurned s m lo n hi k Left
+  module _ (p : n ≡ 0 → ⊥) (q : k ≡ 0 → ⊥) where
+    pub turn_both : (r : Ordering) → Stands (name_in s (get_or m lo 0)) (name_in s (get_or m hi 0)) r → VariablesTurned s m lo n hi k (Some r)
     unfolding entry
-    turn_left f = is-left (omega arith, above-row s m (get_or m lo 0) hi k sorted.1 (omega arith) (sym e ∙ f))
-
-    module _ (f : r ≡ false) {t : Bool} (u : t ≡ precedes (name_in s (get_or m hi 0)) (name_in s (get_or m lo 0))) where
-      pub turn_right : t ≡ true → VariablesTurned s m lo n hi k Right
-      unfolding entry
-      turn_right v = is_right (omega arith, above-row s m (get_or m hi 0) lo n sorted.0 (omega arith) (sym u ∙ v))
-
-      pub turn_both : t ≡ false → VariablesTurned s m lo n hi k Both
-      unfolding entry number
-      turn_both v = record {
-        left = no_side Both Left refl;
-        right = no_side Both Right refl;
-        both = λ z. (omega arith, (omega arith, by (stands (name_in s (get_or m lo 0)) (name_in s (get_or m hi 0)))));
-        done = no_side Both Done refl;
-      }
-        where
-          by : Order.OrderStands (name_in s (get_or m lo 0)) (name_in s (get_or m hi 0)) → name_in s (get_or m lo 0) ≡ name_in s (get_or m hi 0)
-          by (Order.before a b c d) = impossible a (sym e ∙ f)
-          by (Order.equal a b c) = a
-          by (Order.behind a b c d) = impossible b (sym u ∙ v)
+    turn_both Less e = (omega arith, above-row s m (get_or m lo 0) hi k sorted.1 (omega arith) e)
+    turn_both Equal e = (omega arith, (omega arith, e))
+    turn_both Greater e = (omega arith, above-row s m (get_or m hi 0) lo n sorted.0 (omega arith) e)
 
 -- ---- next_join
 
-no_next : {A : Type 0} {x : Joint} → NextJoin.TheVariants.Join x ≡ NextJoin.TheVariants.Done → A
-no_next e = let z : ◌≡◌ {A = ℕ} 0 1 = cc in absurd (omega arith)
+pub both_sorted : {s m : List ℕ} (x : Rows) → BothAside s m x → Sorted (row s m x.left.lo x.left.len) × Sorted (row s m x.right.lo x.right.len)
+both_sorted x a = (a.left.lies.sorted, a.right.lies.sorted)
 
-next-is : {s m : List ℕ} {base lo n hi k : ℕ} (x : Joint) → VariableJoins s m base lo n hi k x → Nexts s m base lo n hi k (NextJoin.TheVariants.Join x)
-next-is x g = record { done = no_next; join = λ y e. let f : x ≡ y = cc in rw f at g }
-
-module _ (s m : List ℕ) (base lo n hi k : ℕ) (sorted : Sorted (row s m lo n) × Sorted (row s m hi k)) {r : Side} (g : VariablesTurned s m lo n hi k r) where
+module _ (s m : List ℕ) where
   abbrev first : ℕ → Name × Opnd
   first i = binding_in s (entry m i)
 
   stay : (lo n : ℕ) → row s m (lo + 0) (n - 0) ≡ row s m lo n
   stay lo n = let a : lo + 0 ≡ lo = omega arith in let b : n - 0 ≡ n = omega arith in rw (a, b)
 
-  pub noted-left : {t : List ℕ} → r ≡ Left → NotesBoth s m base lo n hi k t → Noted s m base lo 1 t
-  noted-left e f = record { is = λ p a b. f.left.is p a (omega (arith, (g.left e).0)) }
-
-  pub noted-right : {t : List ℕ} → r ≡ Right → NotesBoth s m base lo n hi k t → Noted s m base hi 1 t
-  noted-right e f = record { is = λ p a b. f.right.is p a (omega (arith, (g.right e).0)) }
-
-  pub next-left : {o v : Stored} → r ≡ Left → IsAt m lo o → Values s m base (entry m lo).word v
-      → Nexts s m base lo n hi k (NextJoin.TheVariants.Join (record { word = get_or m lo 0; left = o; right = v; lefts = 1; rights = 0 }))
+module _ (s m : List ℕ) (base lo n hi k : ℕ) (sorted : Sorted (row s m lo n) × Sorted (row s m hi k)) where
+  pub next-left : {o v : Stored} → VariablesTurned s m lo n hi k (Some Less) → IsAt m lo o → Values s m base (entry m lo).word v
+      → VariableJoins s m base lo n hi k (record { word = get_or m lo 0; left = o; right = v; lefts = 1; rights = 0 })
   unfolding entry
-  next-left {o} {v} e u w =
-      let f = g.left e in
+  next-left {o} {v} f u w =
       let h : 0 < n = f.0 in
-      next-is _ (record {
+      record {
         lefts = h;
         rights = omega arith;
         some = omega arith;
-        left = u.small;
-        right = w.small;
         is = λ L b c st.
-            rw (row_first s m lo n h, stay hi k, u.tag, u.bits, w.is)
-            (rows_left L b c (vars s m base) (first lo) (row s m (lo + 1) (n - 1)) (row s m hi k) st (rest-above s m lo n sorted.0 h) f.1);
-      })
+            rw (row_first s m lo n h, stay s m hi k, u.tag, u.bits, w.is)
+            (rows_left L b c (vars s m base) (first s m lo) (row s m (lo + 1) (n - 1)) (row s m hi k) st (rest-above s m lo n sorted.0 h) f.1);
+      }
 
-  pub next-right : {o v : Stored} → r ≡ Right → Values s m base (entry m hi).word v → IsAt m hi o
-      → Nexts s m base lo n hi k (NextJoin.TheVariants.Join (record { word = get_or m hi 0; left = v; right = o; lefts = 0; rights = 1 }))
+  pub next-right : {o v : Stored} → VariablesTurned s m lo n hi k (Some Greater) → Values s m base (entry m hi).word v → IsAt m hi o
+      → VariableJoins s m base lo n hi k (record { word = get_or m hi 0; left = v; right = o; lefts = 0; rights = 1 })
   unfolding entry
-  next-right {o} {v} e w u =
-      let f = g.right e in
+  next-right {o} {v} f w u =
       let h : 0 < k = f.0 in
-      next-is _ (record {
+      record {
         lefts = omega arith;
         rights = h;
         some = omega arith;
-        left = w.small;
-        right = u.small;
         is = λ L b c st.
-            rw (row_first s m hi k h, stay lo n, u.tag, u.bits, w.is)
-            (rows_right L b c (vars s m base) (first hi) (row s m lo n) (row s m (hi + 1) (k - 1)) st f.1 (rest-above s m hi k sorted.1 h));
-      })
+            rw (row_first s m hi k h, stay s m lo n, u.tag, u.bits, w.is)
+            (rows_right L b c (vars s m base) (first s m hi) (row s m lo n) (row s m (hi + 1) (k - 1)) st f.1 (rest-above s m hi k sorted.1 h));
+      }
 
-  pub next_both : {o v : Stored} → r ≡ Both → IsAt m lo o → IsAt m hi v
-      → Nexts s m base lo n hi k (NextJoin.TheVariants.Join (record { word = get_or m lo 0; left = o; right = v; lefts = 1; rights = 1 }))
+  pub next_both : {o v : Stored} → VariablesTurned s m lo n hi k (Some Equal) → IsAt m lo o → IsAt m hi v
+      → VariableJoins s m base lo n hi k (record { word = get_or m lo 0; left = o; right = v; lefts = 1; rights = 1 })
   unfolding entry
-  next_both {o} {v} e u w =
-      let f = g.both e in
+  next_both {o} {v} f u w =
       let h : 0 < n = f.0 in
       let h' : 0 < k = f.1.0 in
-      next-is _ (record {
+      record {
         lefts = h;
         rights = h';
         some = omega arith;
-        left = u.small;
-        right = w.small;
         is = λ L b c st.
             rw (row_first s m lo n h, row_first s m hi k h', u.tag, u.bits, w.tag, w.bits)
-            (rows_both L b c (vars s m base) (first lo) (first hi) (row s m (lo + 1) (n - 1)) (row s m (hi + 1) (k - 1)) st f.1.1
+            (rows_both L b c (vars s m base) (first s m lo) (first s m hi) (row s m (lo + 1) (n - 1)) (row s m (hi + 1) (k - 1)) st f.1.1
             (rest-above s m lo n sorted.0 h) (rw f.1.1 (rest-above s m hi k sorted.1 h')));
-      })
+      }
 
-  pub next-done : r ≡ Done → Nexts s m base lo n hi k NextJoin.TheVariants.Done
+  pub next-done : VariablesTurned s m lo n hi k None → (L : Limits) (b c : ℕ) (st : Parser) → join_rows L b c (vars s m base) (row s m lo n) (row s m hi k) st ≡ answered (tt, st)
   unfolding row
-  next-done e =
-      let f = g.done e in
-      record { done = λ z L b c st. rw (f.0, f.1) (rows-done L b c (vars s m base) st); join = λ x z. no_next (sym z) }
+  next-done f L b c st = rw (f.0, f.1) (rows-done L b c (vars s m base) st)

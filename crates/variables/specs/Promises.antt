@@ -1,24 +1,22 @@
 -- What each function promises. Assumes nothing.
-use Rattle.std.specs.Prelude.{true, cond, ◌≡◌, List, ℕ, zero, suc, ◌+◌, ◌-◌, ◌≤◌, ◌<◌, length, get_or}
-use Rattle.std.proofs.Math.Option.{Option, none, some}
+use Rattle.std.specs.Prelude.{true, cond, ◌≡◌, List, ℕ, zero, suc, ◌+◌, ◌-◌, ◌≤◌, ◌<◌, length, get_or, Some, None, MatchOption, MatchResult}
+use Rattle.std.specs.declared.cmp.Ordering.{Ordering}
+use Rattle.std.specs.declared.cmp.Ordering.TheVariants.{Less, Equal, Greater}
+use Rattle.std.specs.declared.option.Option.{Option}
+use Rattle.std.specs.declared.result.Result.{Result}
+use Rattle.std.proofs.Math.Option as M
 use Rattle.rules.specs.Lists.{same, precedes}
 use Rattle.rules.specs.Program.{Limits, Name, Opnd}
 use Rattle.rules.specs.Actions.{answered, if_answered}
 use Rattle.rules.specs.Reading.{Parser, lookup, bind, value_or_nil}
 use Rattle.lexer.specs.Names.{name}
 use Rattle.variables.specs.Layout.{bindings_most, entries_most}
-use Rattle.variables.specs.Scopes.{env_of, Above, join_one, join_rows}
+use Rattle.variables.specs.Scopes.{env_of, Above, Sorted, join_one, join_rows}
 use Rattle.variables.specs.Memory.{start_in, length_in, tag_in, name_in, opnd_from, entry, made, vars, row, Kept}
-use Rattle.variables.specs.declared.FoundVar.{FoundVar}
-use Rattle.variables.specs.declared.FoundVar.TheVariants.{At, Nothing}
-use Rattle.variables.specs.declared.Stored.{Stored}
-use Rattle.variables.specs.declared.Spot as Spot
-use Rattle.variables.specs.declared.Spot.{Spot}
-use Rattle.variables.specs.declared.Side.{Side}
-use Rattle.variables.specs.declared.Side.TheVariants.{Left, Right, Both, Done}
 use Rattle.variables.specs.declared.Joint.{Joint}
-use Rattle.variables.specs.declared.NextJoin as NextJoin
-use Rattle.variables.specs.declared.NextJoin.{NextJoin}
+use Rattle.variables.specs.declared.Row.{Row}
+use Rattle.variables.specs.declared.Rows.{Rows}
+use Rattle.variables.specs.declared.operands.Stored.{Stored}
 
 pub record Packed (a k t w : ℕ) : Type 0 where
   pub start : start_in w ≡ a
@@ -46,27 +44,40 @@ pub record BindsAgain (n w t x : ℕ) (m m' : List ℕ) : Type 0 where
 pub record IsAt (m : List ℕ) (i : ℕ) (r : Stored) : Type 0 where
   pub tag : r.tag ≡ tag_in (entry m i).word
   pub bits : r.bits ≡ (entry m i).payload
-  pub small : r.tag < 16
 
 abbrev pub opnd_of : Stored → Opnd
 opnd_of o = opnd_from o.tag o.bits
 
-abbrev pub found_of : FoundVar → Option Opnd
-found_of (At o) = some (opnd_of o)
-found_of Nothing = none
-
-abbrev pub SmallTag : FoundVar → Type 0
-SmallTag (At o) = o.tag < 16
-SmallTag Nothing = Unit {0}
+abbrev pub found_of : Option Stored → M.Option Opnd
+found_of (Some o) = M.some (opnd_of o)
+found_of None = M.none
 
 -- what the rules' lookup gives
-pub record VariableFinds (s m : List ℕ) (n : ℕ) (k : Name) (r : FoundVar) : Type 0 where
+pub record VariableFinds (s m : List ℕ) (n : ℕ) (k : Name) (r : Option Stored) : Type 0 where
   pub is : found_of r ≡ lookup k (vars s m n)
-  pub small : SmallTag r
 
 pub record Values (s m : List ℕ) (n w : ℕ) (r : Stored) : Type 0 where
   pub is : opnd_of r ≡ value_or_nil (name_in s w) (vars s m n)
-  pub small : r.tag < 16
+
+-- the rules' order of two names
+abbrev pub Stands : Name → Name → Ordering → Type 0
+Stands v w Less = precedes v w ≡ true
+Stands v w Equal = v ≡ w
+Stands v w Greater = precedes w v ≡ true
+
+-- the row's entries are entries of the columns, their names rising
+pub record Lies (s m : List ℕ) (r : Row) : Type 0 where
+  pub inside : r.lo + r.len ≤ entries_most
+  pub sorted : Sorted (row s m r.lo r.len)
+
+-- they stand behind the bindings
+pub record Aside (s m : List ℕ) (r : Row) : Type 0 where
+  pub low : bindings_most ≤ r.lo
+  pub lies : Lies s m r
+
+pub record BothAside (s m : List ℕ) (x : Rows) : Type 0 where
+  pub left : Aside s m x.left
+  pub right : Aside s m x.right
 
 -- the name stands at j, or belongs to i: it is below all from i on, and above the one before
 pub record VariableStands (s m : List ℕ) (lo n w j : ℕ) : Type 0 where
@@ -78,9 +89,8 @@ pub record Belongs (s m : List ℕ) (lo n w i : ℕ) : Type 0 where
   pub below : Above (name_in s w) (row s m (lo + i) (n - i))
   pub above : 0 < i → precedes (name_in s (entry m (lo + (i - 1))).word) (name_in s w) ≡ true
 
-pub record Sought (s m : List ℕ) (lo n w : ℕ) (r : Spot) : Type 0 where
-  pub at : (j : ℕ) → r ≡ Spot.TheVariants.At j → VariableStands s m lo n w j
-  pub new : (i : ℕ) → r ≡ Spot.TheVariants.New i → Belongs s m lo n w i
+abbrev pub Sought : List ℕ → List ℕ → ℕ → ℕ → ℕ → Result ℕ ℕ → Type 0
+Sought s m lo n w r = MatchResult r (VariableStands s m lo n w) (Belongs s m lo n w)
 
 pub record Lifted (at k : ℕ) (m m' : List ℕ) : Type 0 where
   pub len_same : length m' ≡ length m
@@ -102,12 +112,12 @@ pub record Leaves (s : List ℕ) (mark k to : ℕ) (m m' : List ℕ) (r : ℕ) :
   pub less : r ≤ k
   pub low : Kept 0 to m m'
 
--- the row that the side names has a name below all of the other, or both have one name first
-pub record VariablesTurned (s m : List ℕ) (lo n hi k : ℕ) (r : Side) : Type 0 where
-  pub left : r ≡ Left → (0 < n) × Above (name_in s (entry m lo).word) (row s m hi k)
-  pub right : r ≡ Right → (0 < k) × Above (name_in s (entry m hi).word) (row s m lo n)
-  pub both : r ≡ Both → (0 < n) × ((0 < k) × (name_in s (entry m lo).word ≡ name_in s (entry m hi).word))
-  pub done : r ≡ Done → (n ≡ 0) × (k ≡ 0)
+-- the name that one row has first is below all of the other, or both have one name first
+abbrev pub VariablesTurned : List ℕ → List ℕ → ℕ → ℕ → ℕ → ℕ → Option Ordering → Type 0
+VariablesTurned s m lo n hi k (Some Less) = (0 < n) × Above (name_in s (entry m lo).word) (row s m hi k)
+VariablesTurned s m lo n hi k (Some Greater) = (0 < k) × Above (name_in s (entry m hi).word) (row s m lo n)
+VariablesTurned s m lo n hi k (Some Equal) = (0 < n) × ((0 < k) × (name_in s (entry m lo).word ≡ name_in s (entry m hi).word))
+VariablesTurned s m lo n hi k None = (n ≡ 0) × (k ≡ 0)
 
 -- ---- notes
 
@@ -163,12 +173,12 @@ pub record VariableJoins (s m : List ℕ) (base lo n hi k : ℕ) (x : Joint) : T
   pub lefts : x.lefts ≤ n
   pub rights : x.rights ≤ k
   pub some : 0 < x.lefts + x.rights
-  pub left : x.left.tag < 16
-  pub right : x.right.tag < 16
   pub is : (L : Limits) (b c : ℕ) (st : Parser) → join_rows L b c (vars s m base) (row s m lo n) (row s m hi k) st
       ≡ if_answered (join_one L b c (name_in s x.word) (opnd_of x.left) (opnd_of x.right) st)
       (λ p. join_rows L b c (vars s m base) (row s m (lo + x.lefts) (n - x.lefts)) (row s m (hi + x.rights) (k - x.rights)) p.1)
 
-pub record Nexts (s m : List ℕ) (base lo n hi k : ℕ) (r : NextJoin) : Type 0 where
-  pub done : r ≡ NextJoin.TheVariants.Done → (L : Limits) (b c : ℕ) (st : Parser) → join_rows L b c (vars s m base) (row s m lo n) (row s m hi k) st ≡ answered (tt, st)
-  pub join : (x : Joint) → r ≡ NextJoin.TheVariants.Join x → VariableJoins s m base lo n hi k x
+-- nothing is left, or the next name is joined
+abbrev pub Nexts : List ℕ → List ℕ → ℕ → ℕ → ℕ → ℕ → ℕ → Option Joint → Type 0
+Nexts s m base lo n hi k r = MatchOption r
+    ((L : Limits) (b c : ℕ) (st : Parser) → join_rows L b c (vars s m base) (row s m lo n) (row s m hi k) st ≡ answered (tt, st))
+    (VariableJoins s m base lo n hi k)

@@ -2,12 +2,11 @@
 #![tactic(auto)]
 
 ghost use Rattle.std.specs.Prelude.{◌≡◌, ◌+◌, ◌≤◌, ◌<◌, length};
-ghost use Rattle.rules.specs.Lists.{same as same_of, precedes as precedes_of};
+ghost use Rattle.rules.specs.Lists.{same as same_of};
 ghost use Rattle.lexer.specs.Names.{name};
 ghost use Rattle.memory.specs.Layout.{script_most};
 ghost use Rattle.variables.specs.Layout.{bindings_most, entries_most, variables_size, tag_room};
-ghost use Rattle.variables.specs.Scopes.{Sorted};
-ghost use Rattle.variables.specs.Memory.{start_in, length_in, tag_in, name_in, entry, put as put_of, row};
+ghost use Rattle.variables.specs.Memory.{start_in, length_in, tag_in, name_in, entry, put as put_of};
 ghost use Rattle.variables.specs.Promises.{
   Packed,
   Tagged,
@@ -16,6 +15,10 @@ ghost use Rattle.variables.specs.Promises.{
   IsAt,
   VariableFinds,
   Values,
+  Stands,
+  Lies,
+  Aside,
+  BothAside,
   Sought,
   Lifted,
   Inserts,
@@ -30,6 +33,11 @@ ghost use Rattle.variables.specs.Promises.{
   Nexts,
 };
 
+mod operands;
+
+pub use operands::Stored;
+use std::cmp::Ordering;
+
 // The bindings that there can be; the rows set aside begin behind them.
 pub const BINDINGS_MOST: usize = memory::SCRIPT_MOST / 2;
 
@@ -40,37 +48,23 @@ const ENTRIES_MOST: usize = 2 * BINDINGS_MOST;
 pub const SIZE: usize = 2 * ENTRIES_MOST;
 
 // A word holds a name's start, its length and an operand's tag; the last two are below these.
+// Stays: the layout of lent memory is published, an entry's name in one word.
 const LENGTH_ROOM: usize = 2 * memory::SCRIPT_MOST;
 
 const TAG_ROOM: usize = 16;
 
-// An operand as it is stored.
+// A row set aside: its entries begin at lo, their names rising.
 #[derive(Clone, Copy)]
-pub struct Stored {
-    pub tag: usize,
-    pub bits: usize,
+pub struct Row {
+    pub lo: usize,
+    pub len: usize,
 }
 
+// The rows that two arms leave.
 #[derive(Clone, Copy)]
-pub enum FoundVar {
-    At(Stored),
-    Nothing,
-}
-
-// Where in a row a name stands, or belongs.
-#[derive(Clone, Copy)]
-enum Spot {
-    At(usize),
-    New(usize),
-}
-
-// Which of two rows has the next name.
-#[derive(Clone, Copy)]
-enum Side {
-    Left,
-    Right,
-    Both,
-    Done,
+pub struct Rows {
+    pub left: Row,
+    pub right: Row,
 }
 
 // A name to join: its word, its operand on either side, and how many entries of each row it takes.
@@ -83,10 +77,12 @@ pub struct Joint {
     pub rights: usize,
 }
 
+// A script, and the memory that has its variables.
 #[derive(Clone, Copy)]
-pub enum NextJoin {
-    Join(Joint),
-    Done,
+pub struct Scope<'a> {
+    pub script: &'a [u8],
+    pub scratch: &'a [usize],
+    pub ghost room: { variables_size ≤ length scratch.now },
 }
 
 // ---- an entry's first word: the name's place in the script, and the operand's tag
@@ -124,26 +120,8 @@ fn retag(w: usize, t: usize) -> usize
     w / TAG_ROOM * TAG_ROOM + t
 }
 
-// Whether the name of w is that of k bytes at a.
-fn named(script: &[u8], w: usize, a: usize, k: usize) -> bool
-    ensures { result ≡ same_of (name_in script.now w) (name script.now a k) }
-{
-    lexer::same_name(script, start(w), len(w), a, k)
-}
-
-fn same(script: &[u8], v: usize, w: usize) -> bool
-    ensures { result ≡ same_of (name_in script.now v) (name_in script.now w) }
-{
-    named(script, v, start(w), len(w))
-}
-
-fn precedes(script: &[u8], v: usize, w: usize) -> bool
-    ensures { result ≡ precedes_of (name_in script.now v) (name_in script.now w) }
-{
-    lexer::precedes_name(script, start(v), len(v), start(w), len(w))
-}
-
 // ---- bindings
+// Stays: each writer's clause names the size of scratch memory: a struct over the `&mut` would have to name the loan in each contract besides.
 
 // Entry i is set.
 fn put(scratch: &mut [usize], i: usize, w: usize, x: usize)
@@ -154,62 +132,23 @@ fn put(scratch: &mut [usize], i: usize, w: usize, x: usize)
     scratch[ENTRIES_MOST + i] = x;
 }
 
-// The name of k bytes at a is bound to the operand x of tag t, as binding n.
-pub fn bind(scratch: &mut [usize], n: usize, a: usize, k: usize, t: usize, x: usize)
+// The name of k bytes at a is bound to o, as binding n.
+pub fn bind(scratch: &mut [usize], n: usize, a: usize, k: usize, o: Stored)
     requires variables_size_in_bounds { (variables_size ≤ length scratch.old) × (n < bindings_most) }
-    requires a_le_script_most { (a ≤ script_most) × ((k ≤ script_most) × (t < tag_room)) }
-    ensures { VariableBinds n a k t x scratch.old scratch.new }
+    requires a_le_script_most { (a ≤ script_most) × (k ≤ script_most) }
+    ensures { VariableBinds n a k o.tag o.bits scratch.old scratch.new }
 {
-    let w = pack(a, k, t);
-    put(scratch, n, w, x);
+    let w = pack(a, k, o.tag);
+    put(scratch, n, w, o.bits);
 }
 
 // The same, for the name of w.
-pub fn bind_again(scratch: &mut [usize], n: usize, w: usize, t: usize, x: usize)
-    requires { (variables_size ≤ length scratch.old) × ((n < bindings_most) × (t < tag_room)) }
-    ensures { BindsAgain n w t x scratch.old scratch.new }
+pub fn bind_again(scratch: &mut [usize], n: usize, w: usize, o: Stored)
+    requires { (variables_size ≤ length scratch.old) × (n < bindings_most) }
+    ensures { BindsAgain n w o.tag o.bits scratch.old scratch.new }
 {
-    let v = retag(w, t);
-    put(scratch, n, v, x);
-}
-
-fn operand(scratch: &[usize], i: usize) -> Stored
-    requires { (variables_size ≤ length scratch.now) × (i < entries_most) }
-    ensures { IsAt scratch.now i result }
-{
-    let w = scratch[i];
-    Stored {
-        tag: tag(w),
-        bits: scratch[ENTRIES_MOST + i],
-    }
-}
-
-// The latest of n bindings that has the name of k bytes at a.
-pub fn find(script: &[u8], scratch: &[usize], n: usize, a: usize, k: usize) -> FoundVar
-    requires { (variables_size ≤ length scratch.now) × (n ≤ entries_most) }
-    ensures { VariableFinds script.now scratch.now n (name script.now a k) result }
-{
-    let mut i = n;
-    while 0 < i {
-        i -= 1;
-        let w = scratch[i];
-        if named(script, w, a, k) {
-            let o = operand(scratch, i);
-            return FoundVar::At(o);
-        }
-    }
-    FoundVar::Nothing
-}
-
-// What the name of w is among n bindings; nil if it is unbound.
-fn value(script: &[u8], scratch: &[usize], n: usize, w: usize) -> Stored
-    requires { (variables_size ≤ length scratch.now) × (n ≤ entries_most) }
-    ensures { Values script.now scratch.now n w result }
-{
-    match find(script, scratch, n, start(w), len(w)) {
-        FoundVar::At(o) => o,
-        FoundVar::Nothing => Stored { tag: 1, bits: 0 },
-    }
+    let v = retag(w, o.tag);
+    put(scratch, n, v, o.bits);
 }
 
 // ---- rows: entries from a place on, in rising order of names
@@ -222,58 +161,35 @@ fn probe(a: usize, b: usize, n: usize) -> usize
     if b == n { b - 1 } else { (a + b) / 2 }
 }
 
-// Where the name of w stands, or belongs, in the row of n entries from lo on.
-fn seek(script: &[u8], scratch: &[usize], lo: usize, n: usize, w: usize) -> Spot
-    requires variables_size_in_bounds { (variables_size ≤ length scratch.now) × (lo + n ≤ entries_most) }
-    requires sorted { Sorted (row script.now scratch.now lo n) }
-    ensures { Sought script.now scratch.now lo n w result }
-{
-    let mut a = 0;
-    let mut b = n;
-    while a < b {
-        let j = probe(a, b, n);
-        let v = scratch[lo + j];
-        if precedes(script, w, v) {
-            b = j;
-        } else if same(script, v, w) {
-            return Spot::At(j);
-        } else {
-            a = j + 1;
-        }
-    }
-    Spot::New(a)
-}
-
 // k entries from at on move up by one.
 fn lift(scratch: &mut [usize], at: usize, k: usize)
     requires { (variables_size ≤ length scratch.old) × (at + k < entries_most) }
     ensures { Lifted at k scratch.old scratch.new }
 {
-    let mut i = k;
-    while 0 < i {
-        i -= 1;
-        let p = at + i;
-        let w = scratch[p];
-        let x = scratch[ENTRIES_MOST + p];
-        put(scratch, p + 1, w, x);
-    }
+    scratch.copy_within(at..at + k, at + 1);
+    let payloads = ENTRIES_MOST + at;
+    scratch.copy_within(payloads..payloads + k, payloads + 1);
 }
 
-// An entry bound in the row of n entries from lo on: how many these are then.
-fn insert(script: &[u8], scratch: &mut [usize], lo: usize, n: usize, w: usize, x: usize) -> usize
-    requires variables_size_in_bounds { (variables_size ≤ length scratch.old) × (lo + n < entries_most) }
-    requires sorted { Sorted (row script.now scratch.old lo n) }
-    ensures { Inserts script.now lo n w x scratch.old scratch.new result }
+// An entry bound in a row: how many entries it has then.
+fn insert(script: &[u8], scratch: &mut [usize], row: Row, w: usize, x: usize) -> usize
+    requires in_bounds { (variables_size ≤ length scratch.old) × (row.lo + row.len < entries_most) }
+    requires lies { Lies script.now scratch.old row }
+    ensures { Inserts script.now row.lo row.len w x scratch.old scratch.new result }
 {
-    match seek(script, scratch, lo, n, w) {
-        Spot::At(j) => {
-            put(scratch, lo + j, w, x);
-            n
+    let scope = Scope {
+        script,
+        scratch: &*scratch,
+    };
+    match scope.seek(row, w) {
+        Ok(j) => {
+            put(scratch, row.lo + j, w, x);
+            row.len
         }
-        Spot::New(i) => {
-            lift(scratch, lo + i, n - i);
-            put(scratch, lo + i, w, x);
-            n + 1
+        Err(i) => {
+            lift(scratch, row.lo + i, row.len - i);
+            put(scratch, row.lo + i, w, x);
+            row.len + 1
         }
     }
 }
@@ -285,197 +201,221 @@ pub fn set_aside(script: &[u8], scratch: &mut [usize], mark: usize, k: usize, to
     ensures { Leaves script.now mark k to scratch.old scratch.new result }
 {
     let mut n = 0;
-    let mut i = 0;
-    while i < k {
+    for i in 0..k {
         let p = mark + i;
         let w = scratch[p];
         let x = scratch[ENTRIES_MOST + p];
-        n = insert(script, scratch, to, n, w, x);
-        i += 1;
+        n = insert(script, scratch, Row { lo: to, len: n }, w, x);
     }
     n
 }
 
-// ---- notes: for each entry of a row the number of the latest binding of its name, counted from 1; 0 for none
-
-fn wide(x: u16) -> usize
-    ensures { result ≡ x }
+// How many entries of a row are known to have notes, if the first u have: one more is looked at.
+fn pass(g: &[u16], row: Row, u: usize) -> usize
+    requires { (bindings_most ≤ length g.now) × ((bindings_most ≤ row.lo) × ((row.lo + row.len ≤ entries_most) × (u < row.len))) }
+    ensures { VariablePasses g.now row.lo row.len u result }
 {
-    x as usize
-}
-
-// Binding i is noted for the entry of its name, if the row of n entries from lo on has one and no other is noted for it.
-fn note(script: &[u8], scratch: &[usize], g: &mut [u16], lo: usize, n: usize, i: usize)
-    requires variables_size_in_bounds { (variables_size ≤ length scratch.now) × ((bindings_most ≤ length g.old) × (i < entries_most)) }
-    requires bindings_most_le_lo { (bindings_most ≤ lo) × (lo + n ≤ entries_most) }
-    requires sorted { Sorted (row script.now scratch.now lo n) }
-    ensures { Notes script.now scratch.now i lo n g.old g.new }
-{
-    let w = scratch[i];
-    match seek(script, scratch, lo, n, w) {
-        Spot::At(j) => {
-            let q = lo - BINDINGS_MOST + j;
-            if g[q] == 0 {
-                g[q] = (i + 1) as u16;
-            }
-        }
-        Spot::New(_) => {}
-    }
-}
-
-// How many entries from lo on are known to have notes, if the first u have: one more is looked at.
-fn pass(g: &[u16], lo: usize, n: usize, u: usize) -> usize
-    requires { (bindings_most ≤ length g.now) × ((bindings_most ≤ lo) × ((lo + n ≤ entries_most) × (u < n))) }
-    ensures { VariablePasses g.now lo n u result }
-{
-    if g[lo - BINDINGS_MOST + u] == 0 {
+    if g[row.lo - BINDINGS_MOST + u] == 0 {
         u
     } else {
         u + 1
     }
 }
 
-// The base bindings are noted for a row for which none is noted, the latest first, until each entry has a note.
-fn note_row(script: &[u8], scratch: &[usize], g: &mut [u16], base: usize, lo: usize, n: usize)
-    requires variables_size_in_bounds { (variables_size ≤ length scratch.now) × ((bindings_most ≤ length g.old) × (base ≤ entries_most)) }
-    requires bindings_most_le_lo { (bindings_most ≤ lo) × (lo + n ≤ entries_most) }
-    requires sorted { Sorted (row script.now scratch.now lo n) }
-    requires noted { Noted script.now scratch.now 0 lo n g.old }
-    ensures { NotesRow script.now scratch.now base lo n g.old g.new }
-{
-    let mut i = base;
-    let mut u = 0;
-    while 0 < i {
-        if u == n {
-            return;
+impl Scope<'_> {
+    // ---- names
+
+    // Whether the name of w is that of k bytes at a.
+    fn named(&self, w: usize, a: usize, k: usize) -> bool
+        ensures { result ≡ same_of (name_in self.now.script.now w) (name self.now.script.now a k) }
+    {
+        lexer::same_name(self.script, start(w), len(w), a, k)
+    }
+
+    // How the names of v and w stand to each other.
+    fn order(&self, v: usize, w: usize) -> Ordering
+        ensures { Stands (name_in self.now.script.now v) (name_in self.now.script.now w) result }
+    {
+        let a = start(w);
+        let k = len(w);
+        if lexer::precedes_name(self.script, start(v), len(v), a, k) {
+            Ordering::Less
+        } else if self.named(v, a, k) {
+            Ordering::Equal
+        } else {
+            Ordering::Greater
         }
-        i -= 1;
-        note(script, scratch, g, lo, n, i);
-        u = pass(g, lo, n, u);
     }
-}
 
-// The base bindings are noted for two rows, n entries from lo on and k from hi on.
-pub fn note_rows(
-    script: &[u8],
-    scratch: &[usize],
-    g: &mut [u16],
-    base: usize,
-    lo: usize,
-    n: usize,
-    hi: usize,
-    k: usize,
-)
-    requires variables_size_in_bounds { (variables_size ≤ length scratch.now) × ((bindings_most ≤ length g.old) × (base ≤ entries_most)) }
-    requires bindings_most_le_lo { (bindings_most ≤ lo) × ((lo + n ≤ hi) × (hi + k ≤ script_most)) }
-    requires sorted { Sorted (row script.now scratch.now lo n) × Sorted (row script.now scratch.now hi k) }
-    requires variables_blank { VariablesBlank g.old }
-    ensures { NotesBoth script.now scratch.now base lo n hi k g.new }
-{
-    note_row(script, scratch, g, base, lo, n);
-    note_row(script, scratch, g, base, hi, k);
-}
+    // ---- bindings
 
-// What the name of entry p is among n bindings; nil if it is unbound. An entry that g has no place for is looked up.
-fn value_at(script: &[u8], scratch: &[usize], g: &[u16], n: usize, p: usize) -> Stored
-    requires variables_size_in_bounds { (variables_size ≤ length scratch.now) × ((n ≤ entries_most) × ((bindings_most ≤ p) × (p < entries_most))) }
-    requires noted { Noted script.now scratch.now n p 1 g.now }
-    ensures { Values script.now scratch.now n (entry scratch.now p).word result }
-{
-    let q = p - BINDINGS_MOST;
-    if q < g.len() {
-        let i = wide(g[q]);
-        if i == 0 {
-            return Stored { tag: 1, bits: 0 };
+    fn operand(&self, i: usize) -> Stored
+        requires { i < entries_most }
+        ensures { IsAt self.now.scratch.now i result }
+    {
+        Stored {
+            tag: tag(self.scratch[i]),
+            bits: self.scratch[ENTRIES_MOST + i],
         }
-        return operand(scratch, i - 1);
     }
-    let w = scratch[p];
-    value(script, scratch, n, w)
-}
 
-// ---- joins
-
-// Which of two rows, n entries from lo on and k from hi on, has the least name.
-fn turn(script: &[u8], scratch: &[usize], lo: usize, n: usize, hi: usize, k: usize) -> Side
-    requires variables_size_in_bounds { (variables_size ≤ length scratch.now) × ((lo + n ≤ entries_most) × (hi + k ≤ script_most)) }
-    requires sorted { Sorted (row script.now scratch.now lo n) × Sorted (row script.now scratch.now hi k) }
-    ensures { VariablesTurned script.now scratch.now lo n hi k result }
-{
-    if n == 0 {
-        if k == 0 {
-            return Side::Done;
+    // The latest of n bindings that has the name of k bytes at a.
+    pub fn find(&self, n: usize, a: usize, k: usize) -> Option<Stored>
+        requires { n ≤ entries_most }
+        ensures { VariableFinds self.now.script.now self.now.scratch.now n (name self.now.script.now a k) result }
+    {
+        for i in (0..n).rev() {
+            if self.named(self.scratch[i], a, k) {
+                return Some(self.operand(i));
+            }
         }
-        return Side::Right;
+        None
     }
-    if k == 0 {
-        return Side::Left;
-    }
-    let v = scratch[lo];
-    let w = scratch[hi];
-    if precedes(script, v, w) {
-        return Side::Left;
-    }
-    if precedes(script, w, v) {
-        return Side::Right;
-    }
-    Side::Both
-}
 
-// The next name of two rows, which the arms set over base bindings; g has the rows' notes, or is empty.
-pub fn next_join(
-    script: &[u8],
-    scratch: &[usize],
-    g: &[u16],
-    base: usize,
-    lo: usize,
-    n: usize,
-    hi: usize,
-    k: usize,
-) -> NextJoin
-    requires variables_size_in_bounds { (variables_size ≤ length scratch.now) × (base ≤ entries_most) }
-    requires bindings_most_le_lo { ((bindings_most ≤ lo) × (lo + n ≤ entries_most)) × ((bindings_most ≤ hi) × (hi + k ≤ script_most)) }
-    requires sorted { Sorted (row script.now scratch.now lo n) × Sorted (row script.now scratch.now hi k) }
-    requires notes_both { NotesBoth script.now scratch.now base lo n hi k g.now }
-    ensures { Nexts script.now scratch.now base lo n hi k result }
-{
-    match turn(script, scratch, lo, n, hi, k) {
-        Side::Left => {
-            let word = scratch[lo];
-            let left = operand(scratch, lo);
-            let right = value_at(script, scratch, g, base, lo);
-            NextJoin::Join(Joint {
-                word,
-                left,
-                right,
+    // What the name of w is among n bindings; nil if it is unbound.
+    fn value(&self, n: usize, w: usize) -> Stored
+        requires { n ≤ entries_most }
+        ensures { Values self.now.script.now self.now.scratch.now n w result }
+    {
+        self.find(n, start(w), len(w)).unwrap_or(Stored::NIL)
+    }
+
+    // ---- rows
+
+    // Where the name of w stands in a row, or where it belongs.
+    // Stays: the library's search begins in the middle, and names mostly rise: behind a look at the row's last it would be a second search.
+    fn seek(&self, row: Row, w: usize) -> Result<usize, usize>
+        requires lies { Lies self.now.script.now self.now.scratch.now row }
+        ensures { Sought self.now.script.now self.now.scratch.now row.lo row.len w result }
+    {
+        let mut a = 0;
+        let mut b = row.len;
+        while a < b {
+            let j = probe(a, b, row.len);
+            match self.order(w, self.scratch[row.lo + j]) {
+                Ordering::Less => {
+                    b = j;
+                }
+                Ordering::Equal => {
+                    return Ok(j);
+                }
+                Ordering::Greater => {
+                    a = j + 1;
+                }
+            }
+        }
+        Err(a)
+    }
+
+    // ---- notes: for each entry of a row the number of the latest binding of its name, counted from 1; 0 for none
+    // Stays: they stand in fixed memory, where numbers of 16 bits take half the room of options.
+
+    // Binding i is noted for the entry of its name, if the row has one and no other is noted for it.
+    fn note(&self, g: &mut [u16], row: Row, i: usize)
+        requires in_bounds { (bindings_most ≤ length g.old) × (i < entries_most) }
+        requires aside { Aside self.now.script.now self.now.scratch.now row }
+        ensures { Notes self.now.script.now self.now.scratch.now i row.lo row.len g.old g.new }
+    {
+        if let Ok(j) = self.seek(row, self.scratch[i]) {
+            let q = row.lo - BINDINGS_MOST + j;
+            if g[q] == 0 {
+                g[q] = (i + 1) as u16;
+            }
+        }
+    }
+
+    // The base bindings are noted for a row for which none is noted, the latest first, until each entry has a note.
+    fn note_row(&self, g: &mut [u16], base: usize, row: Row)
+        requires in_bounds { (bindings_most ≤ length g.old) × (base ≤ entries_most) }
+        requires aside { Aside self.now.script.now self.now.scratch.now row }
+        requires noted { Noted self.now.script.now self.now.scratch.now 0 row.lo row.len g.old }
+        ensures { NotesRow self.now.script.now self.now.scratch.now base row.lo row.len g.old g.new }
+    {
+        let mut u = 0;
+        for i in (0..base).rev() {
+            if u == row.len {
+                return;
+            }
+            self.note(g, row, i);
+            u = pass(g, row, u);
+        }
+    }
+
+    // The base bindings are noted for two rows, the left one first.
+    pub fn note_rows(&self, g: &mut [u16], base: usize, rows: Rows)
+        requires in_bounds { (bindings_most ≤ length g.old) × (base ≤ entries_most) }
+        requires aside { BothAside self.now.script.now self.now.scratch.now rows }
+        requires apart { rows.left.lo + rows.left.len ≤ rows.right.lo }
+        requires variables_blank { VariablesBlank g.old }
+        ensures { NotesBoth self.now.script.now self.now.scratch.now base rows.left.lo rows.left.len rows.right.lo rows.right.len g.new }
+    {
+        self.note_row(g, base, rows.left);
+        self.note_row(g, base, rows.right);
+    }
+
+    // What the name of entry p is among n bindings; nil if it is unbound. An entry that g has no place for is looked up.
+    fn value_at(&self, g: &[u16], n: usize, p: usize) -> Stored
+        requires in_bounds { (n ≤ entries_most) × ((bindings_most ≤ p) × (p < entries_most)) }
+        requires noted { Noted self.now.script.now self.now.scratch.now n p 1 g.now }
+        ensures { Values self.now.script.now self.now.scratch.now n (entry self.now.scratch.now p).word result }
+    {
+        if let Some(&i) = g.get(p - BINDINGS_MOST) {
+            if i == 0 {
+                return Stored::NIL;
+            }
+            return self.operand(usize::from(i) - 1);
+        }
+        self.value(n, self.scratch[p])
+    }
+
+    // ---- joins
+
+    // How the first names of two rows stand to each other, a row that has none behind one that has; nothing where neither has one.
+    fn turn(&self, rows: Rows) -> Option<Ordering>
+        requires left { Lies self.now.script.now self.now.scratch.now rows.left }
+        requires right { Lies self.now.script.now self.now.scratch.now rows.right }
+        ensures { VariablesTurned self.now.script.now self.now.scratch.now rows.left.lo rows.left.len rows.right.lo rows.right.len result }
+    {
+        match (rows.left.len, rows.right.len) {
+            (0, 0) => None,
+            (0, _) => Some(Ordering::Greater),
+            (_, 0) => Some(Ordering::Less),
+            _ => Some(self.order(self.scratch[rows.left.lo], self.scratch[rows.right.lo])),
+        }
+    }
+
+    // The next name of two rows, which the arms set over base bindings; g has the rows' notes, or is empty.
+    pub fn next_join(&self, g: &[u16], base: usize, rows: Rows) -> Option<Joint>
+        requires in_bounds { base ≤ entries_most }
+        requires aside { BothAside self.now.script.now self.now.scratch.now rows }
+        requires notes_both { NotesBoth self.now.script.now self.now.scratch.now base rows.left.lo rows.left.len rows.right.lo rows.right.len g.now }
+        ensures { Nexts self.now.script.now self.now.scratch.now base rows.left.lo rows.left.len rows.right.lo rows.right.len result }
+    {
+        let lo = rows.left.lo;
+        let hi = rows.right.lo;
+        match self.turn(rows) {
+            Some(Ordering::Less) => Some(Joint {
+                word: self.scratch[lo],
+                left: self.operand(lo),
+                right: self.value_at(g, base, lo),
                 lefts: 1,
                 rights: 0,
-            })
-        }
-        Side::Right => {
-            let word = scratch[hi];
-            let left = value_at(script, scratch, g, base, hi);
-            let right = operand(scratch, hi);
-            NextJoin::Join(Joint {
-                word,
-                left,
-                right,
+            }),
+            Some(Ordering::Greater) => Some(Joint {
+                word: self.scratch[hi],
+                left: self.value_at(g, base, hi),
+                right: self.operand(hi),
                 lefts: 0,
                 rights: 1,
-            })
-        }
-        Side::Both => {
-            let word = scratch[lo];
-            let left = operand(scratch, lo);
-            let right = operand(scratch, hi);
-            NextJoin::Join(Joint {
-                word,
-                left,
-                right,
+            }),
+            Some(Ordering::Equal) => Some(Joint {
+                word: self.scratch[lo],
+                left: self.operand(lo),
+                right: self.operand(hi),
                 lefts: 1,
                 rights: 1,
-            })
+            }),
+            None => None,
         }
-        Side::Done => NextJoin::Done,
     }
 }

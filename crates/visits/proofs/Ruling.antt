@@ -2,27 +2,42 @@
 use mathlib.Core.Path.{◌≡◌, refl, sym, ap, ◌∙◌}
 use mathlib.Core.List.{List}
 use Prim.Native.Nat.{ℕ}
+use Rattle.std.specs.Prelude.{Result, Ok, Err}
+use Rattle.refusals.specs.declared.Refusal.{Refusal}
 use Rattle.kinds.specs.declared.Kind.{Kind}
 use Rattle.kinds.specs.declared.Kind.TheVariants.{Empty}
-use Rattle.kinds.specs.declared.Joined.{Joined}
-use Rattle.kinds.specs.declared.Joined.TheVariants as J
+use Rattle.kinds.specs.Union.{Joined}
 use Rattle.rules.specs.Actions.{Answer, answered, if_answered, lift}
 use Rattle.rules.specs.Values.{to_answer}
 use Rattle.rules.specs.Program.{Limits, Program}
 use Rattle.rules.specs.Machine.{State, Acts, store, visit}
 use Rattle.state.specs.declared.Sizes.{Sizes}
 use Rattle.state.specs.declared.Regs.{Regs}
-use Rattle.state.specs.declared.Acted.{Acted}
-use Rattle.state.specs.declared.Acted.TheVariants as W
+use Rattle.state.specs.Acted as W
+use Rattle.state.specs.Acted.{Acted, acted_of}
+use Rattle.state.specs.declared.State as S
+use Rattle.state.specs.Methods.{Did}
+use Rattle.state.proofs.Methods.{lent_on, did_at}
 use Rattle.state.specs.View.{Attrs, state_view, StateReady}
 use Rattle.state.specs.Changes.{went, StateAfter, ReadyAfter, StateDid}
 use Rattle.machine.specs.opnds.Reads.{StateReads}
-use Rattle.machine.proofs.opnds.Acting.{after_both}
-use Rattle.visits.specs.declared.Ruled.{Ruled}
-use Rattle.visits.specs.declared.Ruled.TheVariants.{On, Refused}
-use Rattle.visits.specs.Visits.{nothing_of, kind_of, ruled, ReadyRuled, Rules, rule_of}
+use Rattle.visits.specs.Methods.{nothing_in, Gave}
+use Rattle.visits.specs.Visits.{Ruled, On, Refused, nothing_of, kind_of, ruled, ReadyRuled, Rules, rule_of}
 
 -- a promise for some programs holds for fewer
+pub did-fits : {z : Sizes} {fits less : Program → Attrs → Type 0} {f : Limits → Program → Acts (Unit {0})} {m : List ℕ} {q : Regs} {w : List ℕ} {r : Acted}
+    → ((P : Program) (v : Attrs) → less P v → fits P v) → StateDid z fits f m q w r → StateDid z less f m q w r
+did-fits h d = record { is = λ L room P v a. d.is L room P v (h P v a); ok = d.ok }
+
+after_both : (z : Sizes) (q : Regs) (w : List ℕ) (a : Regs) (u : List ℕ) (r : Acted) → StateAfter z q w a → ReadyAfter z a u r → ReadyAfter z q u r
+after_both z q w a u (W.On b) x y = record { ready = y.ready; count = y.count ∙ x.count }
+after_both z q w a u (W.Refused n) x y = tt
+
+-- as a call answers
+pub none_given : (q : Regs) (r : Result (Unit {0}) Refusal) → kind_of q (nothing_in r) ≡ nothing_of (acted_of q r)
+none_given q (Ok a) = refl
+none_given q (Err e) = refl
+
 pub reads-fits : {z : Sizes} {fits less : Program → Attrs → Type 0} {f : Limits → Program → Acts Kind} {m : List ℕ} {j : Joined}
     → ((P : Program) (v : Attrs) → less P v → fits P v) → StateReads z fits f m j → StateReads z less f m j
 reads-fits h d = record { is = λ L P v a q. d.is L P v (h P v a) q }
@@ -48,12 +63,12 @@ module _ (z : Sizes) (fits : Program → Attrs → Type 0) (h : Limits → Progr
   -- ---- a kind
 
   kind-is : (v : Attrs) (w : List ℕ) (a : Regs) (j : Joined) → ruled z v w (kind_of a j) ≡ lift (to_answer j) (state_view z v w a)
-  kind-is v w a (J.Of k) = refl
-  kind-is v w a (J.Refused n) = refl
+  kind-is v w a (Ok k) = refl
+  kind-is v w a (Err n) = refl
 
   kind-ready : (w : List ℕ) (a : Regs) (j : Joined) → StateAfter z q w a → ReadyRuled z q w (kind_of a j)
-  kind-ready w a (J.Of k) l = l
-  kind-ready w a (J.Refused n) l = tt
+  kind-ready w a (Ok k) l = l
+  kind-ready w a (Err n) l = tt
 
   pub valued : {j : Joined} {r : Ruled} → StateReady z m q → StateReads z fits h m j → r ≡ kind_of q j → Rules z fits h m q m r
   valued {j} {r} l d e = rw e (record { is = λ L room P v f. kind-is v m q j ∙ d.is L P v f q; ok = kind-ready m q j (record { ready = l; count = refl }) })
@@ -103,6 +118,11 @@ module _ (z : Sizes) (fits : Program → Attrs → Type 0) (m : List ℕ) (q : R
         ok = tt;
       }
 
-pub ruled-ready : {z : Sizes} {fits : Program → Attrs → Type 0} {h : Limits → Program → Acts Kind} {m : List ℕ} {q : Regs} {w : List ℕ} {r : Ruled} {a : Regs} {k : Kind}
-    → Rules z fits h m q w r → r ≡ On a k → StateReady z w a
-ruled-ready d e = let d1 = rw e at d in d1.ok.ready
+-- ---- the visit of the state that is lent
+
+module _ {fits : Program → Attrs → Type 0} (i : ℕ) {s t : S.State} {r : Joined} (d : Gave fits (rule_of i) s t r) where
+  pub visit_stored : {k : Kind} {u : S.State} {e : Result (Unit {0}) Refusal} → r ≡ Ok k → Did fits (λ L P. store L P i k) t u e → Did fits (λ L P. visit L P i) s u e
+  visit_stored f g = record { lent = lent_on d.lent g.lent; did = visited s.sizes fits s.words.now s.regs i d.rules (ap (kind_of t.regs) f) (did_at d.lent.sizes g) }
+
+  pub visit_refused : {n : Refusal} → r ≡ Err n → Did fits (λ L P. visit L P i) s t (Err n)
+  visit_refused f = record { lent = d.lent; did = visit-stopped s.sizes fits s.words.now s.regs i d.rules (ap (kind_of t.regs) f) }

@@ -9,7 +9,7 @@ use lib.ListN.{drop}
 use Rattle.kinds.specs.declared.Arith.{Arith}
 use Rattle.kinds.specs.declared.Kind.{Kind}
 use Rattle.kinds.specs.declared.Kind.TheVariants.{Empty, Objects}
-use Rattle.kinds.specs.declared.Joined.{Joined}
+use Rattle.kinds.specs.Union.{Joined}
 use Rattle.ids.specs.Sets.{one_of}
 use Rattle.ids.specs.declared.BlockId.{BlockId}
 use Rattle.ids.specs.declared.ClassId.{ClassId}
@@ -18,7 +18,7 @@ use Rattle.rules.specs.Actions.{Answer, answered, if_answered}
 use Rattle.rules.specs.Lists.{has}
 use Rattle.rules.specs.Program as R
 use Rattle.rules.specs.Program.{Limits, Program, about, op_of}
-use Rattle.rules.specs.Machine.{State, Acts, marked, push_block, leave, rule}
+use Rattle.rules.specs.Machine.{State, marked, push_block, leave, rule}
 use Rattle.program.specs.declared.Counts.{Counts}
 use Rattle.program.specs.declared.Name.{Name}
 use Rattle.program.specs.declared.Op.{Op}
@@ -30,9 +30,9 @@ use Rattle.program.specs.View as P
 use Rattle.program.specs.View.{ReadsBlock}
 use Rattle.state.specs.declared.Sizes.{Sizes}
 use Rattle.state.specs.declared.Regs.{Regs}
-use Rattle.state.specs.declared.Acted.{Acted}
-use Rattle.state.specs.declared.Acted.TheVariants as W
-use Rattle.state.specs.View.{Attrs, called_of, state_view, StateHeld}
+use Rattle.state.specs.Acted as W
+use Rattle.state.specs.Acted.{Acted}
+use Rattle.state.specs.View.{Attrs, called_of, state_view}
 use Rattle.state.specs.Changes.{StateDid, Every}
 use Rattle.machine.specs.opnds.Reads.{OperandInside, StateReads, FunctionIs}
 use Rattle.flows.specs.Flows.{ParamIs}
@@ -48,13 +48,10 @@ use Rattle.sends.specs.Sends.{call_static, send_all, Calling, CallsIn}
 use Rattle.sends.proofs.Rules.{static_rule, dynamic_rule}
 use Rattle.sends.proofs.Given.{calling_of}
 use Rattle.machine.specs.Analysed.{MachineFits, TablesOf}
-use Rattle.machine.proofs.Fitting.{did-fits}
 use Rattle.machine.proofs.States.{attrs, attrs-fit}
 use Rattle.attributes.proofs.Found.{program-is}
-use Rattle.visits.specs.declared.Ruled.{Ruled}
-use Rattle.visits.specs.declared.Ruled.TheVariants.{On, Refused}
-use Rattle.visits.specs.Visits.{nothing_of, kind_of, Rules, rule_of, operands_of, Visiting}
-use Rattle.visits.proofs.Ruling.{reads-fits, acted, valued, both, stopped}
+use Rattle.visits.specs.Visits.{Ruled, On, Refused, nothing_of, kind_of, Rules, rule_of, operands_of, Visiting}
+use Rattle.visits.proofs.Ruling.{did-fits, reads-fits, acted, valued, both, stopped}
 use Rattle.visits.proofs.Alone.{static_called}
 use Rattle.visits.proofs.Given as goal
 
@@ -150,9 +147,6 @@ module _ {s p : List ℕ} {c : Counts} {x : List ℕ} {z : Sizes} {m : List ℕ}
       let a = g.indexed in
       subst (λ (Q : Program). BackIn p c z (called_of z w) i 0 z.functions Q v) (sym f.is)
       (back_in a.limits s p c z a.suited.finished a.sized.insns (called_of z w) i 0 z.functions v (among-all z w i))
-
-  pub did-held : {fits : Program → Attrs → Type 0} {f : Limits → Program → Acts (Unit {0})} {w : List ℕ} {a : Acted} {b : Regs} → StateDid z fits f m q w a → a ≡ W.On b → StateHeld z w
-  did-held d e = let d1 = rw e at d in d1.ok.ready.held
 
   call-op : {f : FunId} → row.op ≡ O.SendStatic f → op_of (P.program_view s p c) i ≡ R.Send (R.Static f.0) (operands_of p row)
   call-op h = goal.op-at g h

@@ -1,9 +1,9 @@
 -- What the rule of an instruction promises: what it sets off, and the kind that the instruction has now. Assumes nothing.
-use Rattle.std.specs.Prelude.{◌≡◌, List, map, ℕ, ◌+◌, ◌*◌, ◌<◌}
+use Rattle.std.specs.Prelude.{◌≡◌, List, map, ℕ, ◌+◌, ◌*◌, ◌<◌, Ok, Err}
+use Rattle.refusals.specs.Refusals.{number_of as question_of}
 use Rattle.kinds.specs.declared.Kind.{Kind}
 use Rattle.kinds.specs.declared.Kind.TheVariants.{Empty}
-use Rattle.kinds.specs.declared.Joined.{Joined}
-use Rattle.kinds.specs.declared.Joined.TheVariants as J
+use Rattle.kinds.specs.Union.{Joined}
 use Rattle.rules.specs.Actions.{Answer, answered, refused}
 use Rattle.rules.specs.Program as R
 use Rattle.rules.specs.Program.{Limits, Program, op_of}
@@ -14,15 +14,18 @@ use Rattle.program.specs.Rows.{opnds_in, opnd_of}
 use Rattle.program.specs.View.{ReadsInsn}
 use Rattle.state.specs.declared.Sizes.{Sizes}
 use Rattle.state.specs.declared.Regs.{Regs}
-use Rattle.state.specs.declared.Acted.{Acted}
-use Rattle.state.specs.declared.Acted.TheVariants as W
+use Rattle.state.specs.Acted as W
+use Rattle.state.specs.Acted.{Acted}
 use Rattle.state.specs.View.{Attrs, state_view, StateReady}
 use Rattle.state.specs.Changes.{StateAfter}
 use Rattle.machine.specs.Analysed.{Indexed, Steady}
 use Rattle.memory.specs.Layout.{worklist_most}
 use Rattle.program.specs.Layout.{opnds_at}
-use Rattle.visits.specs.declared.Ruled.{Ruled}
-use Rattle.visits.specs.declared.Ruled.TheVariants.{On, Refused}
+
+-- what a rule comes to: the registers after it and the instruction's kind, or the number of a refusal
+pub data Ruled : Type 0 where
+  On : Regs → Kind → Ruled
+  Refused : ℕ → Ruled
 
 -- a change with no kind; registers with a kind
 abbrev pub nothing_of : Acted → Ruled
@@ -30,8 +33,8 @@ nothing_of (W.On q) = On q Empty
 nothing_of (W.Refused n) = Refused n
 
 abbrev pub kind_of : Regs → Joined → Ruled
-kind_of q (J.Of k) = On q k
-kind_of q (J.Refused n) = Refused n
+kind_of q (Ok k) = On q k
+kind_of q (Err e) = Refused (question_of e)
 
 abbrev pub ruled : Sizes → Attrs → List ℕ → Ruled → Answer (Kind × State)
 ruled z v m (On q k) = answered (k, state_view z v m q)

@@ -4,6 +4,4 @@ use Rattle.program.specs.Rows.{name_in}
 use Rattle.attributes.proofs.gets.Goals as goal
 
 pub returns : goal.returns
-returns c =
-    gets-is c.args.script.now c.args.program.now c.args.counts c.args.i.0 (name_in c.args.script.now c.args.n) c.read_insn-row.ensures
-    c.op_gets.ensures
+returns c = gets-is c.args.program.now.script.now c.args.program.now.words.now c.args.program.now.counts c.args.i.0 (name_in c.args.program.now.script.now c.args.n) c.insn.ensures c.op_gets.ensures

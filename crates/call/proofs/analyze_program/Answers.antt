@@ -1,27 +1,34 @@
 -- `call::analyze_program` meets its contract. Assumes nothing.
-use Rattle.call.proofs.Laws.{given, program-number, program-refused, program-answered, held_after, answer-kept, blocks-few}
-use Rattle.run.specs.Runs.{tables_of as words_of}
+use Rattle.std.specs.Prelude.{Err, ◌≡◌}
+use mathlib.Core.Path.{ap, ◌∙◌}
+use native.Mathlib.Omega.{arith}
+use borrow.Author.Rules.{rules}
+use Rattle.state.specs.Acted.{acted_of}
+use Rattle.state.specs.declared.Sizes.{Sizes}
+use Rattle.call.proofs.Laws.{given, program-refused, program-answered, blocks-few}
 use Rattle.call.proofs.analyze_program.Goals as goal
 
 pub sctp-requires : goal.sctp-requires
-sctp-requires c = search given
+sctp-requires c = given _ _ _ _ c.args.state.now _ c.requires.parsed c.requires.parts_fresh c.sizes.ensures
+    (omega (arith, c.split_at_mut-words.ensures.back_len, c.requires.parts_fresh.state))
 
-pub publish_state-requires-clause-state_held : goal.publish_state-requires-clause-state_held
-publish_state-requires-clause-state_held c = held_after c.args.script.now c.args.program.now c.args.counts c.args.answer.now
-    c.sctp.new.users (words_of c.sctp.new.state) c.requires.parsed c.sctp.ensures
-    c.in-On.is
+pub returns-in_err-sctp : goal.returns-in_err-sctp
+returns-in_err-sctp c =
+    let e : c.from_residual.result ≡ Err c.in_err-sctp.field-0.0 = search rules in
+    rw e
+    (program-refused _ _ _ _ _ _ c.requires.parsed c.sctp.ensures.1 _ c.sctp.new.users (ap (acted_of _) c.in_err-sctp.was))
 
-pub publish_state-requires-clause-answer_len : goal.publish_state-requires-clause-answer_len
-publish_state-requires-clause-answer_len c = search answer-kept
+pub write_state-requires : goal.write_state-requires
+write_state-requires c =
+    let z = ap (λ (x : Sizes). x.blocks) (c.sctp.ensures.0.sizes ∙ c.sizes.ensures) in
+    record {
+      answer_len = (
+        c.sctp.auto.users ∙ c.requires.parts_fresh.answer.len,
+        omega (arith, z, blocks-few _ _ _ _ _ _ c.requires.parsed c.sctp.ensures.1 (ap (acted_of _) c.in_ok-sctp.was)),
+      );
+    }
 
-pub publish_state-requires-clause-blocks_le_blocks_most : goal.publish_state-requires-clause-blocks_le_blocks_most
-publish_state-requires-clause-blocks_le_blocks_most c = search blocks-few
-
-pub overflow_cast-number : goal.overflow_cast-number
-overflow_cast-number c = search program-number
-
-pub returns-in-On : goal.returns-in-On
-returns-in-On c = search program-answered
-
-pub returns-in-Refused : goal.returns-in-Refused
-returns-in-Refused c = search program-refused
+pub returns : goal.returns
+returns c =
+    program-answered _ _ _ _ _ _ c.requires.parsed c.sctp.ensures.1 (ap (acted_of _) c.in_ok-sctp.was) tt c.requires.parts_fresh c.sctp.auto.users
+    (c.sctp.ensures.0.sizes ∙ c.sizes.ensures) c.write_state.ensures

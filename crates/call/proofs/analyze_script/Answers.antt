@@ -1,19 +1,20 @@
 -- `call::analyze_script` meets its contract. Assumes nothing.
-use Rattle.call.proofs.Laws.{reading_number, reading_refused, reading_finished, parsed, fresh, sized-kept}
+use Rattle.std.specs.Prelude.{Err, ◌≡◌}
 use borrow.Author.Rules.{rules}
+use Rattle.call.proofs.Laws.{reading_refused, reading_finished, parsed, sized-kept}
 use Rattle.call.proofs.analyze_script.Goals as goal
 
+pub returns-in_err-counts : goal.returns-in_err-counts
+returns-in_err-counts c =
+    let e : c.from_residual.result ≡ Err c.in_err-counts.field-0.0 = search rules in
+    rw e
+    (record { is = reading_refused _ _ c.read_tables.ensures _ c.args.answer.now c.in_err-counts.was; sized = search sized-kept })
+
 pub analyze_program-requires-clause-parsed : goal.analyze_program-requires-clause-parsed
-analyze_program-requires-clause-parsed c = search parsed
+analyze_program-requires-clause-parsed c = parsed _ _ c.read_tables.ensures c.in_ok-counts.was
 
-pub analyze_program-requires-clause-parts_fresh : goal.analyze_program-requires-clause-parts_fresh
-analyze_program-requires-clause-parts_fresh c = search fresh
-
-pub overflow_cast-number : goal.overflow_cast-number
-overflow_cast-number c = search reading_number
-
-pub returns-in-Finished : goal.returns-in-Finished
-returns-in-Finished c = record { is = search reading_finished; sized = record { answer = search rules; program = search rules; state = search rules } }
-
-pub returns-in-Refused : goal.returns-in-Refused
-returns-in-Refused c = record { is = search reading_refused; sized = search sized-kept }
+pub returns : goal.returns
+returns c = record {
+  is = reading_finished _ _ c.read_tables.ensures c.in_ok-counts.was _ _ c.analyze_program.ensures;
+  sized = record { answer = search rules; program = search rules; state = search rules };
+}

@@ -4,4 +4,4 @@ use Rattle.chains.proofs.build_index.Goals as goal
 
 pub returns : goal.returns
 returns c =
-    index_is c.requires.program_ready c.requires.chains_size_in_bounds c.chain.ensures c.chain-2.ensures c.chain-3.ensures
+    index_is c.args.program.now.ready c.requires c.chain.ensures c.chain-2.ensures c.chain-3.ensures

@@ -1,29 +1,25 @@
 -- `chains::chain` meets its contract. Assumes nothing.
-use Rattle.chains.proofs.Laws.{chain_start, chain_skip, chain_more, chain_done}
+use mathlib.Core.Path.{sym, ◌∙◌}
 use native.Mathlib.Omega.{arith}
-use lib.ListN.{length-set}
+use Rattle.chains.proofs.Laws.{place_low, chain_start, chain_none, chain_skip, chain_more, chain_done}
 use Rattle.chains.proofs.chain.Goals as goal
 
 pub loop-i-init : goal.loop-i-init
-loop-i-init c = search chain_start
-
-pub bounds-scratch-base-then-k-lt-HEADS-2 : goal.bounds-scratch-base-then-k-lt-HEADS-2
-bounds-scratch-base-then-k-lt-HEADS-2 c =
-    simp length-set (omega (arith, c.loop-i.invariant.only.len_same, c.fill.ensures.only.len_same))
+loop-i-init c = chain_start _ _ _ c.args.scratch.now _ (rw (c.place-heads.ensures) at c.fill.ensures)
 
 pub loop-i-preserved-then-k-lt-HEADS : goal.loop-i-preserved-then-k-lt-HEADS
 loop-i-preserved-then-k-lt-HEADS c =
-    chain_more c.loop-i.invariant (omega arith) _ c.key_of-k.ensures
-    (omega (
-      arith,
-      c.fill.ensures.only.len_same,
-      c.requires.chains_size_in_bounds.0,
-    ))
-    c.requires.program_ready.insns
-    c.requires.chains_size_in_bounds.1 (omega arith)
+    rw c.place-heads.ensures
+    (chain_more c.loop-i.invariant (omega arith) _ (sym c.in-Some.is ∙ c.key_of.ensures)
+    (omega (arith, c.fill.ensures.only.len_same, c.requires))
+    c.args.program.now.ready.insns
+    (place_low c.args.sort) (omega arith))
+
+pub loop-i-preserved-else-k-lt-HEADS : goal.loop-i-preserved-else-k-lt-HEADS
+loop-i-preserved-else-k-lt-HEADS c = chain_skip c.loop-i.invariant (omega arith) _ (sym c.in-Some.is ∙ c.key_of.ensures) (omega arith)
 
 pub loop-i-preserved : goal.loop-i-preserved
-loop-i-preserved c = search chain_skip
+loop-i-preserved c = chain_none c.loop-i.invariant (omega arith) (sym c.in_default.is ∙ c.key_of.ensures)
 
 pub returns : goal.returns
-returns c = chain_done c.loop-i.invariant c.fill.ensures (omega arith)
+returns c = chain_done c.loop-i.invariant (rw c.place-heads.ensures at c.fill.ensures) (omega arith)

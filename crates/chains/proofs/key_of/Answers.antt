@@ -1,21 +1,17 @@
 -- `chains::key_of` meets its contract. Assumes nothing.
-use Rattle.chains.proofs.Laws.{key_code, key_param, key_no_param, key_return, key_no_return, key_inside}
+use mathlib.Core.Path.{◌∙◌}
+use Rattle.chains.proofs.Laws.{key_code, key_params, key_return, key_no_return}
 use Rattle.chains.proofs.key_of.Goals as goal
 
-pub returns-then-sort-eq0 : goal.returns-then-sort-eq0
-returns-then-sort-eq0 c = search key_code
+pub returns-in-Code : goal.returns-in-Code
+returns-in-Code c = key_code _ _ c.insn-row.ensures.row c.in-Code.is
 
-pub returns-then-is_param : goal.returns-then-is_param
-returns-then-is_param c = search key_param
-
-pub returns-then-sort-eq1 : goal.returns-then-sort-eq1
-returns-then-sort-eq1 c = search key_no_param
-
-pub bounds-program-at : goal.bounds-program-at
-bounds-program-at c = search key_inside
+pub returns-in-Params : goal.returns-in-Params
+returns-in-Params c = c.then_some.ensures ∙ key_params _ _ c.insn-row.ensures.row c.in-Params.is c.is_param.ensures
 
 pub returns-then-is_return : goal.returns-then-is_return
-returns-then-is_return c = search key_return
+returns-then-is_return c =
+    key_return _ _ c.insn-row.ensures.row c.in-Returns.is c.function_of.ensures c.insn-row.ensures.inside c.is_return.ensures c.if-is_return.true
 
-pub returns : goal.returns
-returns c = search key_no_return
+pub returns-else-is_return : goal.returns-else-is_return
+returns-else-is_return c = key_no_return _ _ c.insn-row.ensures.row c.in-Returns.is c.is_return.ensures c.if-is_return.false

@@ -1,17 +1,15 @@
 -- The classes one after the other. Assumes nothing.
-use mathlib.Core.Bool.{Bool as 𝔹, false, cond}
 use mathlib.Core.Path.{◌≡◌, refl, sym, ap, ap₂, ◌∙◌}
 use mathlib.Core.List.{List, [], ◌∷◌, ◌++◌}
 use Prim.Native.Nat.{ℕ, zero, suc, ◌+◌, ◌*◌, ◌≤◌, ◌<◌}
 use native.Mathlib.Decide.{ℕ_discrete}
 use native.Mathlib.Omega.{arith}
-use borrow.Author.Tests.{ne_eqb}
-use lib.Dec.{eqb}
-use lib.ListN.{length, get_or}
-use mir.Syntax.{w32}
-use mir.Val.{Fits}
+use lib.ListN.{get_or}
 use Rattle.kinds.specs.Kinds.{kind_from, kinds_at}
 use Rattle.kinds.specs.declared.Kind.{Kind}
+use Rattle.std.specs.Prelude.{Result, Ok, Err, ⊤}
+use Rattle.refusals.specs.Refusals.{number_of}
+use Rattle.refusals.specs.declared.Refusal.{Refusal}
 use Rattle.rules.specs.Actions.{answered, refused}
 use Rattle.rules.specs.Program.{Limits, Program}
 use Rattle.rules.specs.Constructors.{first_kinds}
@@ -21,7 +19,7 @@ use Rattle.program.specs.Rows.{ivars_of}
 use Rattle.program.specs.View.{program_view, ProgramReady}
 use Rattle.program.specs.declared.Counts.{Counts}
 use Rattle.memory.specs.Layout.{classes_most, ivars_most}
-use Rattle.constructors.specs.firsts.Firsts.{FirstsOnly, outcome, FirstIs, all_kinds_at, FirstsAre}
+use Rattle.constructors.specs.firsts.Firsts.{FirstsOnly, outcome, FirstIs, FirstsAre}
 
 -- ---- the rules' loop
 
@@ -63,24 +61,20 @@ abbrev row : List ℕ → ℕ → ℕ → List ℕ → ℕ → List Kind
 row m tags payloads u k = kinds_at u (tags + ivars_most * k) (payloads + ivars_most * k) (ivars_of m k)
 
 -- the loop's head: the classes before k have their kinds
-pub record Classes (s m : List ℕ) (c : Counts) (tags payloads : ℕ) (w₀ u₀ w u : List ℕ) (k : ℕ) : Type 0 where
+pub record Classes (s m : List ℕ) (c : Counts) (tags payloads : ℕ) (u₀ u : List ℕ) (k : ℕ) : Type 0 where
   pub high : k ≤ c.classes
-  pub kept : length w ≡ length w₀
   pub only : FirstsOnly tags payloads (classes_most * ivars_most) u₀ u
   pub done : (i : ℕ) → i < k → first_kinds (program_view s m c) (0 + i) ≡ answered (row m tags payloads u i)
 
-pub classes-start : (s m : List ℕ) (c : Counts) (tags payloads : ℕ) (w u : List ℕ) → Classes s m c tags payloads w u w u 0
-classes-start s m c tags payloads w u =
-    record { high = omega arith; kept = refl; only = record { len_same = refl; others = λ i a b. refl }; done = λ i h. absurd (omega arith) }
+pub classes-start : (s m : List ℕ) (c : Counts) (tags payloads : ℕ) (u : List ℕ) → Classes s m c tags payloads u u 0
+classes-start s m c tags payloads u =
+    record { high = omega arith; only = record { len_same = refl; others = λ i a b. refl }; done = λ i h. absurd (omega arith) }
 
-module _ {s m : List ℕ} {c : Counts} {tags payloads : ℕ} {w₀ u₀ w u : List ℕ} {k : ℕ} (g : Classes s m c tags payloads w₀ u₀ w u k) (r : ProgramReady m c) where
-  pub class-fits : k < c.classes → Fits w32 k
-  class-fits h = record { fits = omega (arith, r.classes) }
-
+module _ {s m : List ℕ} {c : Counts} {tags payloads : ℕ} {u₀ u : List ℕ} {k : ℕ} (g : Classes s m c tags payloads u₀ u k) (r : ProgramReady m c) where
   pub class-below : k < c.classes → k < 64
   class-below h = omega (arith, r.classes)
 
-  module _ (h : k < c.classes) (apart : tags + (classes_most * ivars_most) ≤ payloads) {u' : List ℕ} {e : ℕ} (f : FirstIs s m c k tags payloads u u' e) where
+  module _ (h : k < c.classes) (apart : tags + (classes_most * ivars_most) ≤ payloads) {u' : List ℕ} {e : Result ⊤ Refusal} (f : FirstIs s m c k tags payloads u u' e) where
     wide : FirstsOnly tags payloads (classes_most * ivars_most) u₀ u'
     wide = record {
       len_same = f.only.len_same ∙ g.only.len_same;
@@ -96,31 +90,28 @@ module _ {s m : List ℕ} {c : Counts} {tags payloads : ℕ} {w₀ u₀ w u : Li
     before : (i : ℕ) → i < k → first_kinds (program_view s m c) (0 + i) ≡ answered (row m tags payloads u' i)
     before i l = g.done i l ∙ ap answered (sym (old_row i l))
 
-    pub class-more : {w' : List ℕ} → e ≡ 0 → length w' ≡ length w → Classes s m c tags payloads w₀ u₀ w' u' (k + 1)
-    class-more {w'} z len = record {
+    pub class-more : {v : ⊤} → e ≡ Ok v → Classes s m c tags payloads u₀ u' (k + 1)
+    class-more z = record {
       high = omega arith;
-      kept = len ∙ g.kept;
       only = wide;
       done = λ i l.
           elim (ℕ_discrete i k) [
-            | yes q ↦ rw q (let o : 0 + k ≡ k = omega arith in ap (first_kinds (program_view s m c)) o ∙ sym f.is ∙ ap (λ (x : ℕ). outcome x (row m tags payloads u' k)) z)
+            | yes q ↦ rw q (let o : 0 + k ≡ k = omega arith in ap (first_kinds (program_view s m c)) o ∙ sym f.is ∙ ap (λ (x : Result ⊤ Refusal). outcome x (row m tags payloads u' k)) z)
             | no q ↦ before i (omega arith)
           ];
     }
 
-    pub class-stop : (e ≡ 0 → ⊥) → FirstsAre s m c tags payloads u₀ u' e
-    class-stop ne =
-        let t : eqb e 0 ≡ false = ne_eqb e 0 ne in
+    pub class-stop : {r : Refusal} → e ≡ Err r → FirstsAre s m c tags payloads u₀ u' (Err r)
+    class-stop {r} z =
         let o : 0 + k ≡ k = omega arith in
         record {
           is = λ L.
-              ap (λ (b : 𝔹). cond b (answered (all_kinds_at m c tags payloads u')) (refused e)) t
-              ∙ sym (one_refused L (program_view s m c) (row m tags payloads u') e k 0 c.classes h before
-              (ap (first_kinds (program_view s m c)) o ∙ sym f.is ∙ ap (λ (b : 𝔹). cond b (answered (row m tags payloads u' k)) (refused e)) t));
+              sym (one_refused L (program_view s m c) (row m tags payloads u') (number_of r) k 0 c.classes h before
+              (ap (first_kinds (program_view s m c)) o ∙ sym f.is ∙ ap (λ (x : Result ⊤ Refusal). outcome x (row m tags payloads u' k)) z));
           only = wide;
         }
 
-  pub class-done : c.classes ≤ k → FirstsAre s m c tags payloads u₀ u 0
+  pub class-done : c.classes ≤ k → FirstsAre s m c tags payloads u₀ u (Ok tt)
   class-done h = record {
     is = λ L. sym (all-answered L (program_view s m c) (row m tags payloads u) 0 c.classes (λ i l. g.done i (omega (arith, g.high))));
     only = g.only;

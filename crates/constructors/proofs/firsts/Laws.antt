@@ -14,7 +14,7 @@ use Rattle.kinds.specs.declared.Kind.{Kind}
 use Rattle.kinds.specs.declared.Kind.TheVariants.{Nil}
 use Rattle.ids.specs.declared.FunId.{FunId}
 use Rattle.rules.specs.Actions.{Answer, answered, refused}
-use Rattle.rules.specs.Lists.{bytes, same, is_just, cons_if, has, first, places_from}
+use Rattle.rules.specs.Lists.{bytes, same, is_just, cons_if, first, places_from}
 use Rattle.rules.specs.Program as P
 use Rattle.rules.specs.Program.{Program, method_named, constructor_of, entry, class}
 use Rattle.rules.specs.Constructors.{first_kind, first_kinds, reverse_post_order, declared, initialized}
@@ -25,13 +25,12 @@ use Rattle.program.specs.declared.Counts.{Counts}
 use Rattle.program.specs.declared.Name.{Name}
 use Rattle.program.specs.declared.Function.{Function}
 use Rattle.program.proofs.Tables.{tab-at, tab_ext, tab-length}
-use Rattle.lookups.specs.declared.Constructor.{Constructor}
-use Rattle.lookups.specs.declared.Constructor.TheVariants as K
+use Rattle.std.specs.Prelude as R
+use Rattle.refusals.specs.Refusals.{number_of}
+use Rattle.refusals.specs.declared.Refusal.{Refusal}
 use Rattle.lookups.specs.Look.{constructor_found, Constructs}
 use Rattle.memory.specs.Layout.{ivars_most}
-use Rattle.constructors.specs.declared.Sure.{Sure}
-use Rattle.constructors.specs.declared.Sure.TheVariants as Q
-use Rattle.constructors.specs.Flows.{holds, ivar_in, sure_in, SureIs, FlowAnalyzed}
+use Rattle.constructors.specs.Flows.{holds, ivar_in, SureIs, FlowAnalyzed}
 use Rattle.constructors.proofs.Meeting.{holds-none}
 use Rattle.constructors.specs.firsts.Firsts.{start_of, FirstsOnly, PutsKinds, Entries, FirstIs}
 
@@ -52,10 +51,6 @@ pub record Putting (tags payloads n bits : ℕ) (u₀ u : List ℕ) (a : ℕ) : 
   pub high : a ≤ n
   pub only : FirstsOnly tags payloads n u₀ u
   pub here : (x : ℕ) → x < a → kind_at u (tags + x) (payloads + x) ≡ start_of (holds x bits)
-
-pub put-start : (tags payloads n bits : ℕ) (u : List ℕ) → Putting tags payloads n bits u u 0
-put-start tags payloads n bits u =
-    record { high = omega arith; only = record { len_same = refl; others = λ i g h. refl }; here = λ x h. absurd (omega arith) }
 
 module _ {tags payloads n bits : ℕ} {u₀ u : List ℕ} {a : ℕ} (z : Putting tags payloads n bits u₀ u a) where
   pub put-more : tags + n ≤ payloads → payloads + n ≤ length u₀ → a < n → Putting tags payloads n bits u₀ (set (set u (tags + a) (1 - bits / 2 ^ a % 2)) (payloads + a) 0) (a + 1)
@@ -100,12 +95,12 @@ place-below k F (x ∷ l) f e = go (F x) e (place-below (suc k) F l f)
     go true e ih = let q : k ≡ f = cc in omega arith
     go false e ih = omega (arith, ih e)
 
-pub ctor_below : {s m : List ℕ} {c : Counts} {k : ℕ} {r : Constructor} {f : FunId} {n : Name} → Constructs s m c k r → r ≡ K.At f n → f.0 < c.functions
+pub ctor_below : {s m : List ℕ} {c : Counts} {k : ℕ} {r : R.Option (FunId × Name)} {p : FunId × Name} → Constructs s m c k r → r ≡ R.Some p → p.0.0 < c.functions
 unfolding method_named functions_of
-ctor_below {s} {m} {c} {k} {r} {f} {n} co q =
+ctor_below {s} {m} {c} {k} {r} {p} co q =
     omega (
       arith,
-      place-below 0 (λ (x : P.Function). is_just x.class k && same x.name (bytes "initialize")) (functions_of s m c.functions) f.0 (sym co.is ∙ ap constructor_found q),
+      place-below 0 (λ (x : P.Function). is_just x.class k && same x.name (bytes "initialize")) (functions_of s m c.functions) p.0.0 (sym co.is ∙ ap constructor_found q),
       tab-length (λ g. function_in s (fun_at m g)) c.functions,
     )
 
@@ -153,56 +148,47 @@ module _ (s m : List ℕ) (c : Counts) (k : ℕ) (h : k < c.classes) where
   wider : {t p n bits : ℕ} {u u' : List ℕ} → n ≤ ivars_most → PutsKinds t p n bits u u' → FirstsOnly t p 64 u u'
   wider few d = record { len_same = d.only.len_same; others = λ i a b. d.only.others i (λ x y. a x (omega arith)) (λ x y. b x (omega arith)) }
 
-  module _ {r : Constructor} (few : ivars_of m k ≤ 64) (co : Constructs s m c k r) where
-    pub first-none : {tags payloads : ℕ} {u u' : List ℕ} → r ≡ K.Nothing → PutsKinds (tags + ivars_most * k) (payloads + ivars_most * k) (ivars_of m k) 0 u u' → FirstIs s m c k tags payloads u u' 0
+  module _ {r : R.Option (FunId × Name)} (few : ivars_of m k ≤ 64) (co : Constructs s m c k r) where
+    pub first-none : {tags payloads : ℕ} {u u' : List ℕ} → r ≡ R.None → PutsKinds (tags + ivars_most * k) (payloads + ivars_most * k) (ivars_of m k) 0 u u'
+        → FirstIs s m c k tags payloads u u' (R.Ok tt)
     first-none q d =
         record {
           is = ap answered (d.here ∙ kinds_by (λ n. false) 0 (λ a l. holds-none a)) ∙ sym (first_by none (sym co.is ∙ ap constructor_found q));
           only = wider few d;
         }
 
-    module _ {f : FunId} {n : Name} {row : Function} (sure : Sure) (q : r ≡ K.At f n) (lt : f.0 < c.functions) (rw' : row ≡ fun_at m f.0) (an : FlowAnalyzed s m c k row.entry.0 sure) where
-      entry-is : entry (program_view s m c) f.0 ≡ row.entry.0
+    module _ {p : FunId × Name} {row : Function} (q : r ≡ R.Some p) (lt : p.0.0 < c.functions) (rw' : row ≡ fun_at m p.0.0) where
+      entry-is : entry (program_view s m c) p.0.0 ≡ row.entry.0
       unfolding functions_of
-      entry-is = ap (λ (x : P.Function). x.entry) (tab-at (λ g. function_in s (fun_at m g)) c.functions f.0 _ lt) ∙ sym (ap (λ (x : Function). x.entry.0) rw')
+      entry-is = ap (λ (x : P.Function). x.entry) (tab-at (λ g. function_in s (fun_at m g)) c.functions p.0.0 _ lt) ∙ sym (ap (λ (x : Function). x.entry.0) rw')
 
-      found : first_kinds (program_view s m c) k ≡ by (some f.0)
-      found = first_by (some f.0) (sym co.is ∙ ap constructor_found q)
+      found : first_kinds (program_view s m c) k ≡ by (some p.0.0)
+      found = first_by (some p.0.0) (sym co.is ∙ ap constructor_found q)
 
-      told : SureIs s m c k (reverse_post_order (program_view s m c) (entry (program_view s m c) f.0)) sure
-      told = subst (λ (e : ℕ). SureIs s m c k (reverse_post_order (program_view s m c) e) sure) (sym entry-is) an
+      abbrev blocks : List ℕ
+      blocks = reverse_post_order (program_view s m c) (entry (program_view s m c) p.0.0)
 
-      pub first_refused : (tags payloads : ℕ) (u : List ℕ) → sure ≡ Q.Undeclared → FirstIs s m c k tags payloads u u 13
-      first_refused tags payloads u e =
+      answer_is : {t : 𝔹} → declared (program_view s m c) k blocks ≡ t → first_kinds (program_view s m c) k
+          ≡ cond t (answered (map (λ n. first_kind (program_view s m c) (initialized (program_view s m c) blocks n)) (class (program_view s m c) k).ivars)) (refused 13)
+      answer_is e =
+          found ∙ ap
+          (λ t. cond t (answered (map (λ n. first_kind (program_view s m c) (initialized (program_view s m c) blocks n)) (class (program_view s m c) k).ivars)) (refused 13)) e
+
+      told : {sure : R.Result ℕ Refusal} → FlowAnalyzed s m c k row.entry.0 sure → SureIs s m c k blocks sure
+      told {sure} an = subst (λ (e : ℕ). SureIs s m c k (reverse_post_order (program_view s m c) e) sure) (sym entry-is) an
+
+      pub first_refused : {e : Refusal} → FlowAnalyzed s m c k row.entry.0 (R.Err e) → (tags payloads : ℕ) (u : List ℕ) → FirstIs s m c k tags payloads u u (R.Err e)
+      first_refused {e} an tags payloads u =
           record {
-            is =
-                sym
-                (found ∙ ap
-                (λ t. cond t
-                (answered (map
-                (λ n. first_kind (program_view s m c)
-                (initialized (program_view s m c) (reverse_post_order (program_view s m c) (entry (program_view s m c) f.0)) n))
-                (class (program_view s m c) k).ivars))
-                (refused 13))
-                (told.asked ∙ ap (λ x. has (sure_in x)) e));
+            is = ap (λ (x : Refusal). refused (number_of x)) ((told an).refuses e refl) ∙ sym (answer_is (told an).asked);
             only = record { len_same = refl; others = λ i a b. refl };
           }
 
-      pub first_some : {tags payloads : ℕ} {u u' : List ℕ} {bits : ℕ} → sure ≡ Q.Set bits
-          → PutsKinds (tags + ivars_most * k) (payloads + ivars_most * k) (ivars_of m k) bits u u' → FirstIs s m c k tags payloads u u' 0
-      first_some {bits = bits} e d =
+      pub first_some : {bits : ℕ} → FlowAnalyzed s m c k row.entry.0 (R.Ok bits) → {tags payloads : ℕ} {u u' : List ℕ}
+          → PutsKinds (tags + ivars_most * k) (payloads + ivars_most * k) (ivars_of m k) bits u u' → FirstIs s m c k tags payloads u u' (R.Ok tt)
+      first_some {bits} an d =
           record {
-            is =
-                ap answered (d.here ∙ kinds_by (initialized (program_view s m c) (reverse_post_order (program_view s m c) (entry (program_view s m c) f.0))) bits (told.bits bits (ap sure_in e)))
-                ∙ sym
-                (found ∙ ap
-                (λ t. cond t
-                (answered (map
-                (λ n. first_kind (program_view s m c)
-                (initialized (program_view s m c) (reverse_post_order (program_view s m c) (entry (program_view s m c) f.0)) n))
-                (class (program_view s m c) k).ivars))
-                (refused 13))
-                (told.asked ∙ ap (λ x. has (sure_in x)) e));
+            is = ap answered (d.here ∙ kinds_by (initialized (program_view s m c) blocks) bits ((told an).bits bits refl)) ∙ sym (answer_is (told an).asked);
             only = wider few d;
           }
 

@@ -1,8 +1,10 @@
 -- The first kinds of a class's attributes in a table. Assumes nothing.
-use Rattle.std.specs.Prelude.{Bool as 𝔹, true, false, cond, ◌≡◌, List, ℕ, ◌+◌, ◌*◌, ◌≤◌, ◌<◌, eqb, length, get_or}
+use Rattle.std.specs.Prelude.{Bool as 𝔹, true, false, ◌≡◌, Result, Ok, Err, ⊤, List, ℕ, ◌+◌, ◌*◌, ◌≤◌, ◌<◌, length, get_or}
 use Rattle.kinds.specs.Kinds.{kinds_at}
 use Rattle.kinds.specs.declared.Kind.{Kind}
 use Rattle.kinds.specs.declared.Kind.TheVariants.{Empty, Nil}
+use Rattle.refusals.specs.Refusals.{number_of}
+use Rattle.refusals.specs.declared.Refusal.{Refusal}
 use Rattle.rules.specs.Actions.{Answer, answered, refused}
 use Rattle.rules.specs.Program.{Limits}
 use Rattle.rules.specs.Constructors.{first_kinds}
@@ -33,11 +35,12 @@ pub record PutsKinds (tags payloads n bits : ℕ) (u u' : List ℕ) : Type 0 whe
 pub record Entries (m : List ℕ) (c : Counts) : Type 0 where
   pub inside : (f : ℕ) → f < c.functions → (fun_at m f).entry.0 < c.blocks
 
--- an answer of the number 0, or a refusal of another number
-abbrev pub outcome : {A : Type 0} → ℕ → A → Answer A
-outcome r l = cond (eqb r 0) (answered l) (refused r)
+-- an answer, or a refusal by its number
+abbrev pub outcome : {A : Type 0} → Result ⊤ Refusal → A → Answer A
+outcome (Ok u) l = answered l
+outcome (Err e) l = refused (number_of e)
 
-pub record FirstIs (s m : List ℕ) (c : Counts) (k tags payloads : ℕ) (u u' : List ℕ) (r : ℕ) : Type 0 where
+pub record FirstIs (s m : List ℕ) (c : Counts) (k tags payloads : ℕ) (u u' : List ℕ) (r : Result ⊤ Refusal) : Type 0 where
   pub is : outcome r (kinds_at u' (tags + ivars_most * k) (payloads + ivars_most * k) (ivars_of m k)) ≡ first_kinds (program_view s m c) k
   pub only : FirstsOnly (tags + ivars_most * k) (payloads + ivars_most * k) 64 u u'
 
@@ -45,6 +48,6 @@ pub record FirstIs (s m : List ℕ) (c : Counts) (k tags payloads : ℕ) (u u' :
 abbrev pub all_kinds_at : List ℕ → Counts → ℕ → ℕ → List ℕ → List (List Kind)
 all_kinds_at m c tags payloads u = listed c.classes (λ k. kinds_at u (tags + ivars_most * k) (payloads + ivars_most * k) (ivars_of m k))
 
-pub record FirstsAre (s m : List ℕ) (c : Counts) (tags payloads : ℕ) (u u' : List ℕ) (r : ℕ) : Type 0 where
+pub record FirstsAre (s m : List ℕ) (c : Counts) (tags payloads : ℕ) (u u' : List ℕ) (r : Result ⊤ Refusal) : Type 0 where
   pub is : (L : Limits) → outcome r (all_kinds_at m c tags payloads u') ≡ first_kinds_from L (program_view s m c) 0 c.classes
   pub only : FirstsOnly tags payloads (classes_most * ivars_most) u u'

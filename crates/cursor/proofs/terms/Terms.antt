@@ -1,5 +1,5 @@
 -- Laws of names, assignments and sends. Assumes nothing.
-use mathlib.Core.Bool.{Bool, true, false, ◌||◌}
+use mathlib.Core.Bool.{Bool, true, false}
 use mathlib.Core.Option.{Option, none, some}
 use mathlib.Core.Path.{◌≡◌, refl, sym, ap, ◌∙◌}
 use mathlib.Core.List.{List, map}
@@ -9,7 +9,6 @@ use lib.ListN.{length}
 use Rattle.ids.specs.declared.ClassId.{ClassId}
 use Rattle.ids.specs.declared.FunId.{FunId}
 use Rattle.kinds.specs.declared.Kind.{Kind}
-use Rattle.kinds.specs.declared.Kind.TheVariants.{Nil, Truth}
 use Rattle.rules.specs.Actions.{answered, refused, when◌then◌else◌, refuse}
 use Rattle.rules.specs.Lists.{bytes, same}
 use Rattle.rules.specs.Values.{fun_kind, class_kind, class_in}
@@ -26,36 +25,17 @@ use Rattle.program.specs.declared.Opnd.TheVariants.{Const}
 use Rattle.program.specs.declared.Op.TheVariants.{New}
 use Rattle.program.specs.declared.Given.TheVariants.{Zero}
 use Rattle.program.specs.declared.Callee.TheVariants.{Dynamic}
-use Rattle.program.specs.declared.Owner.{Owner}
-use Rattle.lookups.specs.Look.{fun_found, constructor_found, class_found, Constructs, LookKnown}
-use Rattle.lookups.specs.declared.FoundFun.{FoundFun}
-use Rattle.lookups.specs.declared.FoundClass.{FoundClass}
-use Rattle.lookups.specs.declared.Constructor.{Constructor}
+use Rattle.std.specs.declared.option.Option.{Option as Maybe}
+use Rattle.lookups.specs.Look.{fun_found, constructor_found, Constructs, LookKnown}
 use Rattle.phis.specs.Joining.{PhisSets, PhisFinds, var_of}
-use Rattle.phis.specs.declared.Var.{Var}
 use Rattle.memory.specs.Layout.{operands_most}
 use Rattle.variables.specs.Layout.{entries_most}
 use Rattle.cursor.specs.Layout.{stack_at}
-use Rattle.cursor.specs.Cursor.{parser_of, waiting, bind_cur, In, Open}
+use Rattle.cursor.specs.Cursor.{Cursor, parser_of, waiting, bind_cur, In, Open}
 use Rattle.cursor.specs.Steps.{assigns, means}
 use Rattle.cursor.specs.Promises.{Out, done, CursorDid, CursorAdds, Assigns, parsed_of}
-use Rattle.cursor.specs.declared.Cursor.{Cursor}
-use Rattle.cursor.specs.declared.Parsed.{Parsed}
-use Rattle.cursor.specs.declared.Parsed.TheVariants.{Done, Refused}
+use Rattle.cursor.specs.outcomes.Parsed.{Parsed, Done, Refused}
 use Rattle.cursor.proofs.Laws.{step-none, step_trans, Acted, got, gave, refuses, arrives, ends_as, added_did}
-
--- ---- the three fixed values
-
-pub fixed-is : (s : List ℕ) (n : Name) {a b c : Bool} → a ≡ same (name s n.start n.len) (bytes "true") → b ≡ same (name s n.start n.len) (bytes "false")
-    → c ≡ same (name s n.start n.len) (bytes "nil") → ((a || b) || c) ≡ is_fixed (name_in s n)
-fixed-is s n p q r = rw (p, q, r)
-
-pub fixed-nil : (s : List ℕ) (n : Name) {b : Bool} → b ≡ same (name s n.start n.len) (bytes "nil") → b ≡ true → P.Const Nil ≡ fixed (name_in s n)
-fixed-nil s n p e = rw (sym p ∙ e)
-
-pub fixed_truth : (s : List ℕ) (n : Name) {a b : Bool} → b ≡ same (name s n.start n.len) (bytes "nil") → b ≡ false → a ≡ same (name s n.start n.len) (bytes "true")
-    → P.Const (Truth a) ≡ fixed (name_in s n)
-fixed_truth s n p e q = rw (sym p ∙ e, q)
 
 -- ---- assignments
 
@@ -115,11 +95,11 @@ env_of_lem : (s m w : List ℕ) (c : Cursor) → (parser_of s m w c).env ≡ var
 unfolding parser_of
 env_of_lem s m w c = refl
 
-known_of : (s m w : List ℕ) (c : Cursor) (n : Name) (r : FoundClass) → LookKnown s m c.counts c.class n r → class_found r ≡ class_named (parser_of s m w c) (name_in s n)
+known_of : (s m w : List ℕ) (c : Cursor) (n : Name) (r : Maybe ClassId) → LookKnown s m c.counts c.class n r → owner_in r ≡ class_named (parser_of s m w c) (name_in s n)
 unfolding parser_of
 known_of s m w c n r k = k.is (parser_of s m w c)
 
-found : (s m w : List ℕ) (c : Cursor) (n : Name) (x : FoundFun) → fun_found x ≡ function_named (program_view s m c.counts) (name_in s n)
+found : (s m w : List ℕ) (c : Cursor) (n : Name) (x : Maybe FunId) → fun_found x ≡ function_named (program_view s m c.counts) (name_in s n)
     → fun_found x ≡ function_named (parser_of s m w c).program (name_in s n)
 unfolding parser_of
 found s m w c n x f = f
@@ -131,29 +111,34 @@ module _ (s m w : List ℕ) (c : Cursor) (n : Name) (h : In s m w c) {b : Bool} 
   pub value-fixed : {u : P.Opnd} → b ≡ true → u ≡ fixed (name_in s n) → CursorDid (means (name_in s n)) 0 s m w c m w (done u c)
   value-fixed e f = says (ap some f ∙ as_fixed (name_in s n) (parser_of s m w c) (sym q ∙ e))
 
-  module _ (e : b ≡ false) {x : FoundFun} (f : fun_found x ≡ function_named (program_view s m c.counts) (name_in s n)) where
-    pub value_fun : {i : FunId} → x ≡ FoundFun.At i → CursorDid (means (name_in s n)) 0 s m w c m w (parsed_of (Done c (Const (Kind.Fun i))))
+  module _ (e : b ≡ false) {x : Maybe FunId} (f : fun_found x ≡ function_named (program_view s m c.counts) (name_in s n)) where
+    pub value_fun : {i : FunId} → x ≡ Maybe.Some i → CursorDid (means (name_in s n)) 0 s m w c m w (parsed_of (Done c (Const (Kind.Fun i))))
     value_fun g = says (as_fun (name_in s n) (parser_of s m w c) (sym q ∙ e) (sym (ap fun_found g) ∙ found s m w c n x f))
 
-    module _ (g : x ≡ FoundFun.Nothing) {y : FoundClass} (k : LookKnown s m c.counts c.class n y) where
-      pub value-class : {i : ClassId} → y ≡ FoundClass.At i → CursorDid (means (name_in s n)) 0 s m w c m w (parsed_of (Done c (Const (Kind.Class i))))
+    module _ (g : x ≡ Maybe.None) {y : Maybe ClassId} (k : LookKnown s m c.counts c.class n y) where
+      pub value-class : {i : ClassId} → y ≡ Maybe.Some i → CursorDid (means (name_in s n)) 0 s m w c m w (parsed_of (Done c (Const (Kind.Class i))))
       value-class j =
-          says (as_class (name_in s n) (parser_of s m w c) (sym q ∙ e) (sym (ap fun_found g) ∙ found s m w c n x f) (sym (ap class_found j) ∙ known_of s m w c n y k))
+          says (as_class (name_in s n) (parser_of s m w c) (sym q ∙ e) (sym (ap fun_found g) ∙ found s m w c n x f) (sym (ap owner_in j) ∙ known_of s m w c n y k))
 
-      module _ (j : y ≡ FoundClass.Nothing) {z : Var} (u : PhisFinds s w c.vars (name s n.start n.len) z) where
+      module _ (j : y ≡ Maybe.None) {z : Maybe Opnd} (u : PhisFinds s w c.vars (name s n.start n.len) z) where
         as_found : {o : Option P.Opnd} → var_of z ≡ o → o ≡ meaning (name_in s n) (parser_of s m w c)
         as_found t =
-            as_var (name_in s n) (parser_of s m w c) (sym q ∙ e) (sym (ap fun_found g) ∙ found s m w c n x f) (sym (ap class_found j) ∙ known_of s m w c n y k)
+            as_var (name_in s n) (parser_of s m w c) (sym q ∙ e) (sym (ap fun_found g) ∙ found s m w c n x f) (sym (ap owner_in j) ∙ known_of s m w c n y k)
             (sym t ∙ (u.is ∙ ap (lookup (name_in s n)) (sym (env_of_lem s m w c))))
 
-        pub value_var : {o : Opnd} → z ≡ Var.At o → CursorDid (means (name_in s n)) 0 s m w c m w (parsed_of (Done c o))
+        pub value_var : {o : Opnd} → z ≡ Maybe.Some o → CursorDid (means (name_in s n)) 0 s m w c m w (parsed_of (Done c o))
         value_var t = says (as_found (ap var_of t))
 
-        pub value_none : z ≡ Var.Unbound → CursorDid (means (name_in s n)) 0 s m w c m w (parsed_of (Refused 6))
+        pub value_none : z ≡ Maybe.None → CursorDid (means (name_in s n)) 0 s m w c m w (parsed_of (Refused 6))
         value_none t = refuses (means_no (name_in s n) (parser_of s m w c) (as_found (ap var_of t)))
 
-pub var_room : {s m w : List ℕ} {c : Cursor} → In s m w c → (stack_at ≤ length w) × (c.vars ≤ entries_most)
-var_room h = (omega (arith, h.ready.scratch), omega (arith, h.ready.room.law, h.ready.room.script))
+-- the last way: the variable, where there is one
+pub value-last : (s m w : List ℕ) (c : Cursor) (n : Name) (h : In s m w c) {b : Bool} (q : b ≡ is_fixed (name_in s n)) (e : b ≡ false) {x : Maybe FunId}
+    (f : fun_found x ≡ function_named (program_view s m c.counts) (name_in s n)) (g : x ≡ Maybe.None) {y : Maybe ClassId} (k : LookKnown s m c.counts c.class n y)
+    (j : y ≡ Maybe.None) (z : Maybe Opnd) → PhisFinds s w c.vars (name s n.start n.len) z → {p : Parsed}
+    → ((v : Opnd) → z ≡ Maybe.Some v → p ≡ Done c v) → (z ≡ Maybe.None → p ≡ Refused 6) → CursorDid (means (name_in s n)) 0 s m w c m w (parsed_of p)
+value-last s m w c n h q e f g k j (Maybe.Some v) u {p} a b = rw (a v refl) (value_var s m w c n h q e f g k j u refl)
+value-last s m w c n h q e f g k j Maybe.None u {p} a b = rw (b refl) (value_none s m w c n h q e f g k j u refl)
 
 pub open_of : {s m w : List ℕ} {c : Cursor} → In s m w c → Open m c
 open_of h = record { tables = h.ready.tables; block = h.block }
@@ -180,15 +165,15 @@ module _ (L : P.Limits) (s : List ℕ) (m w : List ℕ) (c : Cursor) (k : ClassI
     pub new-args : c.args + n ≤ operands_most → c1.args + n ≤ operands_most
     new-args l = omega (arith, at_new.step.args)
 
-    module _ {q : Constructor} (x : Constructs s m1 c1.counts k.0 q) where
+    module _ {q : Maybe (FunId × Name)} (x : Constructs s m1 c1.counts k.0 q) where
       ctor : {y : Option ℕ} → constructor_found q ≡ y → y ≡ constructor_of (parser_of s m1 w c1).program k.0
       ctor g = sym g ∙ (x.is ∙ ap (λ (z : P.Program). constructor_of z k.0) (sym (program_of s m1 w c1)))
 
-      pub create_bare : q ≡ Constructor.Nothing → (E : ℕ → Reads P.Opnd) → CursorDid (create_instance L s E k.0 (waiting w c.args n)) 0 s m w c m1 w (parsed_of (Done c1 o))
+      pub create_bare : q ≡ Maybe.None → (E : ℕ → Reads P.Opnd) → CursorDid (create_instance L s E k.0 (waiting w c.args n)) 0 s m w c m1 w (parsed_of (Done c1 o))
       unfolding create_instance
       create_bare g E = arrives at_new.step (omega arith) new-here (rw (← at_new.is, ← ctor (ap constructor_found g)))
 
-      module _ {i : FunId} {x' : Name} (g : q ≡ Constructor.At i x') where
+      module _ {i : FunId} {x' : Name} (g : q ≡ Maybe.Some (i, x')) where
         init : name_in s x' ≡ bytes "initialize"
         init = let y = rw g at x in y.named
 
@@ -229,22 +214,22 @@ send-stopped : (L : P.Limits) (s : List ℕ) (E : ℕ → Reads P.Opnd) (v : P.O
     → refused 8 ≡ send_by L s E v n l (some c) r
 send-stopped L s E v n l c r e = rw e
 
-module _ (L : P.Limits) (s : List ℕ) (m w : List ℕ) (c : Cursor) (v : Opnd) (n : Name) (k : ℕ) {o : Owner} (t : owner_in o ≡ constant_of class_in (opnd_of v)) where
-  pub send_dynamic : {m1 : List ℕ} {u : Out P.Opnd} → In s m w c → o ≡ Owner.Nobody
+module _ (L : P.Limits) (s : List ℕ) (m w : List ℕ) (c : Cursor) (v : Opnd) (n : Name) (k : ℕ) {o : Maybe ClassId} (t : owner_in o ≡ constant_of class_in (opnd_of v)) where
+  pub send_dynamic : {m1 : List ℕ} {u : Out P.Opnd} → In s m w c → o ≡ Maybe.None
       → ((z : List ℕ) → CursorAdds z w (push L (P.Send (callee_in z (Dynamic v n)) (waiting w c.args k))) m c m1 u)
       → (E : ℕ → Reads P.Opnd) → CursorDid (send L s E (opnd_of v) (name_in s n) (waiting w c.args k)) 0 s m w c m1 w u
   send_dynamic h e a E =
       ends_as (step-none c w) (omega arith) (added_did (a s) h) (send-is L s E (opnd_of v) (name_in s n) (waiting w c.args k) (parser_of s m w c) (sym (ap owner_in e) ∙ t))
 
-  module _ {x : ClassId} (e : o ≡ Owner.Class x) {b : Bool} (q : b ≡ same (name s n.start n.len) (bytes "new")) where
+  module _ {x : ClassId} (e : o ≡ Maybe.Some x) {b : Bool} (q : b ≡ same (name s n.start n.len) (bytes "new")) where
     pub send-other : {m' : List ℕ} → b ≡ false → (E : ℕ → Reads P.Opnd) → CursorDid (send L s E (opnd_of v) (name_in s n) (waiting w c.args k)) 0 s m w c m' w (parsed_of (Refused 8))
     send-other f E =
         refuses
         (send-stopped L s E (opnd_of v) (name_in s n) (waiting w c.args k) x.0 (parser_of s m w c) (sym q ∙ f)
         ∙ send-is L s E (opnd_of v) (name_in s n) (waiting w c.args k) (parser_of s m w c) (sym (ap owner_in e) ∙ t))
 
-    pub send-new : {m1 : List ℕ} {u : Out P.Opnd} → b ≡ true → ((E : ℕ → Reads P.Opnd) → CursorDid (create_instance L s E x.0 (waiting w c.args k)) 0 s m w c m1 w u)
-        → (E : ℕ → Reads P.Opnd) → CursorDid (send L s E (opnd_of v) (name_in s n) (waiting w c.args k)) 0 s m w c m1 w u
+    pub send-new : {m1 w1 : List ℕ} {u : Out P.Opnd} → b ≡ true → ((E : ℕ → Reads P.Opnd) → CursorDid (create_instance L s E x.0 (waiting w c.args k)) 0 s m w c m1 w1 u)
+        → (E : ℕ → Reads P.Opnd) → CursorDid (send L s E (opnd_of v) (name_in s n) (waiting w c.args k)) 0 s m w c m1 w1 u
     send-new f a E =
         ends_as (step-none c w) (omega arith) (a E)
         (send-made L s E (opnd_of v) (name_in s n) (waiting w c.args k) x.0 (parser_of s m w c) (sym q ∙ f)

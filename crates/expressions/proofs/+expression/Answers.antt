@@ -1,400 +1,499 @@
 -- The cycle `expression` of `expressions` meets its contracts. Assumes nothing.
-use Rattle.cursor.proofs.Laws.{got}
-use Rattle.cursor.proofs.Wording.{spelt_equals, spelt_open}
-use Rattle.cursor.specs.Promises.{parsed_of}
-use Rattle.expressions.proofs.Turns.{arg_close, arg_last, arg_more, arg_no1, arg_no2, arg_none, args-again, args-less, args-start, args_done, args_high, args_no1}
-use Rattle.expressions.proofs.Turns.{args_no2, call-yes, call_no, member_no2, member_no3, member_read, member_send, right-yes, right_no, suffix_call, suffix_ends}
-use Rattle.expressions.proofs.Turns.{suffix_member, suffix_none, suffix_operator, suffix_other, suffixes_again, suffixes_done, suffixes_less, suffixes_no, suffixes_start}
-use Rattle.expressions.proofs.Ways.{call-passed, expr_deep, expr_no, expr_on, expr_unseen, group_no, group_open, group_yes, ident_went, ivar_get, ivar_no1, ivar_no2}
-use Rattle.expressions.proofs.Ways.{ivar_no3, ivar_set, low-after, match_went, member_no1, member_passed, name_get, name_no1, name_no2, name_no3, name_set}
-use Rattle.expressions.proofs.Ways.{operator-passed, passed, primary_group, primary_ivar, primary_name, primary_number, sees_word}
+use mathlib.Core.Path.{◌≡◌, refl, ap, ◌∙◌}
+use Rattle.std.specs.Prelude.{Ok}
+use Rattle.std.proofs.Common.{rules, arith}
+use Rattle.std.proofs.lemmas.Result.{err_from_is_err_and}
+use Rattle.rules.specs.Reading.{parse_expr}
+use Rattle.lexer.specs.declared.Token.TheVariants as T
 use Rattle.program.specs.Rows.{opnd_of}
-use mathlib.Core.Path.{ap, refl}
-use native.Mathlib.Omega.{arith}
+use Rattle.program.specs.View.{limits_of}
+use Rattle.cursor.specs.Parsers.{cursor_of, parsed_in, moved_in, ident_in, matched_if, matched_in}
+use Rattle.cursor.proofs.Kept.{kept_none, after_none, after_placed, after_kept, after_adds, after_scratch, did_of, idents_of, matches_of, expects_of, finish}
+use Rattle.expressions.specs.Readers.{arg_if, arg_in, args_in, suffix_if, suffix_in}
+use Rattle.expressions.proofs.Standing.{finish_arg, finish_args, arg_at, args_at, suffix_at, arg_turn}
+use Rattle.expressions.proofs.Turns.{arg_close, arg_no1, arg_none, args-again, args-start, args_done, args_no1, args_no2, call-yes, call_no}
+use Rattle.expressions.proofs.Turns.{member_no2, member_no3, member_read, member_send, right-yes, right_no, suffix_call, suffix_ends, suffix_member, suffix_none}
+use Rattle.expressions.proofs.Turns.{suffix_operator, suffix_other, suffixes_again, suffixes_done, suffixes_no, suffixes_start}
+use Rattle.expressions.proofs.Ways.{expr_deep, expr_no, expr_on, expr_unseen, group_no, group_open, group_yes, ivar_get, ivar_no1, ivar_no2, ivar_no3, ivar_set}
+use Rattle.expressions.proofs.Ways.{member_no1, name_get, name_no1, name_no2, name_no3, name_set, primary_group, primary_ivar, primary_name, primary_number}
 use Rattle.expressions.proofs.+expression.Goals as goal
 
-pub parse_arg-returns-then-x-eq41 : goal.parse_arg-returns-then-x-eq41
-parse_arg-returns-then-x-eq41 t c =
-    arg_close _ _ _ c.peek.ensures c.in-Found.is c.requires.fact c.if-x-eq41.true
+pub parse_arg-returns-in_err-x : goal.parse_arg-returns-in_err-x
+parse_arg-returns-in_err-x t c =
+    let x = err_from_is_err_and c.from_residual.result c.from_residual.ensures.1 in
+    rw (x.1, x.2)
+    (finish_arg (after_none c.args.p.now) (arg_none _ _ (parse_expr _ _ c.args.depth) c.peek.ensures c.in_err-x.was))
 
-pub parse_arg-parse_from-requires : goal.parse_arg-parse_from-requires
-parse_arg-parse_from-requires t c = (
-  omega (arith, c.decreases),
-  (c.requires.fact, (c.requires.small, sees_word c.peek.ensures c.in-Found.is)),
-)
+pub parse_arg-returns-then-eq : goal.parse_arg-returns-then-eq
+parse_arg-returns-then-eq t c =
+    let e : c.in_ok-x.x.token ≡ T.Sign 41 = search rules in
+    finish_arg (after_none c.args.p.now) (arg_close _ _ (parse_expr _ _ c.args.depth) c.in_ok-x.ensures refl c.requires.reading e)
 
-pub parse_arg-returns-in-Refused : goal.parse_arg-returns-in-Refused
-parse_arg-returns-in-Refused t c =
-    arg_none _ _ _ c.peek.ensures c.in-Refused.is
+pub parse_arg-returns-in_err-v : goal.parse_arg-returns-in_err-v
+parse_arg-returns-in_err-v t c =
+    let no : c.in_ok-x.x.token ≡ T.Sign 41 → ⊥ = search rules in
+    let x = err_from_is_err_and c.from_residual-in_err-v.result c.from_residual-in_err-v.ensures.1 in
+    rw (x.1, x.2)
+    (finish_arg (after_kept (after_none c.args.p.now) c.parse_from.ensures.kept)
+    (arg_no1 _ _ (parse_expr _ _ c.args.depth) c.in_ok-x.ensures refl c.requires.reading no
+    {p = parsed_in c.parse_from.new.p c.parse_from.result} c.parse_from.ensures.did (ap (parsed_in c.parse_from.new.p) c.in_err-v.was)))
 
-pub parse_arg-returns-in-Refused-parse_from : goal.parse_arg-returns-in-Refused-parse_from
-parse_arg-returns-in-Refused-parse_from t c =
-    arg_no1 _ _ _ c.peek.ensures c.in-Found.is c.requires.fact c.if-x-eq41.false c.parse_from.ensures c.in-Refused-parse_from.is
+pub parse_arg-returns : goal.parse_arg-returns
+parse_arg-returns t c =
+    let no : c.in_ok-x.x.token ≡ T.Sign 41 → ⊥ = search rules in
+    let a1 = after_kept (after_none c.args.p.now) c.parse_from.ensures.kept in
+    let a2 = after_scratch a1 c.push_arg.ensures.kept c.push_arg.ensures.program in
+    finish_arg (after_placed a2 c.match_token.ensures.same)
+    (arg_turn _ _ (parse_expr _ _ c.args.depth) c.in_ok-x.ensures c.requires.reading no (parsed_in c.parse_from.new.p c.parse_from.result) c.parse_from.ensures.did c.requires.args_bound
+    (ap (parsed_in c.parse_from.new.p) c.in_ok-v.was) c.push_arg.new.self c.match_token.new.self c.push_arg.ensures.stacks c.match_token.result
+    (matches_of a2 c.match_token.ensures) c.match_token.ensures.stays)
 
-pub parse_arg-returns-in-Refused-match_token : goal.parse_arg-returns-in-Refused-match_token
-parse_arg-returns-in-Refused-match_token t c =
-    arg_no2 _ _ _ c.peek.ensures c.in-Found.is c.requires.fact c.if-x-eq41.false c.parse_from.ensures c.requires.args_bound c.in-Done.is
-    c.push_arg-c2.ensures c.match_token.ensures c.in-Refused-match_token.is
+pub parse_args-loop-init : goal.parse_args-loop-init
+parse_args-loop-init t c =
+    record { kept = kept_none _; inv = args-start _ _ _ c.requires.reading c.requires.args_bound }
 
-pub parse_arg-returns-in-Yes : goal.parse_arg-returns-in-Yes
-parse_arg-returns-in-Yes t c =
-    arg_more _ _ _ c.peek.ensures c.in-Found.is c.requires.fact c.if-x-eq41.false c.parse_from.ensures c.requires.args_bound c.in-Done.is
-    c.push_arg-c2.ensures c.match_token.ensures c.in-Yes.is
+pub parse_args-returns-in_err-parse_arg : goal.parse_args-returns-in_err-parse_arg
+parse_args-returns-in_err-parse_arg t c =
+    let a = after_kept (after_none c.args.p.now) c.loop.invariant.kept in
+    let a1 = after_kept a c.parse_arg.ensures.kept in
+    let x = err_from_is_err_and c.from_residual.result c.from_residual.ensures.1 in
+    rw (x.1, x.2)
+    (finish_args a1 (args_no1 _ _ (parse_expr _ _ c.args.depth) c.loop.invariant.inv (arg_at a c.parse_arg.ensures) (ap (arg_in c.parse_arg.new.p) c.in_err-parse_arg.was)))
 
-pub parse_arg-returns-in-Not : goal.parse_arg-returns-in-Not
-parse_arg-returns-in-Not t c =
-    arg_last _ _ _ c.peek.ensures c.in-Found.is c.requires.fact c.if-x-eq41.false c.parse_from.ensures c.requires.args_bound c.in-Done.is
-    c.push_arg-c2.ensures c.match_token.ensures c.in-Not.is
+pub parse_args-loop-preserved : goal.parse_args-loop-preserved
+parse_args-loop-preserved t c =
+    let a = after_kept (after_none c.args.p.now) c.loop.invariant.kept in
+    let a1 = after_kept a c.parse_arg.ensures.kept in
+    record {
+      kept = a1.kept;
+      inv = args-again _ _ (parse_expr _ _ c.args.depth) c.loop.invariant.inv (arg_at a c.parse_arg.ensures)
+          (ap (arg_in c.parse_arg.new.p) c.in_ok-parse_arg.was ∙ ap (arg_if c.parse_arg.new.p) c.if-branch.true);
+    }
 
-pub parse_args-loop-c1-init : goal.parse_args-loop-c1-init
-parse_args-loop-c1-init t c =
-    args-start _ _ _ c.requires.fact c.requires.args_bound
+pub parse_args-returns-in_err-expect : goal.parse_args-returns-in_err-expect
+parse_args-returns-in_err-expect t c =
+    let a = after_kept (after_none c.args.p.now) c.loop.invariant.kept in
+    let a1 = after_kept a c.parse_arg.ensures.kept in
+    let x = err_from_is_err_and c.from_residual-in_err-expect.result c.from_residual-in_err-expect.ensures.1 in
+    rw (x.1, x.2)
+    (finish_args (after_placed a1 c.expect.ensures.same)
+    (args_no2 _ _ (parse_expr _ _ c.args.depth) c.loop.invariant.inv (arg_at a c.parse_arg.ensures)
+    (ap (arg_in c.parse_arg.new.p) c.in_ok-parse_arg.was ∙ ap (arg_if c.parse_arg.new.p) c.if-branch.false) (expects_of a1 c.expect.ensures)
+    (ap (moved_in c.expect.new.self) c.in_err-expect.was)))
 
-pub parse_args-parse_arg-requires : goal.parse_args-parse_arg-requires
-parse_args-parse_arg-requires t c = (
-  omega (arith, c.decreases),
-  (
-    c.loop-c1.invariant.here,
-    (c.requires.small, c.loop-c1.invariant.room),
-  ),
-)
+pub parse_args-returns : goal.parse_args-returns
+parse_args-returns t c =
+    let a = after_kept (after_none c.args.p.now) c.loop.invariant.kept in
+    let a1 = after_kept a c.parse_arg.ensures.kept in
+    let a2 = after_placed a1 c.expect.ensures.same in
+    finish_args
+    (record {
+      kept = record { script = a2.kept.script; limits = a2.kept.limits; words_loan = a2.kept.words_loan; scratch_loan = a2.kept.scratch_loan };
+      words = a2.words;
+      scratch = a2.scratch;
+    })
+    (args_done _ _ (parse_expr _ _ c.args.depth) c.loop.invariant.inv (arg_at a c.parse_arg.ensures)
+    (ap (arg_in c.parse_arg.new.p) c.in_ok-parse_arg.was ∙ ap (arg_if c.parse_arg.new.p) c.if-branch.false) (expects_of a1 c.expect.ensures)
+    (ap (moved_in c.expect.new.self) c.in_ok-expect.was))
 
-pub parse_args-loop-c1-smaller : goal.parse_args-loop-c1-smaller
-parse_args-loop-c1-smaller t c =
-    args-less _ _ _ c.loop-c1.invariant c.parse_arg.ensures c.in-Again.is
+pub parse_call-returns-in_err-n : goal.parse_call-returns-in_err-n
+parse_call-returns-in_err-n t c =
+    let x = err_from_is_err_and c.from_residual.result c.from_residual.ensures.1 in
+    rw (x.1, x.2)
+    (finish (after_kept (after_none c.args.p.now) c.parse_args.ensures.kept)
+    (call_no _ _ (parse_expr _ _ c.args.depth) (opnd_of c.args.v) c.parse_args.ensures.did (ap (args_in c.parse_args.new.p) c.in_err-n.was)))
 
-pub parse_args-loop-c1-preserved : goal.parse_args-loop-c1-preserved
-parse_args-loop-c1-preserved t c =
-    args-again _ _ _ c.loop-c1.invariant c.parse_arg.ensures c.in-Again.is c.parse_arg.auto.program c.parse_arg.auto.scratch
-
-pub parse_args-taken-requires : goal.parse_args-taken-requires
-parse_args-taken-requires t c =
-    args_high _ _ _ c.loop-c1.invariant c.parse_arg.ensures c.in-Ends.is c.expect.ensures c.in-On.is
-
-pub parse_args-returns-in-Refused-expect : goal.parse_args-returns-in-Refused-expect
-parse_args-returns-in-Refused-expect t c =
-    args_no2 _ _ _ c.loop-c1.invariant c.parse_arg.ensures c.in-Ends.is c.expect.ensures c.in-Refused-expect.is
-
-pub parse_args-returns-in-On : goal.parse_args-returns-in-On
-parse_args-returns-in-On t c =
-    args_done _ _ _ c.loop-c1.invariant c.parse_arg.ensures c.in-Ends.is c.expect.ensures c.in-On.is c.taken.ensures
-
-pub parse_args-returns-in-Refused : goal.parse_args-returns-in-Refused
-parse_args-returns-in-Refused t c =
-    args_no1 _ _ _ c.loop-c1.invariant c.parse_arg.ensures c.in-Refused.is
-
-pub parse_call-parse_args-requires : goal.parse_call-parse_args-requires
-parse_call-parse_args-requires t c =
-    (omega (arith, c.decreases), (c.requires.fact, (c.requires.small, c.requires.args_bound)))
-
-pub parse_call-returns-in-Refused : goal.parse_call-returns-in-Refused
-parse_call-returns-in-Refused t c =
-    call_no _ _ _ (opnd_of c.args.v) c.parse_args.ensures c.in-Refused.is
-
-pub parse_call-returns-in-Done : goal.parse_call-returns-in-Done
-parse_call-returns-in-Done t c =
-    call-yes _ _ _ (opnd_of c.args.v) c.parse_args.ensures c.in-Done.is c.bare_call.ensures
+pub parse_call-returns : goal.parse_call-returns
+parse_call-returns t c =
+    let a1 = after_kept (after_none c.args.p.now) c.parse_args.ensures.kept in
+    finish (after_adds a1 c.bare_call.ensures.kept)
+    (call-yes _ _ (parse_expr _ _ c.args.depth) (opnd_of c.args.v) c.parse_args.ensures.did (ap (args_in c.parse_args.new.p) c.in_ok-n.was) (rw a1.kept.limits at c.bare_call.ensures.adds))
 
 pub parse_expr-returns-then-depth-eq0 : goal.parse_expr-returns-then-depth-eq0
-parse_expr-returns-then-depth-eq0 t c = expr_deep _ _ _ _ c.if-depth-eq0.true
+parse_expr-returns-then-depth-eq0 t c =
+    record { kept = kept_none _; did = expr_deep _ _ _ _ c.if-depth-eq0.true }
 
-pub parse_expr-parse_from-requires : goal.parse_expr-parse_from-requires
-parse_expr-parse_from-requires t c = (
-  omega (arith, c.decreases),
-  (c.requires.fact, (c.requires.small, sees_word c.peek.ensures c.in-Found.is)),
-)
+pub parse_expr-returns-in_err-x : goal.parse_expr-returns-in_err-x
+parse_expr-returns-in_err-x t c =
+    let x = err_from_is_err_and c.from_residual.result c.from_residual.ensures.1 in
+    rw (x.1, x.2)
+    (finish (after_none c.args.p.now) (expr_unseen _ _ _ _ c.if-depth-eq0.false c.peek.ensures c.in_err-x.was))
 
-pub parse_expr-returns-in-Refused : goal.parse_expr-returns-in-Refused
-parse_expr-returns-in-Refused t c =
-    expr_unseen _ _ _ _ c.if-depth-eq0.false c.peek.ensures c.in-Refused.is
+pub parse_from-returns-then-depth-lt1 : goal.parse_from-returns-then-depth-lt1
+parse_from-returns-then-depth-lt1 t c =
+    record { kept = kept_none _; did = expr_deep _ _ _ _ (omega (arith, c.if-depth-lt1.true)) }
 
-pub parse_from-returns-else-depth-gt0 : goal.parse_from-returns-else-depth-gt0
-parse_from-returns-else-depth-gt0 t c = expr_deep _ _ _ _ (omega (arith, c.if-depth-gt0.false))
+pub parse_from-returns-in_err-v : goal.parse_from-returns-in_err-v
+parse_from-returns-in_err-v t c =
+    let a1 = after_kept (after_none c.args.p.now) c.parse_primary.ensures.kept in
+    let x = err_from_is_err_and c.from_residual.result c.from_residual.ensures.1 in
+    rw (x.1, x.2)
+    (finish a1 (expr_no _ _ _ _ {p = parsed_in c.parse_primary.new.p c.parse_primary.result}
+    (λ z. omega (arith, c.if-depth-lt1.false, z)) c.parse_primary.ensures.did (ap (parsed_in c.parse_primary.new.p) c.in_err-v.was)))
 
-pub parse_from-parse_primary-requires : goal.parse_from-parse_primary-requires
-parse_from-parse_primary-requires t c = (
-  omega (arith, c.decreases, c.if-depth-gt0.true),
-  (c.requires.fact, (c.requires.small, c.requires.sees)),
-)
+pub parse_from-returns : goal.parse_from-returns
+parse_from-returns t c =
+    let a1 = after_kept (after_none c.args.p.now) c.parse_primary.ensures.kept in
+    finish (after_kept a1 c.parse_suffixes.ensures.kept)
+    (expr_on _ _ _ _ {p = parsed_in c.parse_primary.new.p c.parse_primary.result}
+    (λ z. omega (arith, c.if-depth-lt1.false, z)) c.parse_primary.ensures.did (ap (parsed_in c.parse_primary.new.p) c.in_ok-v.was)
+    (did_of a1 c.parse_suffixes.ensures))
 
-pub parse_from-parse_suffixes-requires : goal.parse_from-parse_suffixes-requires
-parse_from-parse_suffixes-requires t c = (
-  omega (
-    arith,
-    c.decreases,
-    c.if-depth-gt0.true,
-  ),
-  ((got c.parse_primary.ensures (ap parsed_of c.in-Done.is)).here, c.requires.small),
-)
+pub parse_group-returns-in_err-v : goal.parse_group-returns-in_err-v
+parse_group-returns-in_err-v t c =
+    let a1 = after_kept (after_none c.args.p.now) c.parse_expr.ensures.kept in
+    let x = err_from_is_err_and c.from_residual.result c.from_residual.ensures.1 in
+    rw (x.1, x.2)
+    (finish a1 (group_no _ _ (parse_expr _ _ c.args.depth) {p = parsed_in c.parse_expr.new.p c.parse_expr.result} c.parse_expr.ensures.did (ap (parsed_in c.parse_expr.new.p) c.in_err-v.was)))
 
-pub parse_from-returns-in-Done : goal.parse_from-returns-in-Done
-parse_from-returns-in-Done t c =
-    expr_on _ _ _ _ (λ z. omega (arith, c.if-depth-gt0.true, z))
-    c.parse_primary.ensures
-    c.in-Done.is c.parse_suffixes.ensures
+pub parse_group-returns-in_err-expect : goal.parse_group-returns-in_err-expect
+parse_group-returns-in_err-expect t c =
+    let a1 = after_kept (after_none c.args.p.now) c.parse_expr.ensures.kept in
+    let x = err_from_is_err_and c.from_residual-in_err-expect.result c.from_residual-in_err-expect.ensures.1 in
+    rw (x.1, x.2)
+    (finish (after_placed a1 c.expect.ensures.same)
+    (group_open _ _ (parse_expr _ _ c.args.depth) {p = parsed_in c.parse_expr.new.p c.parse_expr.result} c.parse_expr.ensures.did
+    (ap (parsed_in c.parse_expr.new.p) c.in_ok-v.was) (expects_of a1 c.expect.ensures) (ap (moved_in c.expect.new.self) c.in_err-expect.was)))
 
-pub parse_from-returns-in-Refused : goal.parse_from-returns-in-Refused
-parse_from-returns-in-Refused t c =
-    expr_no _ _ _ _ (λ z. omega (arith, c.if-depth-gt0.true, z))
-    c.parse_primary.ensures c.in-Refused.is
+pub parse_group-returns : goal.parse_group-returns
+parse_group-returns t c =
+    let a1 = after_kept (after_none c.args.p.now) c.parse_expr.ensures.kept in
+    finish (after_placed a1 c.expect.ensures.same)
+    (group_yes _ _ (parse_expr _ _ c.args.depth) {p = parsed_in c.parse_expr.new.p c.parse_expr.result} c.parse_expr.ensures.did
+    (ap (parsed_in c.parse_expr.new.p) c.in_ok-v.was) (expects_of a1 c.expect.ensures) (ap (moved_in c.expect.new.self) c.in_ok-expect.was))
 
-pub parse_group-parse_expr-requires : goal.parse_group-parse_expr-requires
-parse_group-parse_expr-requires t c =
-    (omega (arith, c.decreases), (c.requires.fact, c.requires.small))
+pub parse_ivar-returns-in_err-n : goal.parse_ivar-returns-in_err-n
+parse_ivar-returns-in_err-n t c =
+    let i = c.expect_ident.ensures in
+    let a1 = after_placed (after_none c.args.p.now) i.same in
+    let x = err_from_is_err_and c.from_residual.result c.from_residual.ensures.1 in
+    rw (x.1, x.2)
+    (finish a1 (ivar_no1 _ _ (parse_expr _ _ c.args.depth) c.requires (idents_of (after_none c.args.p.now) i) (ap (ident_in c.expect_ident.new.self) c.in_err-n.was)))
 
-pub parse_group-returns-in-Refused : goal.parse_group-returns-in-Refused
-parse_group-returns-in-Refused t c =
-    group_no _ _ _ c.parse_expr.ensures c.in-Refused.is
+pub parse_ivar-returns-in_err-match_token : goal.parse_ivar-returns-in_err-match_token
+parse_ivar-returns-in_err-match_token t c =
+    let i = c.expect_ident.ensures in
+    let a1 = after_placed (after_none c.args.p.now) i.same in
+    let a2 = after_placed a1 c.match_token.ensures.same in
+    let x = err_from_is_err_and c.from_residual-in_err-match_token.result c.from_residual-in_err-match_token.ensures.1 in
+    rw (x.1, x.2)
+    (finish a2 (ivar_no2 _ _ (parse_expr _ _ c.args.depth) c.requires (idents_of (after_none c.args.p.now) i)
+    (ap (ident_in c.expect_ident.new.self) c.in_ok-n.was) (matches_of a1 c.match_token.ensures)
+    (ap (matched_in c.match_token.new.self) c.in_err-match_token.was)))
 
-pub parse_group-returns-in-Refused-expect : goal.parse_group-returns-in-Refused-expect
-parse_group-returns-in-Refused-expect t c =
-    group_open _ _ _ c.parse_expr.ensures c.in-Done.is c.expect.ensures c.in-Refused-expect.is
+pub parse_ivar-returns-in_err-v : goal.parse_ivar-returns-in_err-v
+parse_ivar-returns-in_err-v t c =
+    let i = c.expect_ident.ensures in
+    let a1 = after_placed (after_none c.args.p.now) i.same in
+    let a2 = after_placed a1 c.match_token.ensures.same in
+    let a3 = after_kept a2 c.parse_expr.ensures.kept in
+    let x = err_from_is_err_and c.from_residual-in_err-v.result c.from_residual-in_err-v.ensures.1 in
+    rw (x.1, x.2)
+    (finish a3
+    (ivar_no3 _ _ (parse_expr _ _ c.args.depth) c.requires (idents_of (after_none c.args.p.now) i) (ap (ident_in c.expect_ident.new.self) c.in_ok-n.was) (matches_of a1 c.match_token.ensures)
+    (ap (matched_in c.match_token.new.self) c.in_ok-match_token.was ∙ ap (matched_if c.match_token.new.self) c.if-branch.true)
+    {p = parsed_in c.parse_expr.new.p c.parse_expr.result} (did_of a2 c.parse_expr.ensures) (ap (parsed_in c.parse_expr.new.p) c.in_err-v.was)))
 
-pub parse_group-returns-in-On : goal.parse_group-returns-in-On
-parse_group-returns-in-On t c =
-    group_yes _ _ _ c.parse_expr.ensures c.in-Done.is c.expect.ensures c.in-On.is
+pub parse_ivar-returns-then-branch : goal.parse_ivar-returns-then-branch
+parse_ivar-returns-then-branch t c =
+    let i = c.expect_ident.ensures in
+    let a1 = after_placed (after_none c.args.p.now) i.same in
+    let a2 = after_placed a1 c.match_token.ensures.same in
+    let a3 = after_kept a2 c.parse_expr.ensures.kept in
+    finish (after_adds a3 c.set_ivar.ensures.kept)
+    (ivar_set _ _ (parse_expr _ _ c.args.depth) c.requires (idents_of (after_none c.args.p.now) i) (ap (ident_in c.expect_ident.new.self) c.in_ok-n.was) (matches_of a1 c.match_token.ensures)
+    (ap (matched_in c.match_token.new.self) c.in_ok-match_token.was ∙ ap (matched_if c.match_token.new.self) c.if-branch.true)
+    {p = parsed_in c.parse_expr.new.p c.parse_expr.result} (did_of a2 c.parse_expr.ensures) (ap (parsed_in c.parse_expr.new.p) c.in_ok-v.was)
+    (rw a3.kept.limits at c.set_ivar.ensures.adds))
 
-pub parse_ivar-parse_expr-requires : goal.parse_ivar-parse_expr-requires
-parse_ivar-parse_expr-requires t c = (
-  omega (arith, c.decreases),
-  (
-    (match_went (ident_went c.requires.fact c.expect_ident.ensures c.in-Found.is).here "="
-        c.match_token.ensures spelt_equals c.in-Yes.is).here,
-    c.requires.small,
-  ),
-)
+pub parse_ivar-returns : goal.parse_ivar-returns
+parse_ivar-returns t c =
+    let i = c.expect_ident.ensures in
+    let a1 = after_placed (after_none c.args.p.now) i.same in
+    let a2 = after_placed a1 c.match_token.ensures.same in
+    let z = c.match_token.ensures.stays (c.in_ok-match_token.was ∙ ap Ok c.if-branch.false) in
+    finish (after_adds a2 c.get_ivar.ensures.kept)
+    (ivar_get _ _ (parse_expr _ _ c.args.depth) c.requires (idents_of (after_none c.args.p.now) i) (ap (ident_in c.expect_ident.new.self) c.in_ok-n.was) (matches_of a1 c.match_token.ensures)
+    (ap (matched_in c.match_token.new.self) c.in_ok-match_token.was ∙ ap (matched_if c.match_token.new.self) c.if-branch.false)
+    (rw (z, a1.kept.limits, a1.words) at c.get_ivar.ensures.adds))
 
-pub parse_ivar-returns-in-Refused : goal.parse_ivar-returns-in-Refused
-parse_ivar-returns-in-Refused t c =
-    ivar_no1 _ _ _ c.requires.fact c.expect_ident.ensures c.in-Refused.is
+pub parse_name-returns-in_err-n : goal.parse_name-returns-in_err-n
+parse_name-returns-in_err-n t c =
+    let i = c.take_name.ensures c.requires.sees in
+    let a1 = after_placed (after_none c.args.p.now) i.same in
+    let x = err_from_is_err_and c.from_residual.result c.from_residual.ensures.1 in
+    rw (x.1, x.2)
+    (finish a1 (name_no1 _ _ (parse_expr _ _ c.args.depth) c.requires.reading (idents_of (after_none c.args.p.now) i) (ap (ident_in c.take_name.new.self) c.in_err-n.was)))
 
-pub parse_ivar-returns-in-Refused-match_token : goal.parse_ivar-returns-in-Refused-match_token
-parse_ivar-returns-in-Refused-match_token t c =
-    ivar_no2 _ _ _ c.requires.fact c.expect_ident.ensures c.in-Found.is c.match_token.ensures c.in-Refused-match_token.is
+pub parse_name-returns-in_err-match_token : goal.parse_name-returns-in_err-match_token
+parse_name-returns-in_err-match_token t c =
+    let i = c.take_name.ensures c.requires.sees in
+    let a1 = after_placed (after_none c.args.p.now) i.same in
+    let a2 = after_placed a1 c.match_token.ensures.same in
+    let x = err_from_is_err_and c.from_residual-in_err-match_token.result c.from_residual-in_err-match_token.ensures.1 in
+    rw (x.1, x.2)
+    (finish a2 (name_no2 _ _ (parse_expr _ _ c.args.depth) c.requires.reading (idents_of (after_none c.args.p.now) i)
+    (ap (ident_in c.take_name.new.self) c.in_ok-n.was) (matches_of a1 c.match_token.ensures)
+    (ap (matched_in c.match_token.new.self) c.in_err-match_token.was)))
 
-pub parse_ivar-returns-in-Refused-parse_expr : goal.parse_ivar-returns-in-Refused-parse_expr
-parse_ivar-returns-in-Refused-parse_expr t c =
-    ivar_no3 _ _ _ c.requires.fact c.expect_ident.ensures c.in-Found.is c.match_token.ensures c.in-Yes.is c.parse_expr.ensures
-    c.in-Refused-parse_expr.is
+pub parse_name-returns-in_err-v : goal.parse_name-returns-in_err-v
+parse_name-returns-in_err-v t c =
+    let i = c.take_name.ensures c.requires.sees in
+    let a1 = after_placed (after_none c.args.p.now) i.same in
+    let a2 = after_placed a1 c.match_token.ensures.same in
+    let a3 = after_kept a2 c.parse_expr.ensures.kept in
+    let x = err_from_is_err_and c.from_residual-in_err-v.result c.from_residual-in_err-v.ensures.1 in
+    rw (x.1, x.2)
+    (finish a3
+    (name_no3 _ _ (parse_expr _ _ c.args.depth) c.requires.reading (idents_of (after_none c.args.p.now) i) (ap (ident_in c.take_name.new.self) c.in_ok-n.was) (matches_of a1 c.match_token.ensures)
+    (ap (matched_in c.match_token.new.self) c.in_ok-match_token.was ∙ ap (matched_if c.match_token.new.self) c.if-branch.true)
+    {p = parsed_in c.parse_expr.new.p c.parse_expr.result} (did_of a2 c.parse_expr.ensures) (ap (parsed_in c.parse_expr.new.p) c.in_err-v.was)))
 
-pub parse_ivar-returns-in-Done : goal.parse_ivar-returns-in-Done
-parse_ivar-returns-in-Done t c =
-    ivar_set _ _ _ c.requires.fact c.expect_ident.ensures c.in-Found.is c.match_token.ensures c.in-Yes.is c.parse_expr.ensures
-    c.in-Done.is c.set_ivar.ensures
+pub parse_name-returns-then-branch : goal.parse_name-returns-then-branch
+parse_name-returns-then-branch t c =
+    let i = c.take_name.ensures c.requires.sees in
+    let a1 = after_placed (after_none c.args.p.now) i.same in
+    let a2 = after_placed a1 c.match_token.ensures.same in
+    let a3 = after_kept a2 c.parse_expr.ensures.kept in
+    finish (after_scratch a3 c.assign.ensures.kept c.assign.ensures.program)
+    (name_set _ _ (parse_expr _ _ c.args.depth) c.requires.reading (idents_of (after_none c.args.p.now) i) (ap (ident_in c.take_name.new.self) c.in_ok-n.was) (matches_of a1 c.match_token.ensures)
+    (ap (matched_in c.match_token.new.self) c.in_ok-match_token.was ∙ ap (matched_if c.match_token.new.self) c.if-branch.true)
+    {p = parsed_in c.parse_expr.new.p c.parse_expr.result} (did_of a2 c.parse_expr.ensures) (ap (parsed_in c.parse_expr.new.p) c.in_ok-v.was)
+    (rw a3.kept.script at c.assign.ensures.assigns))
 
-pub parse_ivar-returns-in-Not : goal.parse_ivar-returns-in-Not
-parse_ivar-returns-in-Not t c =
-    ivar_get _ _ _ c.requires.fact c.expect_ident.ensures c.in-Found.is c.match_token.ensures c.in-Not.is
-    c.get_ivar.ensures
+pub parse_name-returns : goal.parse_name-returns
+parse_name-returns t c =
+    let i = c.take_name.ensures c.requires.sees in
+    let a1 = after_placed (after_none c.args.p.now) i.same in
+    let a2 = after_placed a1 c.match_token.ensures.same in
+    let z = c.match_token.ensures.stays (c.in_ok-match_token.was ∙ ap Ok c.if-branch.false) in
+    let d = rw z at c.name_value.ensures in
+    rw z
+    (finish (after_kept a1 (kept_none _))
+    (name_get _ _ (parse_expr _ _ c.args.depth) c.requires.reading (idents_of (after_none c.args.p.now) i) (ap (ident_in c.take_name.new.self) c.in_ok-n.was) (matches_of a1 c.match_token.ensures)
+    (ap (matched_in c.match_token.new.self) c.in_ok-match_token.was ∙ ap (matched_if c.match_token.new.self) c.if-branch.false)
+    (did_of a1 d)))
 
-pub parse_member-parse_args-requires : goal.parse_member-parse_args-requires
-parse_member-parse_args-requires t c = (
-  omega (arith, c.decreases),
-  (
-    (match_went (ident_went c.requires.fact c.expect_ident.ensures c.in-Found.is).here "("
-        c.match_token.ensures spelt_open c.in-Yes.is).here,
-    (
-      c.requires.small,
-      low-after (ident_went c.requires.fact c.expect_ident.ensures c.in-Found.is).here
-          (match_went (ident_went c.requires.fact c.expect_ident.ensures c.in-Found.is).here "("
-          c.match_token.ensures spelt_open c.in-Yes.is),
-    ),
-  ),
-)
+pub parse_member-returns-in_err-n : goal.parse_member-returns-in_err-n
+parse_member-returns-in_err-n t c =
+    let i = c.expect_ident.ensures in
+    let a1 = after_placed (after_none c.args.p.now) i.same in
+    let x = err_from_is_err_and c.from_residual.result c.from_residual.ensures.1 in
+    rw (x.1, x.2)
+    (finish a1 (member_no1 _ _ (parse_expr _ _ c.args.depth) c.requires (idents_of (after_none c.args.p.now) i) (ap (ident_in c.expect_ident.new.self) c.in_err-n.was) (opnd_of c.args.v)))
 
-pub parse_member-returns-in-Refused : goal.parse_member-returns-in-Refused
-parse_member-returns-in-Refused t c =
-    member_no1 _ _ _ c.requires.fact c.expect_ident.ensures c.in-Refused.is (opnd_of c.args.v)
+pub parse_member-returns-in_err-match_token : goal.parse_member-returns-in_err-match_token
+parse_member-returns-in_err-match_token t c =
+    let i = c.expect_ident.ensures in
+    let a1 = after_placed (after_none c.args.p.now) i.same in
+    let a2 = after_placed a1 c.match_token.ensures.same in
+    let x = err_from_is_err_and c.from_residual-in_err-match_token.result c.from_residual-in_err-match_token.ensures.1 in
+    rw (x.1, x.2)
+    (finish a2 (member_no2 _ _ (parse_expr _ _ c.args.depth) (opnd_of c.args.v) c.requires (idents_of (after_none c.args.p.now) i)
+    (ap (ident_in c.expect_ident.new.self) c.in_ok-n.was) (matches_of a1 c.match_token.ensures)
+    (ap (matched_in c.match_token.new.self) c.in_err-match_token.was)))
 
-pub parse_member-returns-in-Refused-match_token : goal.parse_member-returns-in-Refused-match_token
-parse_member-returns-in-Refused-match_token t c =
-    member_no2 _ _ _ (opnd_of c.args.v) c.requires.fact c.expect_ident.ensures c.in-Found.is c.match_token.ensures c.in-Refused-match_token.is
+pub parse_member-returns-in_err-k : goal.parse_member-returns-in_err-k
+parse_member-returns-in_err-k t c =
+    let i = c.expect_ident.ensures in
+    let a1 = after_placed (after_none c.args.p.now) i.same in
+    let a2 = after_placed a1 c.match_token.ensures.same in
+    let a3 = after_kept a2 c.parse_args.ensures.kept in
+    let x = err_from_is_err_and c.from_residual-in_err-k.result c.from_residual-in_err-k.ensures.1 in
+    rw (x.1, x.2)
+    (finish a3
+    (member_no3 _ _ (parse_expr _ _ c.args.depth) (opnd_of c.args.v) c.requires (idents_of (after_none c.args.p.now) i)
+    (ap (ident_in c.expect_ident.new.self) c.in_ok-n.was) (matches_of a1 c.match_token.ensures)
+    (ap (matched_in c.match_token.new.self) c.in_ok-match_token.was ∙ ap (matched_if c.match_token.new.self) c.if-branch.true)
+    (args_at a2 c.parse_args.ensures) (ap (args_in c.parse_args.new.p) c.in_err-k.was)))
 
-pub parse_member-returns-in-Refused-parse_args : goal.parse_member-returns-in-Refused-parse_args
-parse_member-returns-in-Refused-parse_args t c =
-    member_no3 _ _ _ (opnd_of c.args.v) c.requires.fact c.expect_ident.ensures c.in-Found.is c.match_token.ensures c.in-Yes.is
-    c.parse_args.ensures c.in-Refused-parse_args.is
+pub parse_member-returns-then-branch : goal.parse_member-returns-then-branch
+parse_member-returns-then-branch t c =
+    let i = c.expect_ident.ensures in
+    let a1 = after_placed (after_none c.args.p.now) i.same in
+    let a2 = after_placed a1 c.match_token.ensures.same in
+    let a3 = after_kept a2 c.parse_args.ensures.kept in
+    let d = c.send.ensures (parse_expr (limits_of c.args.p.now.program.limits) c.args.p.now.script.now c.args.depth) in
+    finish (after_kept a3 d.kept)
+    (member_send _ _ (parse_expr _ _ c.args.depth) (opnd_of c.args.v) c.requires (idents_of (after_none c.args.p.now) i)
+    (ap (ident_in c.expect_ident.new.self) c.in_ok-n.was) (matches_of a1 c.match_token.ensures)
+    (ap (matched_in c.match_token.new.self) c.in_ok-match_token.was ∙ ap (matched_if c.match_token.new.self) c.if-branch.true)
+    (args_at a2 c.parse_args.ensures) (ap (args_in c.parse_args.new.p) c.in_ok-k.was)
+    (did_of a3 d))
 
-pub parse_member-returns-in-Done : goal.parse_member-returns-in-Done
-parse_member-returns-in-Done t c =
-    member_send _ _ _ (opnd_of c.args.v) c.requires.fact c.expect_ident.ensures c.in-Found.is c.match_token.ensures c.in-Yes.is
-    c.parse_args.ensures c.in-Done.is (c.send.ensures _)
+pub parse_member-returns : goal.parse_member-returns
+parse_member-returns t c =
+    let i = c.expect_ident.ensures in
+    let a1 = after_placed (after_none c.args.p.now) i.same in
+    let a2 = after_placed a1 c.match_token.ensures.same in
+    let z = c.match_token.ensures.stays (c.in_ok-match_token.was ∙ ap Ok c.if-branch.false) in
+    finish (after_adds a2 c.read_attr.ensures.kept)
+    (member_read _ _ (parse_expr _ _ c.args.depth) (opnd_of c.args.v) c.requires (idents_of (after_none c.args.p.now) i)
+    (ap (ident_in c.expect_ident.new.self) c.in_ok-n.was) (matches_of a1 c.match_token.ensures)
+    (ap (matched_in c.match_token.new.self) c.in_ok-match_token.was ∙ ap (matched_if c.match_token.new.self) c.if-branch.false)
+    (rw (z, a1.kept.limits, a1.kept.script, a1.words) at c.read_attr.ensures.adds))
 
-pub parse_member-returns-in-Not : goal.parse_member-returns-in-Not
-parse_member-returns-in-Not t c =
-    member_read _ _ _ (opnd_of c.args.v) c.requires.fact c.expect_ident.ensures c.in-Found.is c.match_token.ensures
-    c.in-Not.is c.read_attr.ensures
+pub parse_primary-returns-in-Number : goal.parse_primary-returns-in-Number
+parse_primary-returns-in-Number t c =
+    finish (after_placed (after_none c.args.p.now) {at = c.args.x.next} refl)
+    (primary_number _ _ (parse_expr _ _ c.args.depth) c.requires.sees refl c.requires.reading c.in-Number.is refl c.number.ensures)
 
-pub parse_name-parse_expr-requires : goal.parse_name-parse_expr-requires
-parse_name-parse_expr-requires t c = (
-  omega (arith, c.decreases),
-  (
-    (match_went (ident_went c.requires.fact (c.ident_of.ensures _ c.requires.sees) c.in-Found.is).here "="
-        c.match_token.ensures spelt_equals c.in-Yes.is).here,
-    c.requires.small,
-  ),
-)
+pub parse_primary-returns-then-eq : goal.parse_primary-returns-then-eq
+parse_primary-returns-then-eq t c =
+    let a1 = after_placed (after_none c.args.p.now) {at = c.args.x.next} refl in
+    let k : c.args.x.token ≡ T.Sign 40 = search rules in
+    finish (after_kept a1 c.parse_group.ensures.kept) (primary_group _ _
+    (parse_expr _ _ c.args.depth) c.requires.sees refl c.requires.reading c.in_default.not-Number k refl (did_of a1 c.parse_group.ensures))
 
-pub parse_name-returns-in-Refused : goal.parse_name-returns-in-Refused
-parse_name-returns-in-Refused t c =
-    name_no1 _ _ _ c.requires.fact (c.ident_of.ensures _ c.requires.sees) c.in-Refused.is
-
-pub parse_name-returns-in-Refused-match_token : goal.parse_name-returns-in-Refused-match_token
-parse_name-returns-in-Refused-match_token t c =
-    name_no2 _ _ _ c.requires.fact (c.ident_of.ensures _ c.requires.sees) c.in-Found.is c.match_token.ensures c.in-Refused-match_token.is
-
-pub parse_name-returns-in-Refused-parse_expr : goal.parse_name-returns-in-Refused-parse_expr
-parse_name-returns-in-Refused-parse_expr t c =
-    name_no3 _ _ _ c.requires.fact (c.ident_of.ensures _ c.requires.sees) c.in-Found.is c.match_token.ensures c.in-Yes.is
-    c.parse_expr.ensures c.in-Refused-parse_expr.is
-
-pub parse_name-returns-in-Done : goal.parse_name-returns-in-Done
-parse_name-returns-in-Done t c =
-    name_set _ _ _ c.requires.fact (c.ident_of.ensures _ c.requires.sees) c.in-Found.is c.match_token.ensures c.in-Yes.is
-    c.parse_expr.ensures c.in-Done.is c.assign.ensures
-
-pub parse_name-returns-in-Not : goal.parse_name-returns-in-Not
-parse_name-returns-in-Not t c =
-    name_get _ _ _ c.requires.fact (c.ident_of.ensures _ c.requires.sees) c.in-Found.is c.match_token.ensures c.in-Not.is
-    c.name_value.ensures
-
-pub parse_primary-returns-then-x-eq-NUMBER : goal.parse_primary-returns-then-x-eq-NUMBER
-parse_primary-returns-then-x-eq-NUMBER t c =
-    primary_number _ _ _ c.requires.sees refl c.requires.fact c.if-x-eq-NUMBER.true c.move_to.ensures c.number.ensures
-
-pub parse_primary-parse_group-requires : goal.parse_primary-parse_group-requires
-parse_primary-parse_group-requires t c = (
-  omega (arith, c.decreases),
-  (
-    (passed c.requires.fact
-        c.requires.sees refl c.move_to-then-x-eq40.ensures
-        (λ z. omega (arith, c.if-x-eq40.true, z))).here,
-    c.requires.small,
-  ),
-)
-
-pub parse_primary-returns-then-x-eq40 : goal.parse_primary-returns-then-x-eq40
-parse_primary-returns-then-x-eq40 t c =
-    primary_group _ _ _ c.requires.sees refl c.requires.fact c.if-x-eq-NUMBER.false c.if-x-eq40.true c.move_to-then-x-eq40.ensures c.parse_group.ensures
-
-pub parse_primary-parse_ivar-requires : goal.parse_primary-parse_ivar-requires
-parse_primary-parse_ivar-requires t c = (
-  omega (arith, c.decreases),
-  (
-    (passed c.requires.fact
-        c.requires.sees refl
-        c.move_to-then-x-eq64.ensures (λ z. omega (arith, c.if-x-eq64.true, z))).here,
-    c.requires.small,
-  ),
-)
-
-pub parse_primary-returns-then-x-eq64 : goal.parse_primary-returns-then-x-eq64
-parse_primary-returns-then-x-eq64 t c =
-    primary_ivar _ _ _ c.requires.sees refl c.requires.fact c.if-x-eq-NUMBER.false c.if-x-eq40.false c.if-x-eq64.true c.move_to-then-x-eq64.ensures c.parse_ivar.ensures
-
-pub parse_primary-parse_name-requires : goal.parse_primary-parse_name-requires
-parse_primary-parse_name-requires t c = (
-  omega (arith, c.decreases),
-  (c.requires.fact, (c.requires.small, c.requires.sees)),
-)
+pub parse_primary-returns-then-eq-2 : goal.parse_primary-returns-then-eq-2
+parse_primary-returns-then-eq-2 t c =
+    let a1 = after_placed (after_none c.args.p.now) {at = c.args.x.next} refl in
+    let no : c.args.x.token ≡ T.Sign 40 → ⊥ = search rules in
+    let k : c.args.x.token ≡ T.Sign 64 = search rules in
+    finish (after_kept a1 c.parse_ivar.ensures.kept) (primary_ivar _ _
+    (parse_expr _ _ c.args.depth) c.requires.sees refl c.requires.reading c.in_default.not-Number no k refl (did_of a1 c.parse_ivar.ensures))
 
 pub parse_primary-returns : goal.parse_primary-returns
 parse_primary-returns t c =
-    primary_name _ _ _ c.requires.sees refl c.requires.fact c.if-x-eq-NUMBER.false c.if-x-eq40.false c.if-x-eq64.false c.parse_name.ensures
+    let no : c.args.x.token ≡ T.Sign 40 → ⊥ = search rules in
+    let no2 : c.args.x.token ≡ T.Sign 64 → ⊥ = search rules in
+    finish (after_kept (after_none c.args.p.now) c.parse_name.ensures.kept)
+    (primary_name _ _
+    (parse_expr _ _ c.args.depth) c.requires.sees refl c.requires.reading c.in_default.not-Number no no2 c.parse_name.ensures.did)
 
-pub parse_right-parse_expr-requires : goal.parse_right-parse_expr-requires
-parse_right-parse_expr-requires t c =
-    (omega (arith, c.decreases), (c.requires.fact, c.requires.small))
+pub parse_right-returns-in_err-w : goal.parse_right-returns-in_err-w
+parse_right-returns-in_err-w t c =
+    let a1 = after_kept (after_none c.args.p.now) c.parse_expr.ensures.kept in
+    let x = err_from_is_err_and c.from_residual.result c.from_residual.ensures.1 in
+    rw (x.1, x.2)
+    (finish a1 (right_no _ _ (parse_expr _ _ c.args.depth)
+    {p = parsed_in c.parse_expr.new.p c.parse_expr.result} c.args.v c.args.o c.args.right c.parse_expr.ensures.did
+    (ap (parsed_in c.parse_expr.new.p) c.in_err-w.was)))
 
-pub parse_right-returns-in-Refused : goal.parse_right-returns-in-Refused
-parse_right-returns-in-Refused t c =
-    right_no _ _ _ c.args.v c.args.o _ c.parse_expr.ensures c.in-Refused.is
+pub parse_right-returns : goal.parse_right-returns
+parse_right-returns t c =
+    let a1 = after_kept (after_none c.args.p.now) c.parse_expr.ensures.kept in
+    finish (after_adds a1 c.push.ensures.kept)
+    (right-yes _ _ (parse_expr _ _ c.args.depth)
+    {p = parsed_in c.parse_expr.new.p c.parse_expr.result} c.args.v c.args.o c.args.right c.parse_expr.ensures.did
+    (ap (parsed_in c.parse_expr.new.p) c.in_ok-w.was) (rw a1.kept.limits at c.push.ensures.adds))
 
-pub parse_right-returns-in-Done : goal.parse_right-returns-in-Done
-parse_right-returns-in-Done t c =
-    right-yes _ _ _ c.args.v c.args.o _ c.parse_expr.ensures c.in-Done.is c.push.ensures
+pub parse_suffix-returns-in_err-k : goal.parse_suffix-returns-in_err-k
+parse_suffix-returns-in_err-k t c =
+    let x = err_from_is_err_and c.from_residual.result c.from_residual.ensures.1 in
+    rw (x.1, x.2)
+    (record { kept = kept_none _; did = suffix_none _ _ (parse_expr _ _ c.args.depth) _ c.args.v c.glance.ensures c.in_err-k.was; stays = λ z. refl })
 
-pub parse_suffix-parse_right-requires : goal.parse_suffix-parse_right-requires
-parse_suffix-parse_right-requires t c = (
-  omega (arith, c.decreases),
-  (
-    (operator-passed _ c.requires.fact c.glance.ensures c.in-Sign.is c.suffix_of.ensures
-        c.in-Operator.is c.move_to.ensures).here,
-    c.requires.small,
-  ),
-)
-
-pub parse_suffix-parse_call-requires : goal.parse_suffix-parse_call-requires
-parse_suffix-parse_call-requires t c = (
-  omega (arith, c.decreases),
-  (
-    (call-passed _ c.requires.fact c.glance.ensures c.in-Sign.is c.suffix_of.ensures
-        c.in-Call.is c.move_to-in-Call.ensures).here,
-    (
-      c.requires.small,
-      low-after c.requires.fact (call-passed _ c.requires.fact c.glance.ensures c.in-Sign.is
-          c.suffix_of.ensures c.in-Call.is c.move_to-in-Call.ensures),
-    ),
-  ),
-)
-
-pub parse_suffix-parse_member-requires : goal.parse_suffix-parse_member-requires
-parse_suffix-parse_member-requires t c = (
-  omega (arith, c.decreases),
-  (
-    (member_passed _ c.requires.fact c.glance.ensures c.in-Sign.is c.suffix_of.ensures
-        c.in-Member.is c.move_to-in-Member.ensures).here,
-    c.requires.small,
-  ),
-)
-
-pub parse_suffix-returns-in-Refused : goal.parse_suffix-returns-in-Refused
-parse_suffix-returns-in-Refused t c =
-    suffix_none _ _ _ _ c.args.v c.glance.ensures c.in-Refused.is
-
-pub parse_suffix-returns-in-Other : goal.parse_suffix-returns-in-Other
-parse_suffix-returns-in-Other t c =
-    suffix_other _ _ _ _ c.args.v c.glance.ensures c.in-Other.is c.requires.fact
-
-pub parse_suffix-returns-in-Operator : goal.parse_suffix-returns-in-Operator
-parse_suffix-returns-in-Operator t c =
-    suffix_operator _ _ _ _ c.args.v c.glance.ensures c.in-Sign.is c.requires.fact c.suffix_of.ensures c.move_to.ensures c.again.ensures
-    c.in-Operator.is c.parse_right.ensures
-
-pub parse_suffix-returns-in-Call : goal.parse_suffix-returns-in-Call
-parse_suffix-returns-in-Call t c =
-    suffix_call _ _ _ _ c.args.v c.glance.ensures c.in-Sign.is c.requires.fact c.suffix_of.ensures c.move_to-in-Call.ensures c.again-in-Call.ensures
-    c.in-Call.is c.parse_call.ensures
-
-pub parse_suffix-returns-in-Member : goal.parse_suffix-returns-in-Member
-parse_suffix-returns-in-Member t c =
-    suffix_member _ _ _ _ c.args.v c.glance.ensures c.in-Sign.is c.requires.fact c.suffix_of.ensures c.move_to-in-Member.ensures c.again-in-Member.ensures
-    c.in-Member.is c.parse_member.ensures
+pub parse_suffix-returns-in_default : goal.parse_suffix-returns-in_default
+parse_suffix-returns-in_default t c =
+    record { kept = kept_none _; did = suffix_other _ _ (parse_expr _ _ c.args.depth) _ c.args.v c.glance.ensures (c.in_ok-k.was ∙ ap Ok c.in_default.is) c.requires; stays = λ z. refl }
 
 pub parse_suffix-returns-in-Ends : goal.parse_suffix-returns-in-Ends
 parse_suffix-returns-in-Ends t c =
-    suffix_ends _ _ _ _ c.args.v c.glance.ensures c.in-Sign.is c.requires.fact c.suffix_of.ensures c.in-Ends.is
+    record {
+      kept = kept_none _;
+      did = suffix_ends _ _ (parse_expr _ _ c.args.depth) _ c.args.v c.glance.ensures
+          (c.in_ok-k.was ∙ ap Ok c.in-Some.is) c.requires c.suffix_of.ensures c.in-Ends.is;
+      stays = λ z. refl;
+    }
 
-pub parse_suffixes-loop-c1-init : goal.parse_suffixes-loop-c1-init
-parse_suffixes-loop-c1-init t c =
-    suffixes_start _ _ _ _ c.args.v c.requires.fact
+pub parse_suffix-returns-in_err-w-in-Operator : goal.parse_suffix-returns-in_err-w-in-Operator
+parse_suffix-returns-in_err-w-in-Operator t c =
+    let a1 = after_placed (after_none c.args.p.now) {at = c.in-Some.next} refl in
+    let x = err_from_is_err_and c.from_residual-in_err-w-in-Operator.result c.from_residual-in_err-w-in-Operator.ensures.1 in
+    rw (x.1, x.2)
+    (record {
+      kept = (after_kept a1 c.parse_right.ensures.kept).kept;
+      did = rw c.in_err-w-in-Operator.was at (suffix_operator _ _ (parse_expr _ _ c.args.depth) _ c.args.v c.glance.ensures
+          (c.in_ok-k.was ∙ ap Ok c.in-Some.is) c.requires c.suffix_of.ensures refl
+          (parsed_in c.parse_right.new.p c.parse_right.result) c.in-Operator.is (did_of a1 c.parse_right.ensures));
+      stays = λ z. cc;
+    })
 
-pub parse_suffixes-parse_suffix-requires : goal.parse_suffixes-parse_suffix-requires
-parse_suffixes-parse_suffix-requires t c =
-    (omega (arith, c.decreases), (c.loop-c1.invariant.here, c.requires.small))
+pub parse_suffix-returns-in_ok-w-in-Operator : goal.parse_suffix-returns-in_ok-w-in-Operator
+parse_suffix-returns-in_ok-w-in-Operator t c =
+    let a1 = after_placed (after_none c.args.p.now) {at = c.in-Some.next} refl in
+    record {
+      kept = (after_kept a1 c.parse_right.ensures.kept).kept;
+      did = rw c.in_ok-w-in-Operator.was at (suffix_operator _ _ (parse_expr _ _ c.args.depth) _ c.args.v c.glance.ensures
+          (c.in_ok-k.was ∙ ap Ok c.in-Some.is) c.requires c.suffix_of.ensures refl
+          (parsed_in c.parse_right.new.p c.parse_right.result) c.in-Operator.is (did_of a1 c.parse_right.ensures));
+      stays = λ z. cc;
+    }
 
-pub parse_suffixes-loop-c1-smaller : goal.parse_suffixes-loop-c1-smaller
-parse_suffixes-loop-c1-smaller t c =
-    suffixes_less _ _ _ c.loop-c1.invariant c.parse_suffix.ensures c.in-Again.is
+pub parse_suffix-returns-in_err-w-in-Call : goal.parse_suffix-returns-in_err-w-in-Call
+parse_suffix-returns-in_err-w-in-Call t c =
+    let a1 = after_placed (after_none c.args.p.now) {at = c.in-Some.next} refl in
+    let x = err_from_is_err_and c.from_residual-in_err-w-in-Call.result c.from_residual-in_err-w-in-Call.ensures.1 in
+    rw (x.1, x.2)
+    (record {
+      kept = (after_kept a1 c.parse_call.ensures.kept).kept;
+      did = rw c.in_err-w-in-Call.was at (suffix_call _ _ (parse_expr _ _ c.args.depth) _ c.args.v c.glance.ensures
+          (c.in_ok-k.was ∙ ap Ok c.in-Some.is) c.requires c.suffix_of.ensures refl (parsed_in c.parse_call.new.p c.parse_call.result) c.in-Call.is
+          (did_of a1 c.parse_call.ensures));
+      stays = λ z. cc;
+    })
 
-pub parse_suffixes-loop-c1-preserved : goal.parse_suffixes-loop-c1-preserved
-parse_suffixes-loop-c1-preserved t c =
-    suffixes_again _ _ _ c.loop-c1.invariant c.parse_suffix.ensures c.in-Again.is c.parse_suffix.auto.program c.parse_suffix.auto.scratch
+pub parse_suffix-returns-in_ok-w-in-Call : goal.parse_suffix-returns-in_ok-w-in-Call
+parse_suffix-returns-in_ok-w-in-Call t c =
+    let a1 = after_placed (after_none c.args.p.now) {at = c.in-Some.next} refl in
+    record {
+      kept = (after_kept a1 c.parse_call.ensures.kept).kept;
+      did = rw c.in_ok-w-in-Call.was at (suffix_call _ _ (parse_expr _ _ c.args.depth) _ c.args.v c.glance.ensures
+          (c.in_ok-k.was ∙ ap Ok c.in-Some.is) c.requires c.suffix_of.ensures refl (parsed_in c.parse_call.new.p c.parse_call.result) c.in-Call.is
+          (did_of a1 c.parse_call.ensures));
+      stays = λ z. cc;
+    }
 
-pub parse_suffixes-returns-in-Ends : goal.parse_suffixes-returns-in-Ends
-parse_suffixes-returns-in-Ends t c =
-    suffixes_done _ _ _ c.loop-c1.invariant c.parse_suffix.ensures c.in-Ends.is
+pub parse_suffix-returns-in_err-w-in-Member : goal.parse_suffix-returns-in_err-w-in-Member
+parse_suffix-returns-in_err-w-in-Member t c =
+    let a1 = after_placed (after_none c.args.p.now) {at = c.in-Some.next} refl in
+    let x = err_from_is_err_and c.from_residual-in_err-w-in-Member.result c.from_residual-in_err-w-in-Member.ensures.1 in
+    rw (x.1, x.2)
+    (record {
+      kept = (after_kept a1 c.parse_member.ensures.kept).kept;
+      did = rw c.in_err-w-in-Member.was at (suffix_member _ _ (parse_expr _ _ c.args.depth) _ c.args.v c.glance.ensures
+          (c.in_ok-k.was ∙ ap Ok c.in-Some.is) c.requires c.suffix_of.ensures refl
+          (parsed_in c.parse_member.new.p c.parse_member.result) c.in-Member.is (did_of a1 c.parse_member.ensures));
+      stays = λ z. cc;
+    })
 
-pub parse_suffixes-returns-in-Refused : goal.parse_suffixes-returns-in-Refused
-parse_suffixes-returns-in-Refused t c =
-    suffixes_no _ _ _ c.loop-c1.invariant c.parse_suffix.ensures c.in-Refused.is
+pub parse_suffix-returns-in_ok-w-in-Member : goal.parse_suffix-returns-in_ok-w-in-Member
+parse_suffix-returns-in_ok-w-in-Member t c =
+    let a1 = after_placed (after_none c.args.p.now) {at = c.in-Some.next} refl in
+    record {
+      kept = (after_kept a1 c.parse_member.ensures.kept).kept;
+      did = rw c.in_ok-w-in-Member.was at (suffix_member _ _ (parse_expr _ _ c.args.depth) _ c.args.v c.glance.ensures
+          (c.in_ok-k.was ∙ ap Ok c.in-Some.is) c.requires c.suffix_of.ensures refl
+          (parsed_in c.parse_member.new.p c.parse_member.result) c.in-Member.is (did_of a1 c.parse_member.ensures));
+      stays = λ z. cc;
+    }
+
+pub parse_suffixes-loop-w-init : goal.parse_suffixes-loop-w-init
+parse_suffixes-loop-w-init t c =
+    record { kept = kept_none _; inv = suffixes_start _ _ _ _ c.args.v c.requires }
+
+pub parse_suffixes-returns-in_err-w : goal.parse_suffixes-returns-in_err-w
+parse_suffixes-returns-in_err-w t c =
+    let a = after_kept (after_none c.args.p.now) c.loop-w.invariant.kept in
+    let x = err_from_is_err_and c.from_residual.result c.from_residual.ensures.1 in
+    rw (x.1, x.2)
+    (finish (after_kept a c.parse_suffix.ensures.kept) (suffixes_no _ _ (parse_expr _ _ c.args.depth) c.loop-w.invariant.inv
+    (suffix_at a c.parse_suffix.ensures) (ap (suffix_in c.parse_suffix.new.p) c.in_err-w.was)))
+
+pub parse_suffixes-loop-w-preserved : goal.parse_suffixes-loop-w-preserved
+parse_suffixes-loop-w-preserved t c =
+    let a = after_kept (after_none c.args.p.now) c.loop-w.invariant.kept in
+    record {
+      kept = (after_kept a c.parse_suffix.ensures.kept).kept;
+      inv = suffixes_again _ _ (parse_expr _ _ c.args.depth) c.loop-w.invariant.inv (suffix_at a c.parse_suffix.ensures)
+          (ap (suffix_in c.parse_suffix.new.p) c.in_ok-w.was ∙ ap (suffix_if c.parse_suffix.new.p) c.in-Some.is);
+    }
+
+pub parse_suffixes-returns : goal.parse_suffixes-returns
+parse_suffixes-returns t c =
+    let a = after_kept (after_none c.args.p.now) c.loop-w.invariant.kept in
+    let z = c.parse_suffix.ensures.stays (c.in_ok-w.was ∙ ap Ok c.in_default.is) in
+    finish (after_kept a c.parse_suffix.ensures.kept) (suffixes_done _ _ (parse_expr _ _ c.args.depth) c.loop-w.invariant.inv
+    (suffix_at a c.parse_suffix.ensures) (ap cursor_of z)
+    (ap (suffix_in c.parse_suffix.new.p) c.in_ok-w.was ∙ ap (suffix_if c.parse_suffix.new.p) c.in_default.is))

@@ -1,8 +1,6 @@
 -- What falls at each call in the cycle `expression`, and what its loops keep.
 use Prim.Native.Nat.{◌*◌, ◌+◌, ◌-◌}
-use Rattle.expressions.proofs.Turns.{ArgsInv, SuffixInv}
-use Rattle.program.specs.View.{limits_of}
-use Rattle.rules.specs.Reading.{parse_expr}
+use Rattle.expressions.proofs.Standing.{ArgsStand, SuffixStand}
 use lib.ListN.{length}
 use Rattle.expressions.proofs.+expression.Given as goal
 
@@ -45,16 +43,14 @@ decreases-parse_suffix l = 8 * l.depth + 5
 abbrev pub decreases-parse_suffixes : goal.decreases-parse_suffixes
 decreases-parse_suffixes l = 8 * l.depth + 6
 
-abbrev pub invariant-parse_args-loop-c1 : goal.invariant-parse_args-loop-c1
-invariant-parse_args-loop-c1 l = ArgsInv (limits_of l.limits) l.script (parse_expr (limits_of l.limits) l.script l.depth) l.initial.program l.initial.scratch l.initial.cur l.program l.scratch l.cur
+abbrev pub invariant-parse_args-loop : goal.invariant-parse_args-loop
+invariant-parse_args-loop l = ArgsStand l.depth l.initial.p l.p
 
-abbrev pub decreases-parse_args-loop-c1 : goal.decreases-parse_args-loop-c1
-decreases-parse_args-loop-c1 l = length l.script - l.cur.at
+abbrev pub decreases-parse_args-loop : goal.decreases-parse_args-loop
+decreases-parse_args-loop l = length l.initial.p.script.now - l.p.at
 
-abbrev pub invariant-parse_suffixes-loop-c1 : goal.invariant-parse_suffixes-loop-c1
-invariant-parse_suffixes-loop-c1 l = SuffixInv (limits_of l.limits) l.script
-    (parse_expr (limits_of l.limits) l.script l.depth) l.prec l.initial.program l.initial.scratch l.initial.cur l.initial.left l.program l.scratch
-    l.cur l.left
+abbrev pub invariant-parse_suffixes-loop-w : goal.invariant-parse_suffixes-loop-w
+invariant-parse_suffixes-loop-w l = SuffixStand l.prec l.depth l.initial.p l.initial.left l.p l.left
 
-abbrev pub decreases-parse_suffixes-loop-c1 : goal.decreases-parse_suffixes-loop-c1
-decreases-parse_suffixes-loop-c1 l = length l.script - l.cur.at
+abbrev pub decreases-parse_suffixes-loop-w : goal.decreases-parse_suffixes-loop-w
+decreases-parse_suffixes-loop-w l = length l.initial.p.script.now - l.p.at

@@ -4,13 +4,13 @@ use Rattle.flows.proofs.Joining.{Outer, Inner}
 use Rattle.flows.proofs.join_sets.Given as goal
 
 abbrev pub invariant-loop-left : goal.invariant-loop-left
-invariant-loop-left l = Inner l.program l.counts l.sizes l.state l.f.0 l.n l.k l.met l.s l.last l.left
+invariant-loop-left l = Inner l.program.words.now l.program.counts l.state.sizes l.state.words.now l.f.0 l.n l.k l.met l.s l.last l.left
 
 abbrev pub decreases-loop-left : goal.decreases-loop-left
 decreases-loop-left l = l.left
 
 abbrev pub invariant-loop-k : goal.invariant-loop-k
-invariant-loop-k l = Outer l.program l.counts l.sizes l.state l.f.0 l.n l.met l.s l.last l.k
+invariant-loop-k l = Outer l.program.words.now l.program.counts l.state.sizes l.state.words.now l.f.0 l.n l.met l.s l.last l.k
 
 abbrev pub decreases-loop-k : goal.decreases-loop-k
 decreases-loop-k l = 32 - l.k

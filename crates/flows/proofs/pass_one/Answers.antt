@@ -5,4 +5,4 @@ use Rattle.flows.proofs.pass_one.Goals as goal
 
 pub returns : goal.returns
 returns c =
-    pass-both (kinds_of c.args.sizes c.args.state.now) c.args.x c.args.o c.lower.ensures c.take.ensures
+    pass-both (kinds_of c.args.state.now.sizes c.args.state.now.words.now) c.args.x c.args.o c.lower.ensures c.take.ensures

@@ -14,8 +14,7 @@ use lib.Seq.{drop-cons}
 use Rattle.ids.proofs.Bits.{Either, yes, no, either}
 use Rattle.kinds.specs.declared.Kind.{Kind}
 use Rattle.kinds.specs.declared.Kind.TheVariants.{Empty}
-use Rattle.kinds.specs.declared.Joined.{Joined}
-use Rattle.kinds.specs.Union.{union_all}
+use Rattle.kinds.specs.Union.{Joined, union_all}
 use Rattle.rules.specs.Actions.{lift}
 use Rattle.rules.specs.Values.{to_answer}
 use Rattle.rules.specs.Lists.{places_from, cons_if, concat}

@@ -1,4 +1,5 @@
 -- Where a returned operand stands, and the classes of what has flowed back to a call, joined at once. Assumes nothing.
+use Rattle.std.specs.Prelude.{Option, Ok as Of, Some, Some as Set, None}
 use mathlib.Core.Bool.{Bool as 𝔹, true, false, ◌||◌}
 use mathlib.Core.Path.{◌≡◌, refl, sym, ap, ◌∙◌}
 use mathlib.Core.List.{List, [], ◌++◌}
@@ -10,7 +11,6 @@ use lib.Bits.{bit_or}
 use lib.ListN.{length, get_or}
 use Rattle.kinds.specs.declared.Kind.{Kind}
 use Rattle.kinds.specs.declared.Kind.TheVariants.{Objects}
-use Rattle.kinds.specs.declared.Joined.TheVariants.{Of}
 use Rattle.kinds.specs.Kinds.{is_set}
 use Rattle.rules.specs.Program as P
 use Rattle.rules.specs.Machine.{marked}
@@ -25,14 +25,10 @@ use Rattle.state.proofs.Tables.{called-length}
 use Rattle.machine.specs.opnds.Reads.{kind_in, StateReads}
 use Rattle.program.specs.Layout.{insns_at, opnds_at, insn_words}
 use Rattle.chains.specs.Layout.{returns_at, return_links_at}
-use Rattle.flows.specs.declared.AsSet.{AsSet}
-use Rattle.flows.specs.declared.AsSet.TheVariants.{Set}
-use Rattle.flows.specs.Flows.{as_set, join_sets}
+use Rattle.flows.specs.Flows.{AsSet, as_set, join_sets}
 use Rattle.flows.proofs.Callers.{join_step, join-none, row-range}
 use Rattle.flows.proofs.Sets.{sets-union}
 use Rattle.flows.proofs.Standing.{stands}
-use Rattle.flows.specs.declared.returning.Met.{Met}
-use Rattle.flows.specs.declared.returning.Met.TheVariants.{Classes, Other}
 use Rattle.flows.specs.returning.Returning.{call_kind, Returns, ReturnsAt, back_from, Backs, BackIn, NextCalled, JoinsBack, JoinedAll}
 use Rattle.flows.proofs.returning.Opnds.{returned-some}
 use Rattle.flows.proofs.returning.Passes.{Walking, walk_start, walk_more, walk-done, back_to, back_on, back_skip, back_none, call-union}
@@ -87,10 +83,10 @@ module _ {m : List ℕ} {c : Counts} {z : Sizes} {x : List ℕ} (u : Backs m c z
       })
       e
 
-  pub gather_done : (f : ℕ) → StateHeld z w → f < z.functions → h ≡ get_or x (returns_at + f) 0 → c.insns ≤ j → JoinsBack m c z w f b₀ s₀ (Classes b s)
+  pub gather_done : (f : ℕ) → StateHeld z w → f < z.functions → h ≡ get_or x (returns_at + f) 0 → c.insns ≤ j → JoinsBack m c z w f b₀ s₀ (Some (b, s))
   gather_done f v lf eh le = record { joins = λ a. (walk-done u w g f v lf eh le a).on }
 
-pub gather_other : (m : List ℕ) (c : Counts) (z : Sizes) (w : List ℕ) (f : ℕ) (b : 𝔹) (s : ℕ) → JoinsBack m c z w f b s Other
+pub gather_other : (m : List ℕ) (c : Counts) (z : Sizes) (w : List ℕ) (f : ℕ) (b : 𝔹) (s : ℕ) → JoinsBack m c z w f b s None
 gather_other m c z w f b s = record { joins = λ a. tt }
 
 -- ---- join_called at its loop's head; k₀ is the first function, e stands behind the last
@@ -107,10 +103,10 @@ summed_start m c z w i le q = record {
 }
 
 module _ {m : List ℕ} {c : Counts} {z : Sizes} {w : List ℕ} {i k₀ e : ℕ} {b : 𝔹} {s k : ℕ} (g : Summed m c z w i k₀ e b s k) (le : e ≤ z.functions) where
-  pub summed_more : {x : Met} {r : ℕ} (d : 𝔹) (t : ℕ) → k < e → JoinsBack m c z w k b s x → x ≡ Classes d t → NextCalled (called_of z w) i (k + 1) e r → Summed m c z w i k₀ e d t r
+  pub summed_more : {x : Option (𝔹 × ℕ)} {r : ℕ} (d : 𝔹) (t : ℕ) → k < e → JoinsBack m c z w k b s x → x ≡ Some (d, t) → NextCalled (called_of z w) i (k + 1) e r → Summed m c z w i k₀ e d t r
   summed_more {r = r} d t lt p ex q = record {
     on = λ u.
-        let j : JoinsBack m c z w k b s (Classes d t) = rw ex at p in
+        let j : JoinsBack m c z w k b s (Some (d, t)) = rw ex at p in
         g.on u ∙ ap (join_sets (kinds_of z w) b s) (back_on (program_view u m c) (called_of z w) i lt (let d = called-length z w in omega arith) (g.here lt) q)
         ∙ j.joins u (back_from (program_view u m c) (called_of z w) i r);
     here = q.here;

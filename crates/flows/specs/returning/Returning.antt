@@ -1,5 +1,5 @@
 -- What the passes over returned operands promise, and what they rely on. Assumes nothing.
-use Rattle.std.specs.Prelude.{Bool as 𝔹, true, false, ◌≡◌, List, [], ◌∷◌, ◌++◌, map, ℕ, ◌+◌, ◌≤◌, ◌<◌, length, get_or, drop}
+use Rattle.std.specs.Prelude.{Bool as 𝔹, true, false, ◌≡◌, List, [], ◌∷◌, ◌++◌, map, ℕ, ◌+◌, ◌≤◌, ◌<◌, length, get_or, drop, Option, Some, None}
 use Rattle.std.proofs.Math.Option.{some}
 use Rattle.kinds.specs.declared.Kind.{Kind}
 use Rattle.rules.specs.Actions.{◌>>=◌, the}
@@ -16,10 +16,7 @@ use Rattle.state.specs.View.{Attrs, kinds_of, called_of}
 use Rattle.chains.specs.Chains.{Index}
 use Rattle.flows.specs.declared.Pass.{Pass}
 use Rattle.flows.specs.Tally.{FitsAt}
-use Rattle.flows.specs.declared.AsSet.TheVariants.{Set}
 use Rattle.flows.specs.Flows.{Passed, standing, join_sets}
-use Rattle.flows.specs.declared.returning.Met.{Met}
-use Rattle.flows.specs.declared.returning.Met.TheVariants.{Classes, Other}
 
 -- the end of a call's rule: the kind of what has flowed back to it
 unfoldable pub call_kind : Limits → Program → ℕ → Acts Kind
@@ -85,14 +82,14 @@ pub record PassedAll (m : List ℕ) (c : Counts) (z : Sizes) (w : List ℕ) (i f
   pub passed : ReturnAmong (called_of z w) i f n → (s : List ℕ) → Passed (kinds_of z w) (back_from (program_view s m c) (called_of z w) i 0) x y
 
 -- the classes s, with a set among the kinds or not (b), become r by operands l, whatever follows
-abbrev pub ReturnJoins : List Kind → List P.Opnd → 𝔹 → ℕ → Met → Type 0
-ReturnJoins ks l b s (Classes d t) = (k : List P.Opnd) → join_sets ks b s (l ++ k) ≡ join_sets ks d t k
-ReturnJoins ks l b s Other = Unit {0}
+abbrev pub ReturnJoins : List Kind → List P.Opnd → 𝔹 → ℕ → Option (𝔹 × ℕ) → Type 0
+ReturnJoins ks l b s (Some (d, t)) = (k : List P.Opnd) → join_sets ks b s (l ++ k) ≡ join_sets ks d t k
+ReturnJoins ks l b s None = Unit {0}
 
 -- by the operands of the Returns of f
-pub record JoinsBack (m : List ℕ) (c : Counts) (z : Sizes) (w : List ℕ) (f : ℕ) (b : 𝔹) (s : ℕ) (r : Met) : Type 0 where
+pub record JoinsBack (m : List ℕ) (c : Counts) (z : Sizes) (w : List ℕ) (f : ℕ) (b : 𝔹) (s : ℕ) (r : Option (𝔹 × ℕ)) : Type 0 where
   pub joins : (u : List ℕ) → ReturnJoins (kinds_of z w) (returns (program_view u m c) f) b s r
 
 -- r is 0, or the union of the classes of what has flowed back to i, if it has called none but the n functions from f on
 pub record JoinedAll (m : List ℕ) (c : Counts) (z : Sizes) (w : List ℕ) (i f n r : ℕ) : Type 0 where
-  pub joined : 0 < r → ReturnAmong (called_of z w) i f n → (u : List ℕ) → join_sets (kinds_of z w) false 0 (back_from (program_view u m c) (called_of z w) i 0) ≡ Set r
+  pub joined : 0 < r → ReturnAmong (called_of z w) i f n → (u : List ℕ) → join_sets (kinds_of z w) false 0 (back_from (program_view u m c) (called_of z w) i 0) ≡ Some r

@@ -1,32 +1,20 @@
 -- `functions::open_body` meets its contract. Assumes nothing.
-use Rattle.functions.proofs.Laws.{head_start, head_no, head_filled, head_no2, head_yes}
+use Rattle.std.proofs.lemmas.Result.{err_from_is_err_and}
+use Rattle.functions.proofs.Readers.{heads_no, heads_filled, heads_no2, heads_yes}
 use Rattle.functions.proofs.open_body.Goals as goal
 
-pub push_self-requires-clause-program_ready : goal.push_self-requires-clause-program_ready
-push_self-requires-clause-program_ready c = (head_start c.args.cursor c.requires.params_filled c.cleared-c0.ensures).0
+pub returns-in_err-push_self : goal.returns-in_err-push_self
+returns-in_err-push_self c =
+    let p = err_from_is_err_and c.from_residual.result c.from_residual.ensures.1 in
+    rw (p.1, p.2) (heads_no _ c.requires c.push_self.ensures c.in_err-push_self.was)
 
-pub push_self-requires-clause-small : goal.push_self-requires-clause-small
-push_self-requires-clause-small c = c.requires.small
+pub push_params-requires : goal.push_params-requires
+push_params-requires c = heads_filled c.args.p.now c.requires c.push_self.ensures c.in_ok-push_self.was
 
-pub push_self-requires-clause-block_lt_blocks : goal.push_self-requires-clause-block_lt_blocks
-push_self-requires-clause-block_lt_blocks c = (head_start c.args.cursor c.requires.params_filled c.cleared-c0.ensures).1
+pub returns-in_err-push_params : goal.returns-in_err-push_params
+returns-in_err-push_params c =
+    let p = err_from_is_err_and c.from_residual-in_err-push_params.result c.from_residual-in_err-push_params.ensures.1 in
+    rw (p.1, p.2) (heads_no2 _ c.requires c.push_self.ensures c.in_ok-push_self.was c.push_params.ensures c.in_err-push_params.was)
 
-pub push_params-requires-clause-params_filled : goal.push_params-requires-clause-params_filled
-push_params-requires-clause-params_filled c = head_filled c.args.limits c.args.cursor c.requires.params_filled c.cleared-c0.ensures c.push_self.ensures c.in-On.is
-
-pub push_params-requires-clause-small : goal.push_params-requires-clause-small
-push_params-requires-clause-small c = c.requires.small
-
-pub returns-in-Refused : goal.returns-in-Refused
-returns-in-Refused c =
-    head_no c.args.limits c.args.cursor c.requires.params_filled c.cleared-c0.ensures c.push_self.ensures c.in-Refused.is
-
-pub returns-in-Refused-push_params : goal.returns-in-Refused-push_params
-returns-in-Refused-push_params c =
-    head_no2 c.args.limits c.args.cursor c.requires.params_filled c.cleared-c0.ensures c.push_self.ensures c.in-On.is c.push_params.ensures
-    c.in-Refused-push_params.is
-
-pub returns-in-On-push_params : goal.returns-in-On-push_params
-returns-in-On-push_params c =
-    head_yes c.args.limits c.args.cursor c.requires.params_filled c.cleared-c0.ensures c.push_self.ensures c.in-On.is c.push_params.ensures
-    c.in-On-push_params.is c.with_args.ensures
+pub returns : goal.returns
+returns c = heads_yes _ c.requires c.push_self.ensures c.in_ok-push_self.was c.push_params.ensures c.in_ok-push_params.was

@@ -18,53 +18,46 @@ use Rattle.variables.specs.Scopes.{env_of}
 use Rattle.variables.specs.Memory.{entry, vars}
 use Rattle.variables.proofs.Entries.{made_move, kept-all, kept_trans, kept-part}
 use Rattle.phis.specs.Joining.{PhisSets}
-use Rattle.lexer.specs.declared.Lexed.{Lexed}
-use Rattle.lexer.specs.declared.Lexed.TheVariants as W
+use Rattle.lexer.specs.declared.Token.TheVariants as T
 use Rattle.lexer.specs.declared.Word.{Word}
 use Rattle.program.specs.Rows.{name_in, owner_in}
 use Rattle.program.specs.View as View
 use Rattle.program.specs.declared.Counts.{Counts}
-use Rattle.program.specs.declared.Limits.{Limits}
+use Rattle.program.specs.declared.bounds.Limits.{Limits}
 use Rattle.program.specs.declared.Name.{Name}
-use Rattle.program.specs.declared.NewFun.{NewFun}
-use Rattle.program.specs.declared.NewFun.TheVariants as F
-use Rattle.program.specs.declared.NewInsn.{NewInsn}
-use Rattle.program.specs.declared.NewInsn.TheVariants as I
 use Rattle.program.specs.declared.Op.TheVariants as Op
+use Rattle.program.specs.declared.Opnd.{Opnd}
 use Rattle.program.specs.declared.Opnd.TheVariants.{Insn}
-use Rattle.program.specs.declared.Owner.{Owner}
-use Rattle.cursor.specs.Cursor.{parser_of, move_cur, count_cur, stack_cur, bind_cur}
-use Rattle.cursor.specs.Promises.{outcome, Sees, Idents, CursorMatches, moved_of}
-use Rattle.cursor.specs.declared.Cursor.{Cursor}
-use Rattle.cursor.specs.declared.Ident.{Ident}
-use Rattle.cursor.specs.declared.Matched.{Matched}
-use Rattle.cursor.specs.declared.Matched.TheVariants as M
-use Rattle.cursor.specs.declared.Moved.{Moved}
-use Rattle.cursor.specs.declared.Moved.TheVariants.{On, Refused}
-use Rattle.cursor.specs.declared.SelfAt.{SelfAt}
+use Rattle.std.specs.declared.option.Option.{Option as Maybe}
+use Rattle.std.specs.declared.option.Option.TheVariants as Maybe
+use Rattle.std.specs.Prelude.{Result, Ok, Err}
+use Rattle.refusals.specs.declared.Refusal.{Refusal}
+use Rattle.refusals.specs.Refusals.{number_of}
+use Rattle.cursor.specs.Cursor.{Cursor, parser_of, move_cur, count_cur, stack_cur, bind_cur}
+use Rattle.cursor.specs.Promises.{outcome, CursorAdds, Sees, Idents, CursorMatches, moved_of, parsed_of}
+use Rattle.cursor.specs.outcomes.Ident.{Ident}
+use Rattle.cursor.specs.outcomes.Matched.{Matched}
+use Rattle.cursor.specs.outcomes.Matched as M
+use Rattle.cursor.specs.outcomes.Moved.{Moved, On, Refused}
+use Rattle.cursor.specs.outcomes.Parsed.{Parsed}
 use Rattle.cursor.proofs.Wording.{spelt_close, spelt_comma, is-yes, is_no, word_read, peek-found, peek-none}
 use Rattle.cursor.proofs.Laws.{ident_on}
+use Rattle.cursor.specs.Parsers.{AddsKept}
+use Rattle.cursor.specs.declared.Parser.{Parser as Reader}
+use Rattle.program.specs.Drafts.{DraftKept}
 use Rattle.memory.specs.Layout.{operands_most}
 use Rattle.variables.specs.Layout.{bindings_most, entries_most}
 use Rattle.cursor.specs.Layout.{stack_at, scratch_size}
-use Rattle.functions.specs.declared.params.OpenedFun.{OpenedFun}
+use Rattle.functions.specs.outcomes.OpenedFun.{OpenedFun}
 use Rattle.functions.specs.params.Names.{name_at, names_from, names_in, Lie, param_of}
 use Rattle.functions.specs.params.Promises.{receive_cur, enter_cur, PutsName, Head, Params, ParamsRoom, Bound, PushesParam, ParamsFilled, PushesParams}
 use Rattle.functions.specs.params.Promises.{PushesSelf, Funs}
 
--- ---- names
+-- only the program changes, and parts of the parser that are no memory
+pub adds-kept : (p p' : Reader) → DraftKept p.program p'.program → p'.script ≡ p.script → p'.scratch.ghost_name ≡ p.scratch.ghost_name → p'.scratch.now ≡ p.scratch.now → AddsKept p p'
+adds-kept p p' k s l w = record { kept = record { script = s; limits = k.limits; words_loan = k.loan; scratch_loan = l }; scratch = w }
 
-pub name-put : {w w' : List ℕ} {c r : Cursor} {n : Name} → scratch_size ≤ length w → c.args < operands_most
-    → w' ≡ set (set w (stack_at + 2 * c.args) n.start) (stack_at + 2 * c.args + 1) n.len → r ≡ stack_cur (c.args + 1) c → PutsName w c n w' r
-name-put {w} {w'} {c} {r} {n} h l e f =
-    let at = stack_at + 2 * c.args in
-    rw e (record {
-      cur = f;
-      long = simp length-set;
-      start = get_or-set_other (set w at n.start) (at + 1) at n.len 0 (λ z. omega arith) ∙ get_or-set_same w at n.start 0 (omega arith);
-      len = get_or-set_same (set w at n.start) (at + 1) n.len 0 (omega (arith, length-set w at n.start));
-      other = λ i x y. get_or-set_other (set w at n.start) (at + 1) i n.len 0 y ∙ get_or-set_other w at i n.start 0 x;
-    })
+-- ---- names
 
 names_snoc : (s w : List ℕ) (k n : ℕ) → names_from s w k (suc n) ≡ names_from s w k n ++ name_at s w (k + n) ∷ []
 unfolding names_from
@@ -129,22 +122,22 @@ naming_start s w c h =
     }
 
 -- one turn
-module _ (L : P.Limits) (s m w : List ℕ) (c : Cursor) (l : List P.Name) {r : Lexed} (v : Sees s c r) where
-  turn_none : {e : ℕ} → r ≡ W.Refused e → refused e ≡ parse_param L s l (parser_of s m w c)
+module _ (L : P.Limits) (s m w : List ℕ) (c : Cursor) (l : List P.Name) {r : Result Word Refusal} (v : Sees s c r) where
+  turn_none : {e : Refusal} → r ≡ Err e → refused (number_of e) ≡ parse_param L s l (parser_of s m w c)
   unfolding parse_param
   turn_none f = rw (← peek-none v m w f)
 
-  module _ {x : Word} (f : r ≡ W.Found x) where
-    turn_close : x.kind ≡ 41 → answered (ends l, parser_of s m w c) ≡ parse_param L s l (parser_of s m w c)
+  module _ {x : Word} (f : r ≡ Ok x) where
+    turn_close : x.token ≡ T.Sign 41 → answered (ends l, parser_of s m w c) ≡ parse_param L s l (parser_of s m w c)
     unfolding parse_param
     turn_close k = rw (← peek-found v m w f, is-yes x (word_read v f) ")" spelt_close k)
 
-    module _ (k : x.kind ≡ 41 → ⊥) {u : Ident} (d : Idents s c u) where
+    module _ (k : x.token ≡ T.Sign 41 → ⊥) {u : Ident} (d : Idents s c u) where
       turn_bad : {e : ℕ} → u ≡ Ident.Refused e → refused e ≡ parse_param L s l (parser_of s m w c)
       unfolding parse_param
       turn_bad g = let h = rw g at (d.moves.is m w) in rw (← peek-found v m w f, is_no x (word_read v f) ")" spelt_close k, ← h)
 
-      module _ {c1 : Cursor} {n : Name} (g : u ≡ Ident.Found c1 n) (w' : List ℕ) {c2 : Cursor} (q : parser_of s m w' c2 ≡ parser_of s m w c1) {t : Matched} (b : CursorMatches s 44 c2 t) where
+      module _ {c1 : Cursor} {n : Name} (g : u ≡ Ident.Found c1 n) (w' : List ℕ) {c2 : Cursor} (q : parser_of s m w' c2 ≡ parser_of s m w c1) {t : Matched} (b : CursorMatches s (T.Sign 44) c2 t) where
         turn_stop : {e : ℕ} → t ≡ M.Refused e → refused e ≡ parse_param L s l (parser_of s m w c)
         unfolding parse_param
         turn_stop j =
@@ -172,23 +165,23 @@ whole : (L : P.Limits) (s : List ℕ) (k : ℕ) (l : List P.Name) (r : Parser) (
 whole L s zero l r n at a b e = absurd (omega arith)
 whole L s (suc k) l r n at a b e = (k, (refl, e))
 
-module _ {s w₀ : List ℕ} {c₀ : Cursor} {w : List ℕ} {c : Cursor} (i : Naming s w₀ c₀ w c) {r : Lexed} (v : Sees s c r) where
+module _ {s w₀ : List ℕ} {c₀ : Cursor} {w : List ℕ} {c : Cursor} (i : Naming s w₀ c₀ w c) {r : Result Word Refusal} (v : Sees s c r) where
   next : (L : P.Limits) (m : List ℕ)
       → (j : ℕ) × ((i.count ≡ suc j) × (loop (parse_param L s) (suc j) (names_in s w c.args) (parser_of s m w c) ≡ loop (parse_param L s) (turns s) [] (parser_of s m w₀ c₀)))
   next L m = whole L s i.count (names_in s w c.args) (parser_of s m w c) (length s) c.at i.inside i.enough (i.same L m)
 
-  pub naming_none : {e : ℕ} → r ≡ W.Refused e → Params s w₀ c₀ w (Refused e)
+  pub naming_none : {e : Refusal} → r ≡ Err e → Params s w₀ c₀ w (Refused (number_of e))
   naming_none f = record { is = λ L m. rw (← turn_none L s m w c (names_in s w c.args) v f) at (next L m).1.1; ok = tt }
 
-  module _ {x : Word} (f : r ≡ W.Found x) where
-    pub naming_close : x.kind ≡ 41 → Params s w₀ c₀ w (On c)
+  module _ {x : Word} (f : r ≡ Ok x) where
+    pub naming_close : x.token ≡ T.Sign 41 → Params s w₀ c₀ w (On c)
     naming_close k =
         record {
           is = λ L m. rw (← turn_close L s m w c (names_in s w c.args) v f k) at (next L m).1.1;
           ok = record { cur = i.cur; on = omega (arith, i.on); further = omega (arith, i.on); inside = i.inside; lies = i.lies; low = i.low; long = i.long };
         }
 
-    module _ (k : x.kind ≡ 41 → ⊥) {u : Ident} (d : Idents s c u) where
+    module _ (k : x.token ≡ T.Sign 41 → ⊥) {u : Ident} (d : Idents s c u) where
       pub naming_bad : {e : ℕ} → u ≡ Ident.Refused e → Params s w₀ c₀ w (Refused e)
       naming_bad g = record { is = λ L m. rw (← turn_bad L s m w c (names_in s w c.args) v f k d g) at (next L m).1.1; ok = tt }
 
@@ -230,7 +223,7 @@ module _ {s w₀ : List ℕ} {c₀ : Cursor} {w : List ℕ} {c : Cursor} (i : Na
               ∙ (ap (λ (z : Cursor). stack_cur (c.args + 1) (move_cur c1.at z)) i.cur
               ∙ (ap (λ j. stack_cur j (move_cur c1.at c₀)) (sym put-args) ∙ ap (λ j. stack_cur c2.args (move_cur j c₀)) (sym naming_at)))
 
-          module _ {t : Matched} (b : CursorMatches s 44 c2 t) where
+          module _ {t : Matched} (b : CursorMatches s (T.Sign 44) c2 t) where
             pub naming_stop : {e : ℕ} → t ≡ M.Refused e → Params s w₀ c₀ w' (Refused e)
             naming_stop j = record { is = λ L m. rw (← turn_stop L s m w c (names_in s w c.args) v f k d g w' (same-parser m) b j) at (next L m).1.1; ok = tt }
 
@@ -280,37 +273,39 @@ module _ {s w₀ : List ℕ} {c₀ : Cursor} {w : List ℕ} {c : Cursor} (i : Na
 
 -- ---- parameters
 
-module _ (l : Limits) (k : ℕ) {m w : List ℕ} {c : Cursor} (g : ParamsRoom k m w c) {m' : List ℕ} {x : NewInsn}
-    (a : View.ProgramDid (View.pushing_of (View.limits_of l) c.block.0 (Op.Param k) []) View.unchanged c.counts.insns
-    (View.more_insns (Op.Param k) 0 c.counts) m c.counts m' (View.insn_of x)) where
-  pub param_no : {e : ℕ} → x ≡ I.Refused e → PushesParam l k m w c m' w (Refused e)
-  unfolding param_of push parser_of
-  param_no o = record { is = λ s. let h = rw o at (a.is s (parser_of s m w c)) in rw (← h); ok = tt }
+module _ (l : Limits) (k : ℕ) {m : List ℕ} {c : Cursor} {m' : List ℕ} {x : Parsed}
+    (a : (s u : List ℕ) → CursorAdds s u (push (View.limits_of l) (P.Param k)) m c m' (parsed_of x)) where
+  pub param-vars : {v : Opnd} {c1 : Cursor} → x ≡ Parsed.Done c1 v → c1.vars ≡ c.vars
+  param-vars o = let ok = rw o at ((a [] []).ok) in ap (λ (z : Cursor). z.vars) ok.cur
 
-  pub param_yes : {i : InsnId} {d : Counts} {w' : List ℕ} {c1 c2 : Cursor} → x ≡ I.Added i d → PhisSets c.vars (get_or w (stack_at + 2 * k) 0) (get_or w (stack_at + 2 * k + 1) 0) (Insn i) w w'
-      → c1 ≡ count_cur d c → c2 ≡ bind_cur c1 → PushesParam l k m w c m' w' (On c2)
-  unfolding param_of push parser_of name_at
-  param_yes {i} {d} {w'} {c1} {c2} o v e f =
-      let ok = rw o at a.ok in
-      let r : c2 ≡ bind_cur (count_cur d c) = f ∙ ap (λ (z : Cursor). bind_cur z) e in
-      rw r (record {
-        is = λ s. let h = rw o at (a.is s (parser_of s m w c)) in rw (← h, v.is s);
-        ok = record {
-          tables = ok.ready;
-          at = refl;
-          class = refl;
-          receiver = refl;
-          block = refl;
-          vars = refl;
-          aside = refl;
-          functions = ap (λ (z : Counts). z.functions) ok.counts;
-          classes = ap (λ (z : Counts). z.classes) ok.counts;
-          blocks = ap (λ (z : Counts). z.blocks) ok.counts;
-          low = v.old;
-          rows = v.aside;
-          long = v.len_same;
-        };
-      })
+  module _ {w : List ℕ} where
+    pub param_no : {e : ℕ} → x ≡ Parsed.Refused e → PushesParam l k m w c m' w (Refused e)
+    unfolding param_of
+    param_no o = record { is = λ s. let h = rw o at ((a s w).is) in rw (← h); ok = tt }
+
+    pub param_yes : {v : Opnd} {w' : List ℕ} {c1 c2 : Cursor} → x ≡ Parsed.Done c1 v → PhisSets c1.vars (get_or w (stack_at + 2 * k) 0) (get_or w (stack_at + 2 * k + 1) 0) v w w'
+        → c2 ≡ bind_cur c1 → PushesParam l k m w c m' w' (On c2)
+    unfolding param_of parser_of name_at
+    param_yes {v} {w'} {c1} {c2} o p f =
+        let ok = rw o at ((a [] w).ok) in
+        rw f (record {
+          is = λ s. let h = rw o at ((a s w).is) in rw (← h, p.is s);
+          ok = record {
+            tables = ok.ready;
+            at = ap (λ (z : Cursor). z.at) ok.cur;
+            class = ap (λ (z : Cursor). z.class) ok.cur;
+            receiver = ap (λ (z : Cursor). z.receiver) ok.cur;
+            block = ap (λ (z : Cursor). z.block) ok.cur;
+            vars = ap (λ (z : Cursor). z.vars + 1) ok.cur;
+            aside = ap (λ (z : Cursor). z.aside) ok.cur;
+            functions = ok.functions;
+            classes = ok.classes;
+            blocks = ok.blocks;
+            low = rw (ap (λ (z : Cursor). z.vars) ok.cur) at p.old;
+            rows = p.aside;
+            long = p.len_same;
+          };
+        })
 
 params_cons : (L : P.Limits) (s : List ℕ) (k : ℕ) (n : P.Name) (ns : List P.Name) (r : Parser)
     → push_params L s k (n ∷ ns) r ≡ if_answered {B = Unit {0} × Parser} (param_of L k n r) (λ p. push_params L s (suc k) ns p.1)
@@ -329,50 +324,13 @@ pub record Binding (l : Limits) (m₀ w₀ : List ℕ) (c₀ : Cursor) (k : ℕ)
   pub filled : ParamsFilled m₀ w₀ c₀
   pub most : k ≤ c₀.args
   pub bound : Bound k w₀ c₀ m w c
-  pub long : length m ≡ length m₀
 
 bound_at : {k n : ℕ} {w m' w' : List ℕ} {c c' : Cursor} → k ≡ n → Bound k w c m' w' c' → Bound n w c m' w' c'
 bound_at e b = rw e at b
 
-pub binding_start : (l : Limits) (m w : List ℕ) (c : Cursor) → ParamsFilled m w c → Binding l m w c 0 m w c
-binding_start l m w c f =
-    record {
-      same = λ s. let z : c.args - 0 ≡ c.args = omega arith in ap (λ n. push_params (View.limits_of l) s 0 (names_from s w 0 n) (parser_of s m w c)) z;
-      filled = f;
-      most = omega arith;
-      bound = record {
-        tables = f.tables;
-        at = refl;
-        class = refl;
-        receiver = refl;
-        block = refl;
-        vars = omega arith;
-        aside = refl;
-        functions = refl;
-        classes = refl;
-        blocks = refl;
-        low = kept-all 0 c.vars w;
-        rows = kept-all bindings_most entries_most w;
-        long = refl;
-      };
-      long = refl;
-    }
-
 module _ {l : Limits} {m₀ w₀ : List ℕ} {c₀ : Cursor} {k : ℕ} {m w : List ℕ} {c : Cursor} (i : Binding l m₀ w₀ c₀ k m w c) where
   stack_same : (j : ℕ) → stack_at ≤ j → get_or w j 0 ≡ get_or w₀ j 0
   stack_same j h = i.bound.rows.beyond j h
-
-  pub binding_room : k < c₀.args → ParamsRoom k m w c
-  binding_room h =
-      record {
-        tables = i.bound.tables;
-        block = omega (arith, i.filled.block, i.bound.blocks, ap (λ (b : BlockId). b.0) i.bound.block);
-        scratch = omega (arith, i.filled.scratch, i.bound.long);
-        vars = omega (arith, i.filled.vars, i.bound.vars);
-        place = omega (arith, i.filled.vars);
-        start = rw (stack_same (stack_at + 2 * k) (omega arith)) (i.filled.short k h).0;
-        len = rw (stack_same (stack_at + 2 * k + 1) (omega arith)) (i.filled.short k h).1;
-      }
 
   pub binding_done : (c₀.args ≤ k) → PushesParams l m₀ w₀ c₀ m w (On c)
   unfolding push_params names_from
@@ -398,8 +356,8 @@ module _ {l : Limits} {m₀ w₀ : List ℕ} {c₀ : Cursor} {k : ℕ} {m w : Li
     pub binding_no : {e : ℕ} → x ≡ Refused e → PushesParams l m₀ w₀ c₀ m' w' (Refused e)
     binding_no o = record { is = λ s. rw o at (turned s); ok = tt }
 
-    pub binding_on : {c1 : Cursor} → x ≡ On c1 → length m' ≡ length m → Binding l m₀ w₀ c₀ (k + 1) m' w' c1
-    binding_on {c1} o lm =
+    pub binding_on : {c1 : Cursor} → x ≡ On c1 → Binding l m₀ w₀ c₀ (k + 1) m' w' c1
+    binding_on {c1} o =
         let b = rw o at a.ok in
         record {
           same = λ s. rw add-one (rw o at (turned s));
@@ -420,7 +378,6 @@ module _ {l : Limits} {m₀ w₀ : List ℕ} {c₀ : Cursor} {k : ℕ} {m w : Li
             rows = kept_trans i.bound.rows b.rows;
             long = b.long ∙ i.bound.long;
           };
-          long = lm ∙ i.long;
         }
 
 -- ---- receivers
@@ -429,32 +386,31 @@ abbrev selfed : Answer (ℕ × Parser) → Answer (Unit {0} × Parser)
 selfed z = if_answered z (λ i. answered (tt, with_self (some i.0) i.1))
 
 module _ (l : Limits) {m : List ℕ} {c : Cursor} where
-  pub self-none : View.ProgramReady m c.counts → c.class ≡ Owner.Nobody → PushesSelf l m c m (On c)
+  pub self-none : View.ProgramReady m c.counts → c.class ≡ Maybe.None → PushesSelf l m c m (On c)
   unfolding push_self
   self-none g e =
       record {
-        is = λ s w. ap (λ (o : Owner). push_self (View.limits_of l) s (owner_in o) (parser_of s m w c)) (sym e);
+        is = λ s w. ap (λ (o : Maybe ClassId). push_self (View.limits_of l) s (owner_in o) (parser_of s m w c)) (sym e);
         ok = record { tables = g; cur = refl; functions = refl; classes = refl; blocks = refl };
       }
 
-  module _ {k : ClassId} (e : c.class ≡ Owner.Class k) {m' : List ℕ} {x : NewInsn}
+  module _ {k : ClassId} (e : c.class ≡ Maybe.Some k) {m' : List ℕ} (d : Counts) (x : Result InsnId Refusal)
       (a : View.ProgramDid (View.pushing_of (View.limits_of l) c.block.0 (Op.SelfParam k) []) View.unchanged c.counts.insns
-      (View.more_insns (Op.SelfParam k) 0 c.counts) m c.counts m' (View.insn_of x)) where
-    pub self_no : {n : ℕ} → x ≡ I.Refused n → PushesSelf l m c m' (Refused n)
+      (View.more_insns (Op.SelfParam k) 0 c.counts) m c.counts m' (View.insn_of d x)) where
+    pub self_no : {n : Refusal} → x ≡ Err n → PushesSelf l m c m' (Refused (number_of n))
     unfolding push_self parser_of
     self_no o =
         record {
-          is = λ s w. ap selfed (rw o at (a.is s (parser_of s m w c))) ∙ ap (λ (z : Owner). push_self (View.limits_of l) s (owner_in z) (parser_of s m w c)) (sym e);
+          is = λ s w. ap selfed (rw o at (a.is s (parser_of s m w c))) ∙ ap (λ (z : Maybe ClassId). push_self (View.limits_of l) s (owner_in z) (parser_of s m w c)) (sym e);
           ok = tt;
         }
 
-    pub self-yes : {i : InsnId} {d : Counts} {c1 c2 : Cursor} → x ≡ I.Added i d → c1 ≡ count_cur d c → c2 ≡ receive_cur (SelfAt.At i) c1 → PushesSelf l m c m' (On c2)
+    pub self-yes : {i : InsnId} {c2 : Cursor} → x ≡ Ok i → c2 ≡ receive_cur (Maybe.Some i) (count_cur d c) → PushesSelf l m c m' (On c2)
     unfolding push_self parser_of
-    self-yes {i} {d} {c1} {c2} o f g =
+    self-yes {i} {c2} o r =
         let ok = rw o at a.ok in
-        let r : c2 ≡ receive_cur (SelfAt.At i) (count_cur d c) = g ∙ ap (λ (z : Cursor). receive_cur (SelfAt.At i) z) f in
         rw r (record {
-          is = λ s w. ap selfed (rw o at (a.is s (parser_of s m w c))) ∙ ap (λ (z : Owner). push_self (View.limits_of l) s (owner_in z) (parser_of s m w c)) (sym e);
+          is = λ s w. ap selfed (rw o at (a.is s (parser_of s m w c))) ∙ ap (λ (z : Maybe ClassId). push_self (View.limits_of l) s (owner_in z) (parser_of s m w c)) (sym e);
           ok = record {
             tables = ok.ready;
             cur = refl;
@@ -466,14 +422,14 @@ module _ (l : Limits) {m : List ℕ} {c : Cursor} where
 
 -- ---- functions
 
-module _ (l : Limits) (n : Name) {m : List ℕ} {c : Cursor} {m' : List ℕ} {x : NewFun} (a : View.DidFun l n c.class m c.counts m' x) where
-  pub fun_no : {e : ℕ} → x ≡ F.Refused e → Funs l n m c m' (OpenedFun.Refused e)
+module _ (l : Limits) (n : Name) {m : List ℕ} {c : Cursor} {m' : List ℕ} (d : Counts) (x : Result (FunId × BlockId) Refusal) (a : View.DidFun l n c.class m c.counts m' d x) where
+  pub fun_no : {e : Refusal} → x ≡ Err e → Funs l n m c m' (OpenedFun.Refused (number_of e))
   unfolding parser_of
   fun_no o = record { is = λ s w. rw o at (a.did.is s (parser_of s m w c)); ok = tt }
 
-  pub fun_yes : {f : FunId} {b : BlockId} {d : Counts} {c1 : Cursor} → x ≡ F.Added f b d → c1 ≡ enter_cur d b c → Funs l n m c m' (OpenedFun.Done c1 f)
+  pub fun_yes : {f : FunId} {b : BlockId} {c1 : Cursor} → x ≡ Ok (f, b) → c1 ≡ enter_cur d b c → Funs l n m c m' (OpenedFun.Done c1 f)
   unfolding parser_of
-  fun_yes {f} {b} {d} {c1} o r =
+  fun_yes {f} {b} {c1} o r =
       let ok = rw o at a.did.ok in
       let en : b.0 ≡ c.counts.blocks = rw o at a.entry in
       let df : d.functions ≡ c.counts.functions + 1 = ap (λ (z : Counts). z.functions) ok.counts in

@@ -1,6 +1,7 @@
 -- What each function relies on and promises. Assumes nothing.
-use Rattle.std.specs.Prelude.{◌≡◌, List, [], ℕ, ◌+◌, ◌*◌, ◌≤◌, ◌<◌, length, get_or}
+use Rattle.std.specs.Prelude.{◌≡◌, List, [], ℕ, ◌+◌, ◌*◌, ◌≤◌, ◌<◌, length, get_or, Option}
 use Rattle.ids.specs.declared.BlockId.{BlockId}
+use Rattle.ids.specs.declared.InsnId.{InsnId}
 use Rattle.rules.specs.Actions.{loop}
 use Rattle.rules.specs.Program as P
 use Rattle.rules.specs.Reading.{parse_param, turns, push_params, push_self, new_fun}
@@ -8,23 +9,20 @@ use Rattle.variables.specs.Memory.{Kept}
 use Rattle.program.specs.Rows.{name_in, owner_in}
 use Rattle.program.specs.View as View
 use Rattle.program.specs.declared.Counts.{Counts}
-use Rattle.program.specs.declared.Limits.{Limits}
+use Rattle.program.specs.declared.bounds.Limits.{Limits}
 use Rattle.program.specs.declared.Name.{Name}
-use Rattle.cursor.specs.Cursor.{parser_of, move_cur, count_cur, stack_cur}
+use Rattle.cursor.specs.Cursor.{Cursor, parser_of, move_cur, count_cur, stack_cur}
 use Rattle.cursor.specs.Promises.{Out, done, stop, outcome, moved_of}
-use Rattle.cursor.specs.declared.Cursor.{Cursor}
-use Rattle.cursor.specs.declared.Moved.{Moved}
-use Rattle.cursor.specs.declared.Moved.TheVariants.{On, Refused}
-use Rattle.cursor.specs.declared.SelfAt.{SelfAt}
+use Rattle.cursor.specs.outcomes.Moved.{Moved, On, Refused}
 use Rattle.memory.specs.Layout.{script_most, operands_most}
 use Rattle.variables.specs.Layout.{bindings_most, entries_most}
 use Rattle.cursor.specs.Layout.{stack_at, scratch_size}
-use Rattle.functions.specs.declared.params.OpenedFun.{OpenedFun}
+use Rattle.functions.specs.outcomes.OpenedFun.{OpenedFun}
 use Rattle.functions.specs.params.Names.{name_at, names_in, Lie, param_of}
 
 -- ---- a cursor with some parts changed
 
-abbrev pub receive_cur : SelfAt → Cursor → Cursor
+abbrev pub receive_cur : Option InsnId → Cursor → Cursor
 receive_cur r c = record { at = c.at; counts = c.counts; class = c.class; receiver = r; block = c.block; vars = c.vars; aside = c.aside; args = c.args }
 
 abbrev pub enter_cur : Counts → BlockId → Cursor → Cursor

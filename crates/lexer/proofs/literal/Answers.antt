@@ -1,18 +1,21 @@
 -- `lexer::literal` meets its contract. Assumes nothing.
-use Rattle.lexer.proofs.Runs.{lit_start, lit_tens, lit_over, lit_more, lit_done}
+use Rattle.std.proofs.Common.{◌≤◌, ◌^◌, ◌∙◌, arith}
+use Rattle.rules.specs.Words.{decimal}
+use Rattle.lexer.proofs.Runs.{literal-least, literal-done, too_large, fits}
 use Rattle.lexer.proofs.literal.Goals as goal
 
-pub loop-i-init : goal.loop-i-init
-loop-i-init c = search lit_start
+pub returns-in_err-checked_mul : goal.returns-in_err-checked_mul
+returns-in_err-checked_mul c =
+    let most : 2 ^ 63 ≤ decimal 0 c.args.digits.now = omega (arith, c.in_err-checked_mul.ensures, literal-least c.loop-digit.invariant c.loop-digit-test.true) in
+    c.from_residual.ensures ∙ too_large most
 
-pub returns-then-v-gt-MOST_TENS : goal.returns-then-v-gt-MOST_TENS
-returns-then-v-gt-MOST_TENS c = search lit_tens
+pub returns-in_err-value : goal.returns-in_err-value
+returns-in_err-value c =
+    let most : 2 ^ 63 ≤ decimal 0 c.args.digits.now = omega (arith, c.in_err-value.ensures, literal-least c.loop-digit.invariant c.loop-digit-test.true) in
+    c.from_residual-in_err-value.ensures ∙ too_large most
 
-pub returns-then-next-gt-MOST : goal.returns-then-next-gt-MOST
-returns-then-next-gt-MOST c = search lit_over
+pub returns-then-value-le-LARGEST_LITERAL : goal.returns-then-value-le-LARGEST_LITERAL
+returns-then-value-le-LARGEST_LITERAL c = let done = literal-done c.loop-digit.invariant c.loop-digit-test.false in rw done (fits (omega arith))
 
-pub loop-i-preserved : goal.loop-i-preserved
-loop-i-preserved c = search lit_more
-
-pub returns : goal.returns
-returns c = search lit_done
+pub returns-else-value-le-LARGEST_LITERAL : goal.returns-else-value-le-LARGEST_LITERAL
+returns-else-value-le-LARGEST_LITERAL c = too_large (omega (arith, literal-done c.loop-digit.invariant c.loop-digit-test.false))

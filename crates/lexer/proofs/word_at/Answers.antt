@@ -1,21 +1,50 @@
 -- `lexer::word_at` meets its contract. Assumes nothing.
+use Rattle.std.proofs.Common.{◌≡◌, ◌+◌, drop, sym, ◌∙◌, rules, arith}
+use Rattle.rules.specs.Words.{in_word, digit, run}
 use Rattle.lexer.proofs.Lexes.{word_end, word-letter, word-digit, word_over, word-sign, word_none}
 use Rattle.lexer.proofs.word_at.Goals as goal
 
-pub returns-then-script-start : goal.returns-then-script-start
-returns-then-script-start c = search word_end
+pub returns-in_default : goal.returns-in_default
+returns-in_default c = word_end _ _ _ c.skip_blank-start.ensures c.in_default.ensures.lookup.3
 
-pub returns-then-is_letter : goal.returns-then-is_letter
-returns-then-is_letter c = search word-letter
+pub overflow_sub-len : goal.overflow_sub-len
+overflow_sub-len c =
+    let ends : c.behind-next.result ≡ c.skip_blank-start.result + run in_word (drop c.skip_blank-start.result c.args.script.now) = search rules in
+    omega arith
 
-pub returns-in-Of : goal.returns-in-Of
-returns-in-Of c = search word-digit
+pub returns-then-is_ascii_alphabetic : goal.returns-then-is_ascii_alphabetic
+returns-then-is_ascii_alphabetic c =
+    let ends : c.behind-next.result ≡ c.skip_blank-start.result + run in_word (drop c.skip_blank-start.result c.args.script.now) = search rules in
+    word-letter _ _ _ c.skip_blank-start.ensures c.in-Some.ensures.lookup.3.0 (c.in-Some.ensures.lookup.3.1 0)
+    (sym c.is_ascii_alphabetic.ensures.value ∙ c.if-is_ascii_alphabetic.true) ends c.bytes_at.ensures c.kept_token-token.ensures
 
-pub returns-in-Over : goal.returns-in-Over
-returns-in-Over c = search word_over
+pub overflow_sub-len-then-is_ascii_digit : goal.overflow_sub-len-then-is_ascii_digit
+overflow_sub-len-then-is_ascii_digit c =
+    let ends : c.behind-next-then-is_ascii_digit.result ≡ c.skip_blank-start.result + run digit (drop c.skip_blank-start.result c.args.script.now) = search rules in
+    omega arith
+
+pub returns-in-Some-literal : goal.returns-in-Some-literal
+returns-in-Some-literal c =
+    let ends : c.behind-next-then-is_ascii_digit.result ≡ c.skip_blank-start.result + run digit (drop c.skip_blank-start.result c.args.script.now) = search rules in
+    word-digit _ _ _ c.skip_blank-start.ensures c.in-Some.ensures.lookup.3.0 (c.in-Some.ensures.lookup.3.1 0)
+    (sym c.is_ascii_alphabetic.ensures.value ∙ c.if-is_ascii_alphabetic.false)
+    (sym c.is_ascii_digit.ensures.value ∙ c.if-is_ascii_digit.true) ends c.bytes_at-then-is_ascii_digit.ensures c.literal.ensures
+    c.in-Some-literal.is
+
+pub returns-in-None : goal.returns-in-None
+returns-in-None c =
+    let ends : c.behind-next-then-is_ascii_digit.result ≡ c.skip_blank-start.result + run digit (drop c.skip_blank-start.result c.args.script.now) = search rules in
+    word_over _ _ _ c.skip_blank-start.ensures c.in-Some.ensures.lookup.3.0 (c.in-Some.ensures.lookup.3.1 0)
+    (sym c.is_ascii_alphabetic.ensures.value ∙ c.if-is_ascii_alphabetic.false)
+    (sym c.is_ascii_digit.ensures.value ∙ c.if-is_ascii_digit.true) ends c.bytes_at-then-is_ascii_digit.ensures c.literal.ensures
+    c.in-None.is
 
 pub returns-then-is_sign : goal.returns-then-is_sign
-returns-then-is_sign c = search word-sign
+returns-then-is_sign c =
+    word-sign _ _ _ c.skip_blank-start.ensures c.in-Some.ensures.lookup.3.0 (c.in-Some.ensures.lookup.3.1 0)
+    (sym c.is_ascii_alphabetic.ensures.value ∙ c.if-is_ascii_alphabetic.false) (sym c.is_ascii_digit.ensures.value ∙ c.if-is_ascii_digit.false) (sym c.is_sign.ensures ∙ c.if-is_sign.true)
 
 pub returns : goal.returns
-returns c = search word_none
+returns c =
+    word_none _ _ _ c.skip_blank-start.ensures c.in-Some.ensures.lookup.3.0 (c.in-Some.ensures.lookup.3.1 0)
+    (sym c.is_ascii_alphabetic.ensures.value ∙ c.if-is_ascii_alphabetic.false) (sym c.is_ascii_digit.ensures.value ∙ c.if-is_ascii_digit.false) (sym c.is_sign.ensures ∙ c.if-is_sign.false)

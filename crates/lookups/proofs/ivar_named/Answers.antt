@@ -1,27 +1,13 @@
 -- `lookups::ivar_named` meets its contract. Assumes nothing.
-use native.Mathlib.Omega.{arith}
-use Rattle.lookups.proofs.Finds.{first-start, first_more}
-use Rattle.lookups.proofs.Rows.{ivar_none, ivar_hit}
+use Rattle.std.proofs.Common.{rules, tests, arith}
+use Rattle.lookups.specs.Look.{is_ivar, ivar_row}
+use Rattle.lookups.proofs.Finds.{first_found}
+use Rattle.lookups.proofs.Rows.{ivar_is_found}
 use Rattle.lookups.proofs.ivar_named.Goals as goal
 
-pub loop-j-init : goal.loop-j-init
-loop-j-init c = search first-start
-
-pub ivar_is-requires-clause-k_lt_classes_most : goal.ivar_is-requires-clause-k_lt_classes_most
-ivar_is-requires-clause-k_lt_classes_most c = omega (
-  arith,
-  c.requires.program_ready.ivars _ c.requires.k_lt_classes,
-  c.requires.program_ready.classes,
-)
-
-pub returns-then-ivar_is : goal.returns-then-ivar_is
-returns-then-ivar_is c = search ivar_hit
-
-pub overflow_add-j : goal.overflow_add-j
-overflow_add-j c = omega (arith, c.requires.program_ready.ivars _ c.requires.k_lt_classes)
-
-pub loop-j-preserved : goal.loop-j-preserved
-loop-j-preserved c = search first_more
-
 pub returns : goal.returns
-returns c = search ivar_none
+returns c =
+    let found = first_found (is_ivar c.bytes_at-wanted.result.now)
+    (ivar_row c.args.program.now.script.now c.args.program.now.words.now c.args.k.0) _ c.find.ensures.ran (λ j h. absurd (omega arith))
+    (λ x b q k. search (rules, tests)) in
+    ivar_is_found c.args.program.now.script.now c.args.program.now.words.now c.args.program.now.counts c.args.k.0 c.requires c.bytes_at-wanted.ensures found.is

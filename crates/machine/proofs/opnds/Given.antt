@@ -7,10 +7,9 @@ use lib.ListN.{get_or}
 use Rattle.ids.specs.declared.InsnId.{InsnId}
 use Rattle.kinds.specs.declared.Kind.{Kind}
 use Rattle.kinds.specs.declared.Kind.TheVariants.{Empty}
-use Rattle.kinds.specs.declared.Joined.{Joined}
-use Rattle.kinds.specs.declared.Joined.TheVariants.{Of, Refused}
+use Rattle.std.specs.Prelude.{Ok, Err}
 use Rattle.kinds.specs.declared.Arith.{Arith}
-use Rattle.kinds.specs.Union.{union_of, and_then, join_of, union_all}
+use Rattle.kinds.specs.Union.{Joined, union_of, and_then, join_of, union_all}
 use Rattle.kinds.specs.Rules.{arith_of}
 use Rattle.rules.specs.Actions.{lift}
 use Rattle.rules.specs.Values.{to_answer}
@@ -50,23 +49,19 @@ computed z m o v w e h g i = record {
 
 -- ---- Phi
 
-pub joined-yes : (z : Sizes) (m : List ℕ) (j : Joined) (live : 𝔹) (v : Opnd) {k : Kind} {r : Joined} → live ≡ true → k ≡ kind_in (kinds_of z m) (opnd_of v) → r ≡ join_of j k
-    → r ≡ cond live (join_of j (kind_in (kinds_of z m) (opnd_of v))) j
-joined-yes z m j live v e h g = rw (e, g, h)
-
-then_of : (j : Joined) → and_then j Of ≡ j
-then_of (Of k) = refl
-then_of (Refused n) = refl
+then_of : (j : Joined) → and_then j Ok ≡ j
+then_of (Ok k) = refl
+then_of (Err n) = refl
 
 two : (a b : 𝔹) (s : State) (v w : P.Opnd)
-    → cond b (join_of (cond a (join_of (Of Empty) (kind_of s v)) (Of Empty)) (kind_of s w)) (cond a (join_of (Of Empty) (kind_of s v)) (Of Empty))
+    → cond b (join_of (cond a (join_of (Ok Empty) (kind_of s v)) (Ok Empty)) (kind_of s w)) (cond a (join_of (Ok Empty) (kind_of s v)) (Ok Empty))
     ≡ union_all Empty (map (kind_of s) (cond a (v ∷ []) [] ++ cond b (w ∷ []) []))
 unfolding union_all
 two true true s v w = sym (then_two (union_of Empty (kind_of s v)))
   where
-    then_two : (j : Joined) → and_then j (λ u. and_then (union_of u (kind_of s w)) Of) ≡ and_then j (λ u. union_of u (kind_of s w))
-    then_two (Of k) = then_of (union_of k (kind_of s w))
-    then_two (Refused n) = refl
+    then_two : (j : Joined) → and_then j (λ u. and_then (union_of u (kind_of s w)) Ok) ≡ and_then j (λ u. union_of u (kind_of s w))
+    then_two (Ok k) = then_of (union_of k (kind_of s w))
+    then_two (Err n) = refl
 two true false s v w = sym (then_of (union_of Empty (kind_of s v)))
 two false true s v w = sym (then_of (union_of Empty (kind_of s w)))
 two false false s v w = refl
@@ -77,14 +72,14 @@ unfolding rule join_all
 phi-is L p i b c v w s = refl
 
 pub joined_two : (z : Sizes) (m : List ℕ) (b c : ℕ) (v w : Opnd) {x y : 𝔹} {j r : Joined} → x ≡ get_or (live_of z m) b false → y ≡ get_or (live_of z m) c false
-    → j ≡ cond x (join_of (Of Empty) (kind_in (kinds_of z m) (opnd_of v))) (Of Empty) → r ≡ cond y (join_of j (kind_in (kinds_of z m) (opnd_of w))) j
+    → j ≡ cond x (join_of (Ok Empty) (kind_in (kinds_of z m) (opnd_of v))) (Ok Empty) → r ≡ cond y (join_of j (kind_in (kinds_of z m) (opnd_of w))) j
     → (i : ℕ) → StateReads z Every (λ L p. rule L p i (Phi b (opnd_of v) c (opnd_of w))) m r
 joined_two z m b c v w {x} {y} {j} {r} ex ey ej er i = record {
   is = λ L p at _ q.
       let s = state_view z at m q in
       let e : r ≡ cond (get_or s.live c false)
-      (join_of (cond (get_or s.live b false) (join_of (Of Empty) (kind_of s (opnd_of v))) (Of Empty)) (kind_of s (opnd_of w)))
-      (cond (get_or s.live b false) (join_of (Of Empty) (kind_of s (opnd_of v))) (Of Empty)) =
+      (join_of (cond (get_or s.live b false) (join_of (Ok Empty) (kind_of s (opnd_of v))) (Ok Empty)) (kind_of s (opnd_of w)))
+      (cond (get_or s.live b false) (join_of (Ok Empty) (kind_of s (opnd_of v))) (Ok Empty)) =
       rw (er, ej, ex, ey, kind_of_lem s (opnd_of v), kind_of_lem s (opnd_of w)) in
       ap (λ (u : Joined). lift (to_answer u) s) (e ∙ two (get_or s.live b false) (get_or s.live c false) s (opnd_of v) (opnd_of w)) ∙ sym (phi-is L p i b c (opnd_of v) (opnd_of w) s);
 }

@@ -1,68 +1,42 @@
 -- `machine::store` meets its contract. Assumes nothing.
-use Rattle.machine.proofs.Storing.{refused_way, same_way, new_way, put-ready, users-listed, row_below, start-few}
+use mathlib.Core.Path.{◌≡◌}
 use native.Mathlib.Omega.{arith}
+use Rattle.std.specs.Prelude.{Err}
+use borrow.Author.Rules.{rules}
+use Rattle.kinds.proofs.Same.{eq_same, ne_same}
+use Rattle.machine.proofs.Storing.{start-few, users_listed_at, refused_way, same_way, new_way}
 use Rattle.machine.proofs.store.Goals as goal
 
-pub returns-then-same : goal.returns-then-same
-returns-then-same c =
-    same_way c.args.program.now c.args.counts c.args.users.now c.args.sizes c.requires.users c.requires.program_ready c.requires.machine_sized
-    c.args.state.now c.args.regs c.args.i.0 c.args.k c.requires.i_lt_insns c.kind_at-old.ensures c.union.ensures c.requires.state_ready
-    c.in-Of.w c.in-Of.is c.same.ensures c.if-same.true
+pub returns-in_err-union : goal.returns-in_err-union
+returns-in_err-union c =
+    let e : c.from_residual.result ≡ Err c.in_err-union.field-0.0 = search rules in
+    let p = c.args.program.now in
+    rw e (refused_way p.words.now p.counts c.args.users.now c.args.state.now c.requires.users p.ready c.requires.machine_sized c.args.i.0 c.args.k c.requires.i_lt_insns
+    c.kind_at-old.ensures c.union.ensures c.in_err-union.field-0.0 c.in_err-union.was)
 
-pub overflow_add-from-in-Of : goal.overflow_add-from-in-Of
-overflow_add-from-in-Of c =
-    omega (
-      arith,
-      (start-few
-          c.args.program.now
-          c.args.counts
-          c.args.users.now
-          c.requires.users
-          c.args.sizes
-          c.requires.machine_sized
-          c.args.i.0
-          c.requires.i_lt_insns).0,
-    )
+pub returns-then-eq : goal.returns-then-eq
+returns-then-eq c =
+    let p = c.args.program.now in
+    same_way p.words.now p.counts c.args.users.now c.args.state.now c.requires.users p.ready c.requires.machine_sized c.args.i.0 c.args.k c.requires.i_lt_insns
+    c.kind_at-old.ensures c.union.ensures c.in_ok-union.field-0 c.in_ok-union.was (eq_same _ _ (search rules))
 
-pub overflow_add-to-in-Of-2 : goal.overflow_add-to-in-Of-2
-overflow_add-to-in-Of-2 c =
-    omega (
-      arith,
-      (start-few
-          c.args.program.now
-          c.args.counts
-          c.args.users.now
-          c.requires.users
-          c.args.sizes
-          c.requires.machine_sized
-          c.args.i.0
-          c.requires.i_lt_insns).1,
-    )
+pub overflow_add-from-2 : goal.overflow_add-from-2
+overflow_add-from-2 c = let f = start-few c.args.program.now.words.now c.args.program.now.counts c.args.users.now c.requires.users
+    c.args.state.now.sizes c.requires.machine_sized c.args.i.0 c.requires.i_lt_insns in
+    record { fits = omega (arith, f.0) }
 
-pub push_users-requires-clause-state_ready : goal.push_users-requires-clause-state_ready
-push_users-requires-clause-state_ready c = put-ready c.set_kind.ensures c.requires.state_ready
-
-pub push_users-requires-clause-program_ready : goal.push_users-requires-clause-program_ready
-push_users-requires-clause-program_ready c = c.requires.program_ready
-
-pub push_users-requires-clause-machine_sized : goal.push_users-requires-clause-machine_sized
-push_users-requires-clause-machine_sized c = c.requires.machine_sized
+pub overflow_add-to-3 : goal.overflow_add-to-3
+overflow_add-to-3 c = let f = start-few c.args.program.now.words.now c.args.program.now.counts c.args.users.now c.requires.users
+    c.args.state.now.sizes c.requires.machine_sized c.args.i.0 c.requires.i_lt_insns in
+    record { fits = omega (arith, f.1) }
 
 pub push_users-requires-clause-listing : goal.push_users-requires-clause-listing
-push_users-requires-clause-listing c = users-listed c.args.program.now c.args.counts c.args.users.now c.requires.users
-    c.args.i.0
-    (row_below c.args.program.now c.args.counts c.args.sizes c.requires.program_ready c.requires.machine_sized
-    c.requires.i_lt_insns)
-    c.args.sizes c.requires.machine_sized
+push_users-requires-clause-listing c =
+    rw c.set_kind.ensures.lent.sizes (users_listed_at c.args.program.now.words.now c.args.program.now.counts c.args.users.now c.requires.users
+    c.args.state.now.sizes c.requires.machine_sized c.args.i.0 c.requires.i_lt_insns)
 
-pub returns-else-same : goal.returns-else-same
-returns-else-same c =
-    new_way c.args.program.now c.args.counts c.args.users.now c.args.sizes c.requires.users c.requires.program_ready c.requires.machine_sized c.args.state.now
-    c.args.regs c.args.i.0 c.args.k c.requires.i_lt_insns c.kind_at-old.ensures c.union.ensures c.in-Of.w c.in-Of.is
-    c.same.ensures c.if-same.false c.set_kind.ensures c.push_users.ensures
-
-pub returns-in-Refused : goal.returns-in-Refused
-returns-in-Refused c =
-    refused_way c.args.program.now c.args.counts c.args.users.now c.args.sizes c.requires.users c.requires.program_ready c.requires.machine_sized
-    c.args.state.now c.args.regs c.args.i.0 c.args.k c.requires.i_lt_insns c.kind_at-old.ensures c.union.ensures c.in-Refused.n
-    c.in-Refused.is
+pub returns : goal.returns
+returns c =
+    let p = c.args.program.now in
+    new_way p.words.now p.counts c.args.users.now c.args.state.now c.requires.users p.ready c.requires.machine_sized c.args.i.0 c.args.k c.requires.i_lt_insns
+    c.kind_at-old.ensures c.union.ensures c.in_ok-union.field-0 c.push_users.result c.in_ok-union.was (ne_same _ _ (search rules)) c.set_kind.ensures c.push_users.ensures

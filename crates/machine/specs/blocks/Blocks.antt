@@ -1,14 +1,16 @@
 -- The chains of blocks' instructions, and what a step that takes one entry promises. Assumes nothing.
-use Rattle.std.specs.Prelude.{◌≡◌, List, ℕ, ◌+◌, ◌≤◌, ◌<◌, length}
+use Rattle.std.specs.Prelude.{◌≡◌, List, ℕ, ◌+◌, ◌≤◌, ◌<◌, length, Result}
+use Rattle.refusals.specs.declared.Refusal.{Refusal}
 use Rattle.rules.specs.Actions.{Answer}
 use Rattle.rules.specs.Program.{Limits, Program, code}
 use Rattle.rules.specs.Machine.{State, state_of}
 use Rattle.state.specs.declared.Sizes.{Sizes}
 use Rattle.state.specs.declared.Regs.{Regs}
-use Rattle.state.specs.declared.Acted.{Acted}
-use Rattle.state.specs.declared.Acted.TheVariants.{On, Refused}
 use Rattle.state.specs.View.{Attrs, state_view, StateReady}
+use Rattle.state.specs.Acted.{Acted, On, Refused, acted_of}
 use Rattle.state.specs.Changes.{went}
+use Rattle.state.specs.Methods.{Lent}
+use Rattle.state.specs.declared.State as S
 use Rattle.chains.specs.Chains.{ChainIs}
 use Rattle.memory.specs.Layout.{worklist_most, blocks_room}
 use Rattle.chains.specs.Layout.{chains_size}
@@ -40,3 +42,8 @@ ReadyNext z q w (Refused n) = Unit {0}
 pub record BlockStepped (z : Sizes) (fits : Program → Attrs → Type 0) (f : Limits → Program → State → Answer State) (m : List ℕ) (q : Regs) (w : List ℕ) (r : Acted) : Type 0 where
   pub is : (L : Limits) → L.worklist ≡ worklist_most → (p : Program) (v : Attrs) → fits p v → state_of L p (went z v w r) ≡ f L p (state_view z v m q)
   pub ok : ReadyNext z q w r
+
+-- such a step of a state
+pub record Stepped (fits : Program → Attrs → Type 0) (f : Limits → Program → State → Answer State) (s t : S.State) (r : Result (Unit {0}) Refusal) : Type 0 where
+  pub lent : Lent s t
+  pub step : BlockStepped s.sizes fits f s.words.now s.regs t.words.now (acted_of t.regs r)

@@ -2,7 +2,7 @@
 use Rattle.std.specs.Prelude.{Bool as 𝔹, not, ◌≡◌, List, ℕ, ◌<◌, get_or}
 use Rattle.kinds.specs.declared.Kind.{Kind}
 use Rattle.kinds.specs.declared.Kind.TheVariants.{Empty}
-use Rattle.kinds.specs.declared.Joined.{Joined}
+use Rattle.kinds.specs.Union.{Joined}
 use Rattle.rules.specs.Actions.{lift, unless}
 use Rattle.rules.specs.Values.{to_answer}
 use Rattle.rules.specs.Program as P

@@ -1,8 +1,10 @@
 -- A receiver's classes as the rules ask for them. Assumes nothing.
-use Rattle.std.specs.Prelude.{◌≡◌, ℕ, ◌<◌}
+use Rattle.std.specs.Prelude.{◌≡◌, ℕ, ◌<◌, Result, Ok, Err}
 use Rattle.std.proofs.Math.Option.{some}
 use mathlib.Core.List.{List, Memᴰ}
 use Rattle.ids.specs.Sets.{members_of}
+use Rattle.refusals.specs.declared.Refusal.{Refusal}
+use Rattle.refusals.specs.Refusals.{number_of}
 use Rattle.rules.specs.Actions.{Answer, answered, refused}
 use Rattle.rules.specs.Values.{classes_in}
 use Rattle.rules.specs.Machine.{State, classes_of}
@@ -14,14 +16,12 @@ use Rattle.state.specs.declared.Sizes.{Sizes}
 use Rattle.state.specs.declared.Regs.{Regs}
 use Rattle.state.specs.View.{Attrs, kinds_of, state_view}
 use Rattle.machine.specs.opnds.Reads.{kind_in}
-use Rattle.machine.specs.declared.receivers.ReceiverClasses.{ReceiverClasses}
-use Rattle.machine.specs.declared.receivers.ReceiverClasses.TheVariants.{Classes, Refused}
 
-abbrev pub received : ReceiverClasses → State → Answer (List ℕ × State)
-received (Classes c) s = answered (members_of c, s)
-received (Refused n) s = refused n
+abbrev pub received : Result ℕ Refusal → State → Answer (List ℕ × State)
+received (Ok c) s = answered (members_of c, s)
+received (Err e) s = refused (number_of e)
 
-pub record Receives (z : Sizes) (m : List ℕ) (o : Opnd) (r : ReceiverClasses) : Type 0 where
+pub record Receives (z : Sizes) (m : List ℕ) (o : Opnd) (r : Result ℕ Refusal) : Type 0 where
   pub is : (v : Attrs) (q : Regs) → received r (state_view z v m q) ≡ classes_of (opnd_of o) (state_view z v m q)
 
 -- the tables of a program, and a state of its sizes

@@ -14,7 +14,7 @@ use lib.Seq.{drop-cons}
 use Rattle.rules.specs.Lists.{places_from, cons_if}
 use Rattle.memory.specs.tables.Tables.{listed}
 use Rattle.memory.specs.tables.Bits.{bit_at, after, Next}
-use Rattle.memory.specs.declared.tables.FoundBit.TheVariants.{At, Nothing}
+use Rattle.std.specs.Prelude.{Some, None}
 use Rattle.memory.proofs.tables.Listed.{listed-length, listed_at}
 use Rattle.memory.proofs.tables.Bit.{rest, clear-word, found_bit, clear-below}
 
@@ -53,7 +53,7 @@ pub record Walked (b : ℕ → 𝔹) (n k i : ℕ) : Type 0 where
 pub walk_start : (b : ℕ → 𝔹) (n k : ℕ) → Walked b n k k
 walk_start b n k = record { same = refl; up = omega arith }
 
-pub walk_end : {b : ℕ → 𝔹} {n k i : ℕ} → Walked b n k i → n ≤ i → Next b n k Nothing
+pub walk_end : {b : ℕ → 𝔹} {n k i : ℕ} → Walked b n k i → n ≤ i → Next b n k None
 walk_end {b} {n} {k} {i} w h = record { is = w.same ∙ after-end b n i h; ok = tt }
 
 module _ (m : List ℕ) (base n k i : ℕ) (w : Walked (bit_at m base) n k i) where
@@ -68,11 +68,11 @@ module _ (m : List ℕ) (base n k i : ℕ) (w : Walked (bit_at m base) n k i) wh
     reached =
         w.same ∙ after-clear (bit_at m base) n i (i + count_trailing_zeros 64 (rest m base i)) (omega arith) (clear-below m base i (omega arith) fits)
 
-    pub walk-found : i + count_trailing_zeros 64 (rest m base i) < n → Next (bit_at m base) n k (At (i + count_trailing_zeros 64 (rest m base i)))
+    pub walk-found : i + count_trailing_zeros 64 (rest m base i) < n → Next (bit_at m base) n k (Some (i + count_trailing_zeros 64 (rest m base i)))
     walk-found lt = record {
       is = reached ∙ after-found (bit_at m base) n (i + count_trailing_zeros 64 (rest m base i)) lt (found_bit m base i (omega arith) fits);
       ok = (omega arith, lt);
     }
 
-    pub walk-past : n ≤ i + count_trailing_zeros 64 (rest m base i) → Next (bit_at m base) n k Nothing
+    pub walk-past : n ≤ i + count_trailing_zeros 64 (rest m base i) → Next (bit_at m base) n k None
     walk-past le = record { is = reached ∙ after-end (bit_at m base) n (i + count_trailing_zeros 64 (rest m base i)) le; ok = tt }

@@ -1,12 +1,10 @@
 -- Rows of bits in a memory of 64-bit words, the lowest bit of a row's first word first. Assumes nothing.
-use Rattle.std.specs.Prelude.{Bool as 𝔹, false, not, ◌≡◌, List, [], ◌∷◌, ℕ, suc, ◌+◌, ◌*◌, ◌/◌, ◌%◌, ◌^◌, ◌≤◌, ◌<◌, eqb, get_or, set, drop}
+use Rattle.std.specs.Prelude.{Bool as 𝔹, false, not, ◌≡◌, List, [], ◌∷◌, ℕ, suc, ◌+◌, ◌*◌, ◌/◌, ◌%◌, ◌^◌, ◌≤◌, ◌<◌, eqb, get_or, set, drop, Option, Some, None}
 use Rattle.std.specs.Int.Bits.{bit_or}
 use Rattle.ids.specs.Sets.{members_from}
 use Rattle.kinds.specs.Kinds.{bit_of}
 use Rattle.rules.specs.Lists.{places_from}
 use Rattle.memory.specs.tables.Tables.{listed}
-use Rattle.memory.specs.declared.tables.FoundBit.{FoundBit}
-use Rattle.memory.specs.declared.tables.FoundBit.TheVariants.{At, Nothing}
 
 -- bit n of the row whose first word is at base
 unfoldable pub bit_at : List ℕ → ℕ → ℕ → 𝔹
@@ -21,16 +19,16 @@ unfoldable pub after : (ℕ → 𝔹) → ℕ → ℕ → List ℕ
 after b n k = places_from k (λ t. t) (drop k (listed n b))
 
 -- what the walk finds, and the places behind it
-abbrev pub goes_on : (ℕ → 𝔹) → ℕ → FoundBit → List ℕ
-goes_on b n (At j) = j ∷ after b n (suc j)
-goes_on b n Nothing = []
+abbrev pub goes_on : (ℕ → 𝔹) → ℕ → Option ℕ → List ℕ
+goes_on b n (Some j) = j ∷ after b n (suc j)
+goes_on b n None = []
 
-abbrev pub BitsWithin : ℕ → ℕ → FoundBit → Type 0
-BitsWithin k n (At j) = (k ≤ j) × (j < n)
-BitsWithin k n Nothing = Unit
+abbrev pub BitsWithin : ℕ → ℕ → Option ℕ → Type 0
+BitsWithin k n (Some j) = (k ≤ j) × (j < n)
+BitsWithin k n None = Unit
 
 -- r is the first place from k on
-pub record Next (b : ℕ → 𝔹) (n k : ℕ) (r : FoundBit) : Type 0 where
+pub record Next (b : ℕ → 𝔹) (n k : ℕ) (r : Option ℕ) : Type 0 where
   pub is : after b n k ≡ goes_on b n r
   pub ok : BitsWithin k n r
 

@@ -8,22 +8,19 @@ use Rattle.ids.specs.declared.ClassId.{ClassId}
 use Rattle.rules.specs.Actions.{answered, refused, loop}
 use Rattle.rules.specs.Reading.{with_class, new_class, class_named, turns, parse_class_member, parse_class}
 use Rattle.lookups.specs.Look.{LookKnown}
-use Rattle.lookups.specs.declared.FoundClass.{FoundClass}
-use Rattle.lookups.specs.declared.FoundClass.TheVariants as Found
+use mathlib.Core.Bool.{true, false}
+use Rattle.std.specs.Prelude.{Option as Maybe, Some, None, Result, Ok, Err, is_some}
+use Rattle.refusals.specs.declared.Refusal.{Refusal}
+use Rattle.refusals.specs.Refusals.{number_of}
 use Rattle.program.specs.Rows.{name_in}
 use Rattle.program.specs.View as View
 use Rattle.program.specs.declared.Counts.{Counts}
-use Rattle.program.specs.declared.Limits.{Limits}
+use Rattle.program.specs.declared.bounds.Limits.{Limits}
 use Rattle.program.specs.declared.Name.{Name}
-use Rattle.program.specs.declared.NewClass.{NewClass}
-use Rattle.program.specs.declared.NewClass.TheVariants as New
-use Rattle.program.specs.declared.Owner.{Owner}
-use Rattle.cursor.specs.Cursor.{parser_of, count_cur}
+use Rattle.cursor.specs.Cursor.{Cursor, parser_of, count_cur}
 use Rattle.cursor.specs.Promises.{Idents, moved_of}
-use Rattle.cursor.specs.declared.Cursor.{Cursor}
-use Rattle.cursor.specs.declared.Ident.{Ident}
-use Rattle.cursor.specs.declared.Moved.{Moved}
-use Rattle.cursor.specs.declared.Moved.TheVariants.{On, Refused}
+use Rattle.cursor.specs.outcomes.Ident.{Ident}
+use Rattle.cursor.specs.outcomes.Moved.{Moved, On, Refused}
 use Rattle.cursor.proofs.Laws.{ident_on, ident_is}
 use Rattle.functions.specs.Bodies.{Rests, Onto, Takes}
 use Rattle.parser.specs.classes.Turning.{class_cur}
@@ -41,22 +38,22 @@ module _ (l : Limits) {s m w : List ℕ} {c : Cursor} (g : Rests s m w c) {u : I
     name_rests : Rests s m w c1
     name_rests = rests_moved g (ident_on a f).0 (omega (arith, (ident_on a f).1.0)) ((ident_on a f).1.1 g.ready.inside)
 
-    module _ {m1 : List ℕ} {x : NewClass}
-        (b : View.ProgramDid (View.class_for (View.limits_of l) n) View.unchanged c1.counts.classes (View.more_classes c1.counts) m c1.counts m1 (View.class_of x)) where
-      full_is : {e : ℕ} → x ≡ New.Refused e → refused e ≡ new_class (View.limits_of l) (name_in s n) (parser_of s m w c1)
+    module _ {m1 : List ℕ} (d : Counts) (x : Result ClassId Refusal)
+        (b : View.ProgramDid (View.class_for (View.limits_of l) n) View.unchanged c1.counts.classes (View.more_classes c1.counts) m c1.counts m1 (View.class_of d x)) where
+      full_is : {e : Refusal} → x ≡ Err e → refused (number_of e) ≡ new_class (View.limits_of l) (name_in s n) (parser_of s m w c1)
       unfolding parser_of
       full_is i = rw i at (b.is s (parser_of s m w c1))
 
-      pub class_no2 : {e : ℕ} → x ≡ New.Refused e → Class m1 w (Refused e)
+      pub class_no2 : {e : Refusal} → x ≡ Err e → Class m1 w (Refused (number_of e))
       unfolding parse_class
       class_no2 i = record { is = rw (← ident_is a f m w, ← full_is i); ok = tt }
 
-      module _ {k : ClassId} {d : Counts} (i : x ≡ New.Added k d) {c2 c3 : Cursor} (p : c2 ≡ count_cur d c1) (q : c3 ≡ class_cur (Owner.Class k) c2) where
+      module _ {k : ClassId} (i : x ≡ Ok k) {c2 c3 : Cursor} (p : c2 ≡ count_cur d c1) (q : c3 ≡ class_cur (Some k) c2) where
         added : View.ProgramAfter m1 c1.counts.classes (View.more_classes c1.counts) k.0 d
         added = rw i at b.ok
 
-        opened : c3 ≡ class_cur (Owner.Class k) (count_cur d c1)
-        opened = q ∙ ap (λ (z : Cursor). class_cur (Owner.Class k) z) p
+        opened : c3 ≡ class_cur (Some k) (count_cur d c1)
+        opened = q ∙ ap (λ (z : Cursor). class_cur (Some k) z) p
 
         added_is : answered (k.0, parser_of s m1 w c2) ≡ new_class (View.limits_of l) (name_in s n) (parser_of s m w c1)
         unfolding parser_of
@@ -95,24 +92,24 @@ module _ (l : Limits) {s m w : List ℕ} {c : Cursor} (g : Rests s m w c) {u : I
             things_is : answered (tt, parser_of s m2 w2 c4) ≡ loop (parse_class_member (View.limits_of l) s k.0) (turns s) tt (with_class (some k.0) (parser_of s m1 w c2))
             things_is = let h = rw z at t.is in rw opened-is at h
 
-            shut : parser_of s m2 w2 (class_cur Owner.Nobody c4) ≡ with_class none (parser_of s m2 w2 c4)
+            shut : parser_of s m2 w2 (class_cur None c4) ≡ with_class none (parser_of s m2 w2 c4)
             unfolding parser_of
             shut = refl
 
-            module _ {o : FoundClass} (v : LookKnown s m2 c4.counts c4.class n o) where
-              found : {j : ClassId} → o ≡ Found.At j → some j.0 ≡ class_named (parser_of s m2 w2 c4) (name_in s n)
+            module _ (o : Maybe ClassId) (v : LookKnown s m2 c4.counts c4.class n o) where
+              found : {j : ClassId} → o ≡ Some j → some j.0 ≡ class_named (parser_of s m2 w2 c4) (name_in s n)
               unfolding parser_of
               found r = rw r at (v.is (parser_of s m2 w2 c4))
 
-              unknown : o ≡ Found.Nothing → none ≡ class_named (parser_of s m2 w2 c4) (name_in s n)
+              unknown : o ≡ None → none ≡ class_named (parser_of s m2 w2 c4) (name_in s n)
               unfolding parser_of
               unknown r = rw r at (v.is (parser_of s m2 w2 c4))
 
-              pub class_twice : {j : ClassId} → o ≡ Found.At j → Class m2 w2 (Refused 7)
+              twice : {j : ClassId} → o ≡ Some j → Class m2 w2 (Refused 7)
               unfolding parse_class
-              class_twice r = record { is = rw (← ident_is a f m w, ← added_is, ← things_is, ← found r); ok = tt }
+              twice r = record { is = rw (← ident_is a f m w, ← added_is, ← things_is, ← found r); ok = tt }
 
-              pub class-yes : {c5 : Cursor} → o ≡ Found.Nothing → c5 ≡ class_cur Owner.Nobody c4 → c.class ≡ Owner.Nobody → Class m2 w2 (On c5)
+              class-yes : {c5 : Cursor} → o ≡ None → c5 ≡ class_cur None c4 → c.class ≡ None → Class m2 w2 (On c5)
               unfolding parse_class
               class-yes r e nobody =
                   let q = things_ok.0.ready in
@@ -146,3 +143,11 @@ module _ (l : Limits) {s m w : List ℕ} {c : Cursor} (g : Rests s m w c) {u : I
                       },
                     );
                   })
+
+            pub class_twice : (o : Maybe ClassId) → LookKnown s m2 c4.counts c4.class n o → is_some o ≡ true → Class m2 w2 (Refused 7)
+            class_twice (Some j) v h = twice (Some j) v refl
+            class_twice None v h = absurd (let z : ◌≡◌ {A = ℕ} 0 1 = cc in omega arith)
+
+            pub class_single : (o : Maybe ClassId) → LookKnown s m2 c4.counts c4.class n o → is_some o ≡ false → {c5 : Cursor} → c5 ≡ class_cur None c4 → c.class ≡ None → Class m2 w2 (On c5)
+            class_single None v h e nobody = class-yes None v refl e nobody
+            class_single (Some j) v h e nobody = absurd (let z : ◌≡◌ {A = ℕ} 0 1 = cc in omega arith)

@@ -6,19 +6,17 @@ use native.Mathlib.Omega.{arith}
 use lib.ListN.{length}
 use Rattle.rules.specs.Actions.{Answer, answered, refused, if_answered, Turn, again, loop}
 use Rattle.rules.specs.Reading.{Parser, Reads, turns, next}
-use Rattle.lexer.specs.declared.Lexed.{Lexed}
-use Rattle.lexer.specs.declared.Lexed.TheVariants.{Found}
+use Rattle.std.specs.Prelude.{Result, Ok}
+use Rattle.refusals.specs.declared.Refusal.{Refusal}
 use Rattle.lexer.specs.declared.Word.{Word}
 use Rattle.lexer.specs.Lexed.{word_in}
-use Rattle.cursor.specs.Cursor.{parser_of, move_cur}
+use Rattle.cursor.specs.Cursor.{Cursor, parser_of, move_cur}
 use Rattle.cursor.specs.Promises.{Out, done, stop, Sees, moved_of}
-use Rattle.cursor.specs.declared.Cursor.{Cursor}
-use Rattle.cursor.specs.declared.Moved.TheVariants as Moved
+use Rattle.cursor.specs.outcomes.Moved as Moved
 use Rattle.cursor.proofs.Wording.{word_read, next-found}
 use Rattle.functions.specs.Bodies.{Rests, Onto, Takes}
 use Rattle.functions.proofs.Laws.{ready_moved}
-use Rattle.parser.specs.declared.classes.Turned.{Turned}
-use Rattle.parser.specs.declared.classes.Turned.TheVariants.{Again, Ends, Refused}
+use Rattle.parser.specs.classes.Turned.{Turned, Again, Ends, Refused}
 use Rattle.parser.specs.classes.Turning.{Turns}
 
 -- ---- steps between functions
@@ -45,11 +43,11 @@ pub rests_moved : {s m w : List ℕ} {c c1 : Cursor} → Rests s m w c → c1 �
 rests_moved {c1 = c1} g e a b = rw e (rests_move g c1.at a b)
 
 -- over a word that was looked at
-pub next-is : {s : List ℕ} {c c1 : Cursor} {r : Lexed} {x : Word} → Sees s c r → r ≡ Found x → c1 ≡ move_cur x.next c → (m w : List ℕ)
+pub next-is : {s : List ℕ} {c c1 : Cursor} {r : Result Word Refusal} {x : Word} → Sees s c r → r ≡ Ok x → c1 ≡ move_cur x.next c → (m w : List ℕ)
     → answered (word_in s x, parser_of s m w c1) ≡ next s (parser_of s m w c)
 next-is v f e m w = rw e (next-found v m w f)
 
-module _ {s m w : List ℕ} {c : Cursor} (g : Rests s m w c) {r : Lexed} (v : Sees s c r) {x : Word} (f : r ≡ Found x) {c1 : Cursor} (e : c1 ≡ move_cur x.next c) where
+module _ {s m w : List ℕ} {c : Cursor} (g : Rests s m w c) {r : Result Word Refusal} (v : Sees s c r) {x : Word} (f : r ≡ Ok x) {c1 : Cursor} (e : c1 ≡ move_cur x.next c) where
   there : c.at ≤ x.next
   there = let h = word_read v f in omega (arith, h.behind, h.next)
 
@@ -58,9 +56,6 @@ module _ {s m w : List ℕ} {c : Cursor} (g : Rests s m w c) {r : Lexed} (v : Se
 
   pub word_on : Onto 0 c c1
   word_on = rw e (onto_move 0 x.next c (omega (arith, there)))
-
-  pub word-class : {k : ℕ} → k < c.counts.classes → k < c1.counts.classes
-  word-class h = omega (arith, word_on.classes)
 
 -- ---- a turn that reads one thing
 
@@ -84,8 +79,6 @@ pub record Going (f : Unit {0} → Reads (Turn (Unit {0}) (Unit {0}))) (s m₀ w
   pub enough : length s < count + c.at
   pub rests : Rests s m w c
   pub onto : Onto 0 c₀ c
-  pub long_m : length m ≡ length m₀
-  pub long_w : length w ≡ length w₀
 
 pub going_start : (f : Unit {0} → Reads (Turn (Unit {0}) (Unit {0}))) (s m w : List ℕ) (c : Cursor) → Rests s m w c → Going f s m w c m w c
 going_start f s m w c g =
@@ -95,8 +88,6 @@ going_start f s m w c g =
       enough = omega arith;
       rests = g;
       onto = record { on = omega arith; class = refl; functions = omega arith; classes = omega arith };
-      long_m = refl;
-      long_w = refl;
     }
 
 module _ {f : Unit {0} → Reads (Turn (Unit {0}) (Unit {0}))} {s m₀ w₀ : List ℕ} {c₀ : Cursor} {m w : List ℕ} {c : Cursor} (i : Going f s m₀ w₀ c₀ m w c)
@@ -125,8 +116,8 @@ module _ {f : Unit {0} → Reads (Turn (Unit {0}) (Unit {0}))} {s m₀ w₀ : Li
     pub going_less : length s - c1.at < length s - c.at
     going_less = omega (arith, went.further, went.takes.ok.0.ready.inside)
 
-    pub going_on : length m1 ≡ length m → length w1 ≡ length w → Going f s m₀ w₀ c₀ m1 w1 c1
-    going_on lm lw = go i.count i.same i.enough
+    pub going_on : Going f s m₀ w₀ c₀ m1 w1 c1
+    going_on = go i.count i.same i.enough
       where
         go : (k : ℕ) → loop f k tt (parser_of s m w c) ≡ X → length s < k + c.at → Going f s m₀ w₀ c₀ m1 w1 c1
         go zero x y = absurd (omega (arith, i.rests.ready.inside))
@@ -137,6 +128,4 @@ module _ {f : Unit {0} → Reads (Turn (Unit {0}) (Unit {0}))} {s m₀ w₀ : Li
               enough = omega (arith, went.further);
               rests = went.takes.ok.0;
               onto = onto_then 0 i.onto went.takes.ok.1 (omega arith);
-              long_m = lm ∙ i.long_m;
-              long_w = lw ∙ i.long_w;
             }

@@ -1,5 +1,5 @@
 -- The ways through the readers of methods, attributes and the things in a class. Assumes nothing.
-use mathlib.Core.Path.{◌≡◌, sym, ap, ◌∙◌}
+use mathlib.Core.Path.{◌≡◌, refl, sym, ap, ◌∙◌}
 use mathlib.Core.List.{List}
 use Prim.Native.Nat.{ℕ, ◌+◌, ◌≤◌, ◌<◌}
 use native.Mathlib.Omega.{arith}
@@ -13,30 +13,27 @@ use Rattle.rules.specs.Program.{method_named}
 use Rattle.rules.specs.Reading as R
 use Rattle.rules.specs.Reading.{Parser, parse_fun, parse_method, parse_attr, parse_class_member}
 use Rattle.lookups.specs.Look.{fun_found, Declares}
-use Rattle.lookups.specs.declared.Declared.{Declared}
-use Rattle.lookups.specs.declared.FoundFun.{FoundFun}
-use Rattle.lookups.specs.declared.FoundFun.TheVariants as Found
+use Rattle.std.specs.Prelude.{Option as Maybe, Some, None, Result, Ok, Err}
+use Rattle.refusals.specs.declared.Refusal.{Refusal}
+use Rattle.refusals.specs.Refusals.{number_of}
 use Rattle.program.specs.Rows.{name_in}
 use Rattle.program.specs.View as View
 use Rattle.program.specs.declared.Function.{Function}
-use Rattle.program.specs.declared.Limits.{Limits}
+use Rattle.program.specs.declared.bounds.Limits.{Limits}
 use Rattle.program.specs.declared.Name.{Name}
-use Rattle.lexer.specs.declared.Lexed.{Lexed}
-use Rattle.lexer.specs.declared.Lexed.TheVariants as W
+use Rattle.lexer.specs.declared.Token.TheVariants as K
 use Rattle.lexer.specs.declared.Word.{Word}
-use Rattle.lexer.proofs.Texts.{fixed-kind}
-use Rattle.cursor.specs.Cursor.{parser_of, move_cur}
+use Rattle.lexer.proofs.Texts.{fixed-token}
+use Rattle.cursor.specs.Cursor.{Cursor, parser_of, move_cur}
 use Rattle.cursor.specs.Promises.{Idents, Expects, Sees, Spelt, moved_of}
-use Rattle.cursor.specs.declared.Cursor.{Cursor}
-use Rattle.cursor.specs.declared.Ident.{Ident}
-use Rattle.cursor.specs.declared.Moved.{Moved}
-use Rattle.cursor.specs.declared.Moved.TheVariants.{On, Refused}
+use Rattle.cursor.specs.outcomes.Ident.{Ident}
+use Rattle.cursor.specs.outcomes.Moved.{Moved, On, Refused}
 use Rattle.cursor.proofs.Wording.{spelt_end, is-yes, is_no, word_read, next-none}
 use Rattle.cursor.proofs.Laws.{ident_on, ident_is}
-use Rattle.functions.specs.declared.params.OpenedFun.{OpenedFun}
+use Rattle.functions.specs.outcomes.OpenedFun.{OpenedFun}
 use Rattle.functions.specs.Bodies.{Rests, Onto, Takes, Taken}
-use Rattle.parser.specs.declared.classes.Turned.{Turned}
-use Rattle.parser.specs.declared.classes.Turned.TheVariants as T
+use Rattle.parser.specs.classes.Turned.{Turned}
+use Rattle.parser.specs.classes.Turned as T
 use Rattle.parser.specs.classes.Turning.{Turns}
 use Rattle.parser.proofs.classes.Loops.{rests_moved, onto_moved, word_on, word_rests, thing_no, thing_on, next-is}
 
@@ -62,25 +59,30 @@ module _ (l : Limits) {s m w : List ℕ} {c : Cursor} (k : ClassId) {x : OpenedF
           ≡ method_named (View.program_view s m1 c1.counts) k.0 (P.function (View.program_view s m1 c1.counts) f.0).name
       named-is = ap (λ (z : P.Function). method_named (View.program_view s m1 c1.counts) k.0 z.name) (sym (b.is s))
 
-      module _ {y : FoundFun} (d : fun_found y ≡ method_named (View.program_view s m1 c1.counts) k.0 (name_in s r.name)) where
-        pub method_none : y ≡ Found.Nothing → Takes (parse_method (View.limits_of l) s k.0) 1 s m w c m1 w1 (moved_of (Refused 7))
+      module _ (y : Maybe FunId) (d : fun_found y ≡ method_named (View.program_view s m1 c1.counts) k.0 (name_in s r.name)) where
+        none : y ≡ None → Takes (parse_method (View.limits_of l) s k.0) 1 s m w c m1 w1 (moved_of (Refused 7))
         unfolding parse_method parser_of
-        method_none i = record { is = let h = rw i at d in rw (← read_is, ← (h ∙ named-is)); ok = tt }
+        none i = record { is = let h = rw i at d in rw (← read_is, ← (h ∙ named-is)); ok = tt }
 
-        pub method_other : {g : FunId} → y ≡ Found.At g → (g.0 ≡ f.0 → ⊥) → Takes (parse_method (View.limits_of l) s k.0) 1 s m w c m1 w1 (moved_of (Refused 7))
+        other : {g : FunId} → y ≡ Some g → (g.0 ≡ f.0 → ⊥) → Takes (parse_method (View.limits_of l) s k.0) 1 s m w c m1 w1 (moved_of (Refused 7))
         unfolding parse_method parser_of
-        method_other i n = record { is = let h = rw i at d in rw (← read_is, ← (h ∙ named-is), ne_eqb _ _ n); ok = tt }
+        other i n = record { is = let h = rw i at d in rw (← read_is, ← (h ∙ named-is), ne_eqb _ _ n); ok = tt }
 
-        pub method_yes : {g : FunId} → y ≡ Found.At g → g.0 ≡ f.0 → Takes (parse_method (View.limits_of l) s k.0) 1 s m w c m1 w1 (moved_of (On c1))
+        pub method_yes : y ≡ Some f → Takes (parse_method (View.limits_of l) s k.0) 1 s m w c m1 w1 (moved_of (On c1))
         unfolding parse_method parser_of
-        method_yes i n = record { is = let h = rw i at d in rw (← read_is, ← (h ∙ named-is), eq-eqb _ _ n); ok = let h = rw o at a.takes.ok in h }
+        method_yes i = record { is = let h = rw i at d in rw (← read_is, ← (h ∙ named-is), eq-eqb f.0 f.0 refl); ok = let h = rw o at a.takes.ok in h }
+
+      pub method_other : (y : Maybe FunId) → fun_found y ≡ method_named (View.program_view s m1 c1.counts) k.0 (name_in s r.name) → (y ≡ Some f → ⊥)
+          → Takes (parse_method (View.limits_of l) s k.0) 1 s m w c m1 w1 (moved_of (Refused 7))
+      method_other None d n = none None d refl
+      method_other (Some g) d n = other (Some g) d refl (λ z. n (ap (λ i. Some (record { 0 = i })) z))
 
 -- ---- parse_attr
 
-spelt_colon : Spelt 58 ":"
-spelt_colon x = fixed-kind x 17 (omega arith)
+spelt_colon : Spelt (K.Sign 58) ":"
+spelt_colon x = fixed-token x 17 (omega arith)
 
-module _ (l : Limits) {s m w : List ℕ} {c : Cursor} (k : ClassId) (g : Rests s m w c) {x : Moved} (a : Expects s 58 c x) where
+module _ (l : Limits) {s m w : List ℕ} {c : Cursor} (k : ClassId) (g : Rests s m w c) {x : Moved} (a : Expects s (K.Sign 58) c x) where
   abbrev Attr : List ℕ → Moved → Type 0
   Attr m' r = Takes (parse_attr (View.limits_of l) s k.0) 1 s m w c m' w (moved_of r)
 
@@ -112,12 +114,12 @@ module _ (l : Limits) {s m w : List ℕ} {c : Cursor} (k : ClassId) (g : Rests s
       pub attr_class : k.0 < c.counts.classes → k.0 < c2.counts.classes
       attr_class h = omega (arith, ap (λ (z : Cursor). z.counts.classes) whole)
 
-      module _ {m' : List ℕ} {y : Declared} (d : Declares l k.0 n s m c2.counts m' y) where
-        pub attr_no3 : {e : ℕ} → y ≡ Declared.Refused e → Attr m' (Refused e)
+      module _ {m' : List ℕ} {y : Result (Unit {0}) Refusal} (d : Declares l k.0 n s m c2.counts m' y) where
+        pub attr_no3 : {e : Refusal} → y ≡ Err e → Attr m' (Refused (number_of e))
         unfolding parse_attr parser_of
         attr_no3 j = record { is = let h = rw j at (d.is (parser_of s m w c2)) in rw (← colon_is, ← ident_is b i m w) h; ok = tt }
 
-        pub attr_yes : y ≡ Declared.Done → Attr m' (On c2)
+        pub attr_yes : y ≡ Ok tt → Attr m' (On c2)
         unfolding parse_attr parser_of
         attr_yes j =
             let q = attr_rests.ready in
@@ -134,51 +136,51 @@ module _ (l : Limits) {s m w : List ℕ} {c : Cursor} (k : ClassId) (g : Rests s
 
 -- ---- parse_member
 
-pub spelt_nothing : Spelt 0 ""
-spelt_nothing x = fixed-kind x 7 (omega arith)
+pub spelt_nothing : Spelt K.EndOfText ""
+spelt_nothing x = fixed-token x 7 (omega arith)
 
-pub spelt_def : Spelt 3 "def"
-spelt_def x = fixed-kind x 0 (omega arith)
+pub spelt_def : Spelt K.Def "def"
+spelt_def x = fixed-token x 0 (omega arith)
 
-spelt_attr : Spelt 9 "attr_accessor"
-spelt_attr x = fixed-kind x 6 (omega arith)
+spelt_attr : Spelt K.AttrAccessor "attr_accessor"
+spelt_attr x = fixed-token x 6 (omega arith)
 
-module _ (l : Limits) {s m w : List ℕ} {c : Cursor} (k : ClassId) (g : Rests s m w c) {r : Lexed} (v : Sees s c r) where
+module _ (l : Limits) {s m w : List ℕ} {c : Cursor} (k : ClassId) (g : Rests s m w c) {r : Result Word Refusal} (v : Sees s c r) where
   abbrev Member : List ℕ → List ℕ → Turned → Type 0
   Member m' w' t = Turns (parse_class_member (View.limits_of l) s k.0 tt) s m w c m' w' t
 
-  pub member_none : {e : ℕ} → r ≡ W.Refused e → Member m w (T.Refused e)
+  pub member_none : {e : Refusal} → r ≡ Err e → Member m w (T.Refused (number_of e))
   unfolding parse_class_member
   member_none f = record { takes = record { is = rw (← next-none v m w f); ok = tt }; further = tt }
 
-  module _ {x : Word} (f : r ≡ W.Found x) {c1 : Cursor} (e : c1 ≡ move_cur x.next c) where
+  module _ {x : Word} (f : r ≡ Ok x) {c1 : Cursor} (e : c1 ≡ move_cur x.next c) where
     abbrev went : Rests s m w c1 × Onto 0 c c1
     went = (word_rests g v f e, word_on g v f e)
 
-    pub member_over : x.kind ≡ 0 → Member m w (T.Ends c1)
+    pub member_over : x.token ≡ K.EndOfText → Member m w (T.Ends c1)
     unfolding parse_class_member
     member_over z = record { takes = record { is = rw (← next-is v f e m w, is-yes x (word_read v f) "" spelt_nothing z); ok = went }; further = tt }
 
-    module _ (n0 : x.kind ≡ 0 → ⊥) where
-      pub member_ends : x.kind ≡ 5 → Member m w (T.Ends c1)
+    module _ (n0 : x.token ≡ K.EndOfText → ⊥) where
+      pub member_ends : x.token ≡ K.End → Member m w (T.Ends c1)
       unfolding parse_class_member
       member_ends z = record { takes = record { is = rw (← next-is v f e m w, is_no x (word_read v f) "" spelt_nothing n0, is-yes x (word_read v f) "end" spelt_end z); ok = went }; further = tt }
 
-      module _ (n5 : x.kind ≡ 5 → ⊥) where
-        def_is : x.kind ≡ 3 → if_answered {B = Turn (Unit {0}) (Unit {0}) × Parser} (parse_method (View.limits_of l) s k.0 (parser_of s m w c1)) (λ r. answered (again tt, r.1))
+      module _ (n5 : x.token ≡ K.End → ⊥) where
+        def_is : x.token ≡ K.Def → if_answered {B = Turn (Unit {0}) (Unit {0}) × Parser} (parse_method (View.limits_of l) s k.0 (parser_of s m w c1)) (λ r. answered (again tt, r.1))
             ≡ parse_class_member (View.limits_of l) s k.0 tt (parser_of s m w c)
         unfolding parse_class_member
         def_is z = rw (← next-is v f e m w, is_no x (word_read v f) "" spelt_nothing n0, is_no x (word_read v f) "end" spelt_end n5, is-yes x (word_read v f) "def" spelt_def z)
 
-        module _ (z : x.kind ≡ 3) {m1 w1 : List ℕ} {y : Moved} (b : Takes (parse_method (View.limits_of l) s k.0) 1 s m w c1 m1 w1 (moved_of y)) where
+        module _ (z : x.token ≡ K.Def) {m1 w1 : List ℕ} {y : Moved} (b : Takes (parse_method (View.limits_of l) s k.0) 1 s m w c1 m1 w1 (moved_of y)) where
           pub member_def_no : {n : ℕ} → y ≡ Refused n → Member m1 w1 (T.Refused n)
           member_def_no i = thing_no (parse_class_member (View.limits_of l) s k.0 tt) went.1 (def_is z) b (ap moved_of i)
 
           pub member_def : {c2 : Cursor} → y ≡ On c2 → Member m1 w1 (T.Again c2)
           member_def i = thing_on (parse_class_member (View.limits_of l) s k.0 tt) went.1 (def_is z) b (ap moved_of i)
 
-        module _ (n3 : x.kind ≡ 3 → ⊥) where
-          attr_is : x.kind ≡ 9 → if_answered {B = Turn (Unit {0}) (Unit {0}) × Parser} (parse_attr (View.limits_of l) s k.0 (parser_of s m w c1)) (λ r. answered (again tt, r.1))
+        module _ (n3 : x.token ≡ K.Def → ⊥) where
+          attr_is : x.token ≡ K.AttrAccessor → if_answered {B = Turn (Unit {0}) (Unit {0}) × Parser} (parse_attr (View.limits_of l) s k.0 (parser_of s m w c1)) (λ r. answered (again tt, r.1))
               ≡ parse_class_member (View.limits_of l) s k.0 tt (parser_of s m w c)
           unfolding parse_class_member
           attr_is z =
@@ -190,14 +192,14 @@ module _ (l : Limits) {s m w : List ℕ} {c : Cursor} (k : ClassId) (g : Rests s
                 is-yes x (word_read v f) "attr_accessor" spelt_attr z,
               )
 
-          module _ (z : x.kind ≡ 9) {m1 : List ℕ} {y : Moved} (b : Takes (parse_attr (View.limits_of l) s k.0) 1 s m w c1 m1 w (moved_of y)) where
-            pub member_attr_no : {n : ℕ} → y ≡ Refused n → Member m1 w (T.Refused n)
+          module _ (z : x.token ≡ K.AttrAccessor) {m1 w1 : List ℕ} {y : Moved} (b : Takes (parse_attr (View.limits_of l) s k.0) 1 s m w c1 m1 w1 (moved_of y)) where
+            pub member_attr_no : {n : ℕ} → y ≡ Refused n → Member m1 w1 (T.Refused n)
             member_attr_no i = thing_no (parse_class_member (View.limits_of l) s k.0 tt) went.1 (attr_is z) b (ap moved_of i)
 
-            pub member_attr : {c2 : Cursor} → y ≡ On c2 → Member m1 w (T.Again c2)
+            pub member_attr : {c2 : Cursor} → y ≡ On c2 → Member m1 w1 (T.Again c2)
             member_attr i = thing_on (parse_class_member (View.limits_of l) s k.0 tt) went.1 (attr_is z) b (ap moved_of i)
 
-          pub member_other : (x.kind ≡ 9 → ⊥) → Member m w (T.Refused 5)
+          pub member_other : (x.token ≡ K.AttrAccessor → ⊥) → Member m w (T.Refused 5)
           unfolding parse_class_member
           member_other n9 =
               record {

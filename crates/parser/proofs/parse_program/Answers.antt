@@ -1,33 +1,29 @@
 -- `parser::parse_program` meets its contract. Assumes nothing.
-use Rattle.parser.proofs.classes.Loops.{going_start, going_no, going_ends, going_less, going_on}
-use mathlib.Core.Path.{◌∙◌}
+use mathlib.Core.Path.{ap, ◌∙◌}
+use Rattle.std.specs.Prelude.{Ok}
+use Rattle.std.proofs.lemmas.Result.{err_from_is_err_and}
+use Rattle.parser.proofs.classes.Readers.{stands_start, stands_rests, stands_outside, stands_no, stands_end, stands_less, stands_on}
 use Rattle.parser.proofs.parse_program.Goals as goal
 
-pub loop-e-init : goal.loop-e-init
-loop-e-init c =
-    going_start _ _ _ _ _ c.requires.rests
+pub loop-init : goal.loop-init
+loop-init c = stands_start _ _ c.requires.rests
 
 pub parse_top-requires-clause-rests : goal.parse_top-requires-clause-rests
-parse_top-requires-clause-rests c = c.loop-e.invariant.rests
-
-pub parse_top-requires-clause-small : goal.parse_top-requires-clause-small
-parse_top-requires-clause-small c = c.requires.small
+parse_top-requires-clause-rests c = stands_rests c.loop.invariant
 
 pub parse_top-requires-clause-class_value : goal.parse_top-requires-clause-class_value
-parse_top-requires-clause-class_value c = c.loop-e.invariant.onto.class ∙ c.requires.class_value
+parse_top-requires-clause-class_value c = stands_outside c.loop.invariant c.requires.class_value
 
-pub returns-in-Refused : goal.returns-in-Refused
-returns-in-Refused c =
-    going_no c.loop-e.invariant c.parse_top.ensures c.in-Refused.is
+pub returns-in_err-parse_top : goal.returns-in_err-parse_top
+returns-in_err-parse_top c =
+    let p = err_from_is_err_and c.from_residual.result c.from_residual.ensures.1 in
+    rw (p.1, p.2) (stands_no c.loop.invariant _ c.parse_top.ensures c.in_err-parse_top.was)
 
-pub returns-in-Ends : goal.returns-in-Ends
-returns-in-Ends c =
-    going_ends c.loop-e.invariant c.parse_top.ensures c.in-Ends.is
+pub loop-smaller : goal.loop-smaller
+loop-smaller c = stands_less c.loop.invariant _ c.parse_top.ensures (c.in_ok-parse_top.was ∙ ap Ok c.if-branch.true)
 
-pub loop-e-smaller : goal.loop-e-smaller
-loop-e-smaller c =
-    going_less c.loop-e.invariant c.parse_top.ensures c.in-Again.is
+pub loop-preserved : goal.loop-preserved
+loop-preserved c = stands_on c.loop.invariant _ c.parse_top.ensures (c.in_ok-parse_top.was ∙ ap Ok c.if-branch.true)
 
-pub loop-e-preserved : goal.loop-e-preserved
-loop-e-preserved c =
-    going_on c.loop-e.invariant c.parse_top.ensures c.in-Again.is c.parse_top.auto.program c.parse_top.auto.scratch
+pub returns : goal.returns
+returns c = stands_end c.loop.invariant _ c.parse_top.ensures (c.in_ok-parse_top.was ∙ ap Ok c.if-branch.false)

@@ -7,22 +7,24 @@ use Rattle.state.specs.Layout.{state_length}
 use Rattle.printing.proofs.Laws.{answer-told, refusal-told, answer_appends, refusal_appends}
 use Rattle.printing.proofs.write_answer.Goals as goal
 
-pub returns-in-Answered-clause-tells : goal.returns-in-Answered-clause-tells
-returns-in-Answered-clause-tells g c =
+pub returns-in-Ok-clause-tells : goal.returns-in-Ok-clause-tells
+returns-in-Ok-clause-tells g c =
     answer-told _ _ _ _ c.analyze.result (length-replicate {A = ℕ} answer_length 0) (length-replicate {A = ℕ} program_length 0)
-    (length-replicate {A = ℕ} state_length 0) c.analyze.ensures c.tell_answer.result (search rules) (search rules) c.tell_answer.ensures.tells
+    (length-replicate {A = ℕ} state_length 0) c.analyze.ensures c.tell.result c.write_frames.result c.tell.ensures (search rules) (search rules) c.write_frames.ensures.sends
 
-pub returns-in-Answered-clause-appends : goal.returns-in-Answered-clause-appends
-returns-in-Answered-clause-appends g c =
+pub returns-in-Ok-clause-appends : goal.returns-in-Ok-clause-appends
+returns-in-Ok-clause-appends g c =
     answer_appends _ _ _ _ c.analyze.result (length-replicate {A = ℕ} answer_length 0) (length-replicate {A = ℕ} program_length 0)
-    (length-replicate {A = ℕ} state_length 0) c.analyze.ensures _ _ _ (search rules) (search rules) c.tell_answer.ensures.appends
+    (length-replicate {A = ℕ} state_length 0) c.analyze.ensures c.tell.result c.write_frames.result _ _ c.tell.ensures (search rules) (search rules) c.write_frames.ensures.appends
 
-pub returns-in-Refused-clause-tells : goal.returns-in-Refused-clause-tells
-returns-in-Refused-clause-tells g c =
+pub returns-in-Err-clause-tells : goal.returns-in-Err-clause-tells
+returns-in-Err-clause-tells g c =
     refusal-told _ _ _ _ c.analyze.result (length-replicate {A = ℕ} answer_length 0) (length-replicate {A = ℕ} program_length 0)
-    (length-replicate {A = ℕ} state_length 0) c.analyze.ensures c.tell_refusal.result c.in-Refused.is c.tell_refusal.ensures.tells
+    (length-replicate {A = ℕ} state_length 0) c.analyze.ensures c.tell-in-Err.result c.write_refusal.result c.tell-in-Err.ensures c.in-Err.is
+    c.write_refusal.ensures.sends
 
-pub returns-in-Refused-clause-appends : goal.returns-in-Refused-clause-appends
-returns-in-Refused-clause-appends g c =
+pub returns-in-Err-clause-appends : goal.returns-in-Err-clause-appends
+returns-in-Err-clause-appends g c =
     refusal_appends _ _ _ _ c.analyze.result (length-replicate {A = ℕ} answer_length 0) (length-replicate {A = ℕ} program_length 0)
-    (length-replicate {A = ℕ} state_length 0) c.analyze.ensures _ _ _ c.in-Refused.is c.tell_refusal.ensures.appends
+    (length-replicate {A = ℕ} state_length 0) c.analyze.ensures c.tell-in-Err.result c.write_refusal.result _ _ c.tell-in-Err.ensures c.in-Err.is
+    c.write_refusal.ensures.appends

@@ -1,13 +1,16 @@
--- A script of a batch. Assumes nothing.
-use Rattle.std.specs.Prelude.{◌≡◌, List, ℕ, ◌≤◌, length, take}
-use Rattle.replay.specs.declared.batches.BatchTurn.{BatchTurn}
-use Rattle.replay.specs.declared.batches.BatchTurn.TheVariants.{Script, Ended, Unread, Cut, Unwritten, Enough}
+-- A script of a batch, and why a program stops. Assumes nothing.
+use Rattle.std.specs.Prelude.{◌≡◌, List, ℕ, ◌≤◌, length, take, Option, Result, IfOk, IfSome}
+use Rattle.rules.specs.Lists.{bytes}
+use Rattle.replay.specs.declared.batches.Stop.{Stop}
+use Rattle.replay.specs.declared.batches.Stop.TheVariants.{Unread, Cut, Unwritten, Enough}
 
 -- a script that was read stands at the start of its memory
-abbrev pub TurnWithin : List ℕ → BatchTurn → Type 0
-TurnWithin d (Script n) = (n ≤ length d) × (n ≡ length (take n d))
-TurnWithin d Ended = Unit {0}
-TurnWithin d Unread = Unit {0}
-TurnWithin d Cut = Unit {0}
-TurnWithin d Unwritten = Unit {0}
-TurnWithin d Enough = Unit {0}
+abbrev pub TurnWithin : List ℕ → Result (Option ℕ) Stop → Type 0
+TurnWithin d r = IfOk r (λ s. IfSome s (λ n. (n ≤ length d) × (n ≡ length (take n d))))
+
+-- what is said on standard error
+abbrev pub line_of : Stop → List ℕ
+line_of Unread = bytes "standard input can't be read"
+line_of Cut = bytes "no batch: a script is cut or too long"
+line_of Unwritten = bytes "standard output can't be written"
+line_of Enough = bytes "no more scripts are read"

@@ -10,10 +10,9 @@ use lib.Dec.{ltb, leb}
 use lib.ListN.{length, get_or}
 use Rattle.kinds.specs.declared.Kind.{Kind}
 use Rattle.kinds.specs.declared.Kind.TheVariants.{Empty}
-use Rattle.kinds.specs.declared.Joined.{Joined}
-use Rattle.kinds.specs.declared.Joined.TheVariants.{Of, Refused}
+use Rattle.std.specs.Prelude.{Ok, Err}
 use Rattle.kinds.specs.Kinds.{same_kind}
-use Rattle.kinds.specs.Union.{union_of, union_all}
+use Rattle.kinds.specs.Union.{Joined, union_of, union_all}
 use Rattle.ids.specs.Sets.{members_of}
 use Rattle.rules.specs.Actions.{Answer, answered, refused, if_answered, needed, lift, unless, each, ask}
 use Rattle.rules.specs.Lists.{keep, places, is_just_name}
@@ -47,14 +46,14 @@ pub found : {S A : Type 0} (n : ℕ) (o : Option A) (s : S) {r : A × S} → nee
 found n none s e = never e
 found {S} {A} n (some x) s e = let q : ◌≡◌ {A = A × S} (x, s) _ = answer e in (ap (λ (z : A × S). some z.0) q, ap (λ (z : A × S). z.1) (sym q))
 
-pub joined : (j : Joined) (s : State) {r : Kind × State} → lift (to_answer j) s ≡ answered r → (j ≡ Of r.0) × (r.1 ≡ s)
-joined (Of k) s e = let q : ◌≡◌ {A = Kind × State} (k, s) _ = answer e in (ap (λ (z : Kind × State). Of z.0) q, ap (λ (z : Kind × State). z.1) (sym q))
-joined (Refused n) s e = never e
+pub joined : (j : Joined) (s : State) {r : Kind × State} → lift (to_answer j) s ≡ answered r → (j ≡ Ok r.0) × (r.1 ≡ s)
+joined (Ok k) s e = let q : ◌≡◌ {A = Kind × State} (k, s) _ = answer e in (ap (λ (z : Kind × State). Ok z.0) q, ap (λ (z : Kind × State). z.1) (sym q))
+joined (Err n) s e = never e
 
-pub join_is : (a b : Kind) (s : State) {r : Kind × State} → join a b s ≡ answered r → (union_of a b ≡ Of r.0) × (r.1 ≡ s)
+pub join_is : (a b : Kind) (s : State) {r : Kind × State} → join a b s ≡ answered r → (union_of a b ≡ Ok r.0) × (r.1 ≡ s)
 join_is a b s e = joined (union_of a b) s e
 
-pub join_all-is : (l : List Opnd) (s : State) {r : Kind × State} → join_all l s ≡ answered r → (union_all Empty (map (kind_of s) l) ≡ Of r.0) × (r.1 ≡ s)
+pub join_all-is : (l : List Opnd) (s : State) {r : Kind × State} → join_all l s ≡ answered r → (union_all Empty (map (kind_of s) l) ≡ Ok r.0) × (r.1 ≡ s)
 unfolding join_all
 join_all-is l s e = joined (union_all Empty (map (kind_of s) l)) s e
 
@@ -76,7 +75,7 @@ append_none (y ∷ q) = ap (λ (z : List ℕ). y ∷ z) (append_none q)
 
 -- the union with the old kind is the old kind
 abbrev pub Same : Kind → Kind → Type 0
-Same old k = (u : Kind) × (union_of old k ≡ Of u) × (same_kind u old ≡ true)
+Same old k = (u : Kind) × (union_of old k ≡ Ok u) × (same_kind u old ≡ true)
 
 module _ (L : Limits) (p : Program) where
   pub push_insn-is : (x : ℕ) (s : State) {r : Unit {0} × State} → push_insn L p x s ≡ answered r → r.1 ≡ with_insns (s.insn_worklist ++ x ∷ []) s
@@ -104,7 +103,7 @@ module _ (L : Limits) (p : Program) where
       let b = join_is old k s a.1 in
       go a.0.0 b.0 (same_kind a.0.0 old) refl (subst (λ (t : State). unless (same_kind a.0.0 old) (push_insn L p x) t ≡ answered r) b.1 a.2)
     where
-      go : (u : Kind) → union_of (get_or s.kinds x Empty) k ≡ Of u → (b : 𝔹) → same_kind u (get_or s.kinds x Empty) ≡ b → unless b (push_insn L p x) s ≡ answered r → ((r.1 ≡ s) × Same (get_or s.kinds x Empty) k) ⊎ (r.1 ≡ with_insns (s.insn_worklist ++ x ∷ []) s)
+      go : (u : Kind) → union_of (get_or s.kinds x Empty) k ≡ Ok u → (b : 𝔹) → same_kind u (get_or s.kinds x Empty) ≡ b → unless b (push_insn L p x) s ≡ answered r → ((r.1 ≡ s) × Same (get_or s.kinds x Empty) k) ⊎ (r.1 ≡ with_insns (s.insn_worklist ++ x ∷ []) s)
       go u j true d q = inl (ap (λ (z : Unit {0} × State). z.1) (sym (answer q)), (u, j, d))
       go u j false d q = inr (push_insn-is x s q)
 
@@ -113,7 +112,7 @@ module _ (L : Limits) (p : Program) where
   live_uses s i = keep (λ j. get_or s.live (block_of p j) false) (uses p i)
 
   pub record Stored (i : ℕ) (k : Kind) (s t : State) : Type 0 where
-    pub changed : (u : Kind) × (union_of (get_or s.kinds i Empty) k ≡ Of u) × (same_kind u (get_or s.kinds i Empty) ≡ false)
+    pub changed : (u : Kind) × (union_of (get_or s.kinds i Empty) k ≡ Ok u) × (same_kind u (get_or s.kinds i Empty) ≡ false)
     pub state : t ≡ with_insns (s.insn_worklist ++ live_uses s i) (set_kind i k s)
 
   pub store_is : (i : ℕ) (k : Kind) (s : State) {r : Unit {0} × State} → store L p i k s ≡ answered r → ((r.1 ≡ s) × Same (get_or s.kinds i Empty) k) ⊎ Stored i k s r.1
@@ -127,7 +126,7 @@ module _ (L : Limits) (p : Program) where
       change : Acts (Unit {0})
       change t = each (live_uses (set_kind i k t) i) (push_insn L p) (set_kind i k t)
 
-      go : (u : Kind) → union_of (get_or s.kinds i Empty) k ≡ Of u → (b : 𝔹) → same_kind u (get_or s.kinds i Empty) ≡ b → unless b change s ≡ answered r → ((r.1 ≡ s) × Same (get_or s.kinds i Empty) k) ⊎ Stored i k s r.1
+      go : (u : Kind) → union_of (get_or s.kinds i Empty) k ≡ Ok u → (b : 𝔹) → same_kind u (get_or s.kinds i Empty) ≡ b → unless b change s ≡ answered r → ((r.1 ≡ s) × Same (get_or s.kinds i Empty) k) ⊎ Stored i k s r.1
       go u j true d q = inl (ap (λ (z : Unit {0} × State). z.1) (sym (answer q)), (u, j, d))
       go u j false d q = inr (record { changed = (u, j, d); state = pushes_are (live_uses (set_kind i k s) i) (set_kind i k s) q })
 
@@ -139,7 +138,7 @@ module _ (L : Limits) (p : Program) where
     pub place : ℕ
     pub named : ivar_named p c n ≡ some place
     pub kind : Kind
-    pub union : union_of (get_or (get_or s.ivar_kinds c []) place Empty) k ≡ Of kind
+    pub union : union_of (get_or (get_or s.ivar_kinds c []) place Empty) k ≡ Ok kind
     pub changed : same_kind kind (get_or (get_or s.ivar_kinds c []) place Empty) ≡ false
     pub state : t ≡ with_insns (s.insn_worklist ++ woken_reads s n c) (set_ivar_kind c place kind s)
 
@@ -160,12 +159,12 @@ module _ (L : Limits) (p : Program) where
       change : ℕ → Kind → Acts (Unit {0})
       change x u t = each (woken_reads (set_ivar_kind c x u t) n c) (push_insn L p) (set_ivar_kind c x u t)
 
-      go : (x : ℕ) → ivar_named p c n ≡ some x → (u : Kind) → union_of (old x) k ≡ Of u → (b : 𝔹) → same_kind u (old x) ≡ b → unless b (change x u) s ≡ answered r
+      go : (x : ℕ) → ivar_named p c n ≡ some x → (u : Kind) → union_of (old x) k ≡ Ok u → (b : 𝔹) → same_kind u (old x) ≡ b → unless b (change x u) s ≡ answered r
           → ((x : ℕ) × (r.1 ≡ s) × (ivar_named p c n ≡ some x) × Same (get_or (get_or s.ivar_kinds c []) x Empty) k) ⊎ Widened n k c s r.1
       go x f u j true d q = inl (x, ap (λ (z : Unit {0} × State). z.1) (sym (answer q)), f, (u, j, d))
       go x f u j false d q = inr (record { place = x; named = f; kind = u; union = j; changed = d; state = pushes_are (woken_reads (set_ivar_kind c x u s) n c) (set_ivar_kind c x u s) q })
 
-  pub get_ivar-is : (n : Name) (k : Kind) (c : ℕ) (s : State) {r : Kind × State} → get_ivar L p n k c s ≡ answered r → (a : ℕ) × (ivar_named p c n ≡ some a) × (union_of k (get_or (get_or s.ivar_kinds c []) a Empty) ≡ Of r.0) × (r.1 ≡ s)
+  pub get_ivar-is : (n : Name) (k : Kind) (c : ℕ) (s : State) {r : Kind × State} → get_ivar L p n k c s ≡ answered r → (a : ℕ) × (ivar_named p c n ≡ some a) × (union_of k (get_or (get_or s.ivar_kinds c []) a Empty) ≡ Ok r.0) × (r.1 ≡ s)
   unfolding get_ivar
   get_ivar-is n k c s {r} e =
       let a = after (needed 15 (ivar_named p c n) s) _ e in

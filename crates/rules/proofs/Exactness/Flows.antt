@@ -11,7 +11,7 @@ use lib.ListN.{length, get_or, get_or-eq_default}
 use Rattle.ids.specs.Sets.{members_of}
 use Rattle.kinds.specs.declared.Kind.{Kind}
 use Rattle.kinds.specs.declared.Kind.TheVariants.{Empty, Nil, Num, Truth, Fun, Class, Int, Bool, Objects, Any}
-use Rattle.kinds.specs.declared.Joined.TheVariants.{Of}
+use Rattle.std.specs.Prelude.{Ok}
 use Rattle.kinds.specs.Union.{lub, union_all}
 use Rattle.rules.specs.Actions.{answered, fold}
 use Rattle.rules.specs.Lists.{places}
@@ -122,7 +122,7 @@ module _ {C : ℕ} (K : Laws C) where
     pub above : (v : Opnd) → In v → Le (kind_in ks v) k
     pub least : (u : Kind) → ((v : Opnd) → In v → Le (kind_in ks v) u) → Le k u
 
-  pub joined-opnds : (s : State) (l : List Opnd) (k : Kind) → union_all Empty (map (kind_of s) l) ≡ Of k → Least s.kinds (λ v. v ∈ l) k
+  pub joined-opnds : (s : State) (l : List Opnd) (k : Kind) → union_all Empty (map (kind_of s) l) ≡ Ok k → Least s.kinds (λ v. v ∈ l) k
   joined-opnds s l k e =
       let j = is_join K Empty (map (kind_of s) l) k e in
       record {
@@ -134,7 +134,7 @@ module _ {C : ℕ} (K : Laws C) where
   kind_fine ks h (Const k) f = f
   kind_fine ks h (Insn i) f = h i
 
-  pub joined_fine : (s : State) (l : List Opnd) (k : Kind) → union_all Empty (map (kind_of s) l) ≡ Of k → ((i : ℕ) → Fine C (get_or s.kinds i Empty)) → ((v : Opnd) → v ∈ l → FineOpnd C v) → Fine C k
+  pub joined_fine : (s : State) (l : List Opnd) (k : Kind) → union_all Empty (map (kind_of s) l) ≡ Ok k → ((i : ℕ) → Fine C (get_or s.kinds i Empty)) → ((v : Opnd) → v ∈ l → FineOpnd C v) → Fine C k
   joined_fine s l k e h f =
       (is_join K Empty (map (kind_of s) l) k e).fine K.fine_empty (λ x m. let a = map-∈ (kind_of s) l m in rw (a.2, kind-is s a.0) (kind_fine s.kinds h a.0 (f a.0 a.1)))
 

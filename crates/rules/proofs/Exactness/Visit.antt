@@ -12,7 +12,7 @@ use lib.ListN.{length, get_or, length-append, get_or-eq_default, set}
 use Rattle.ids.specs.Sets.{members_of}
 use Rattle.kinds.specs.declared.Kind.{Kind}
 use Rattle.kinds.specs.declared.Kind.TheVariants.{Empty, Nil, Num, Truth, Fun, Class, Int, Bool, Objects, Any}
-use Rattle.kinds.specs.declared.Joined.TheVariants.{Of}
+use Rattle.std.specs.Prelude as Std
 use Rattle.kinds.specs.Kinds.{same_kind, is_empty}
 use Rattle.kinds.specs.Union.{union_of, union_all, lub}
 use Rattle.kinds.specs.Rules.{arith_of, arith_total, admits}
@@ -152,7 +152,7 @@ module _ (L : Limits) (p : Program) (K : Laws (length p.classes)) (F : Formed p)
   noted i c s v = record { ok = record { inv = inv_add_read K F.tables (i ∷ []) c i s v.inv v.placed; placed = v.placed }; calm = record { kinds = refl; live = refl; count = refl; soon = λ b z. z; queue = λ j m. m; ivars = λ c a. le_refl K _; reads = λ d j m. mark-true s.ivar_reads c i d j m }; cost = omega arith }
 
   -- a union that is not the old kind is higher
-  rises : (a k u : Kind) → Fine (length p.classes) a → Fine (length p.classes) k → union_of a k ≡ Of u → same_kind u a ≡ false → Le a u × Fine (length p.classes) u × (height p a < height p u)
+  rises : (a k u : Kind) → Fine (length p.classes) a → Fine (length p.classes) k → union_of a k ≡ Std.Ok u → same_kind u a ≡ false → Le a u × Fine (length p.classes) u × (height p a < height p u)
   rises a k u ga gk e d =
       let q = K.union a k u e in
       let le : Le a u = rw q (join-left K a k) in
@@ -266,12 +266,12 @@ module _ (L : Limits) (p : Program) (K : Laws (length p.classes)) (F : Formed p)
   no_end : {A : Type 0} (o : Op) (x : Terminator) → has (about o).terminator ≡ false → o ≡ Ends x → A
   no_end o x e q = absurd (true≢false (sym (ap (λ (y : Op). has (about y).terminator) q) ∙ e))
 
-  sent_rule : (i : ℕ) (c : Callee) (l : List Opnd) (t : State) (k : Kind) → union_all Empty (map (kind_of t) (flows_back L p t i)) ≡ Of k → IsRule L p t i (Send c l) k
+  sent_rule : (i : ℕ) (c : Callee) (l : List Opnd) (t : State) (k : Kind) → union_all Empty (map (kind_of t) (flows_back L p t i)) ≡ Std.Ok k → IsRule L p t i (Send c l) k
   sent_rule i c l t k e =
       let z = joined-opnds K t (flows_back L p t i) k e in
       record { above = λ f v m n. z.above v (back_in K L p t i v (f, m, n)); least = λ u h. z.least u (λ v m. let b = in_back K L p t i v m in h b.0 v b.1 b.2) }
 
-  sent_fine : (i : ℕ) (t : State) (k : Kind) → FineKinds p t.kinds t.ivar_kinds → union_all Empty (map (kind_of t) (flows_back L p t i)) ≡ Of k → Fine (length p.classes) k
+  sent_fine : (i : ℕ) (t : State) (k : Kind) → FineKinds p t.kinds t.ivar_kinds → union_all Empty (map (kind_of t) (flows_back L p t i)) ≡ Std.Ok k → Fine (length p.classes) k
   sent_fine i t k g e = joined_fine K t (flows_back L p t i) k e g.kind (λ v m. let b = in_back K L p t i v m in F.returned_fine b.0 v b.2)
 
   ruled_static : (i f : ℕ) (l : List Opnd) (s : State) (r : Kind × State) → Ok i s → op_of p i ≡ Send (Static f) l → rule L p i (Send (Static f) l) s ≡ answered r → Ruled i (Send (Static f) l) s r.0 r.1

@@ -1,11 +1,9 @@
 -- The run stands where the rules' run stands after as many steps, and each turn leaves fewer steps of the bound.
-use Rattle.rules.specs.Bound.{bound}
-use Rattle.program.specs.View as P
-use Rattle.run.specs.Runs.{Under, left}
+use Rattle.run.proofs.Running.{Turning, left}
 use Rattle.run.proofs.run.Given as goal
 
-abbrev pub invariant-loop-at : goal.invariant-loop-at
-invariant-loop-at l = Under l.script l.program l.counts l.sizes l.state l.at
+abbrev pub invariant-loop-state : goal.invariant-loop-state
+invariant-loop-state l = Turning l.tables l.initial.state l.state l.stamps l.epoch
 
-abbrev pub decreases-loop-at : goal.decreases-loop-at
-decreases-loop-at l = left (bound (P.program_view l.script l.program l.counts)) l.at.went
+abbrev pub decreases-loop-state : goal.decreases-loop-state
+decreases-loop-state l = left l.tables l.state

@@ -22,20 +22,21 @@ use Rattle.constructors.specs.Walks.{WalkInside}
 use Rattle.constructors.proofs.Promise.{inside_of}
 use Rattle.state.specs.declared.Sizes.{Sizes}
 use Rattle.state.specs.declared.Regs.{Regs}
-use Rattle.state.specs.declared.Acted.{Acted}
-use Rattle.state.specs.declared.Acted.TheVariants.{On, Refused}
+use Rattle.state.specs.Acted.{Acted, On, Refused}
 use Rattle.state.specs.View.{StateReady, StateCleared, no_entries}
 use Rattle.state.specs.Changes.{ReadyAfter, StateDid}
-use Rattle.state.proofs.Blank.{blank-ready}
 use Rattle.machine.specs.blocks.Blocks.{HasCode, CodeIs}
 use Rattle.machine.proofs.blocks.Indexed.{has_code, code_is}
+use Rattle.std.specs.Prelude.{Result, Ok, Err, ⊤}
+use Rattle.refusals.specs.Refusals.{number_of}
+use Rattle.refusals.specs.declared.Refusal.{Refusal}
 use Rattle.constructors.specs.firsts.Firsts.{Entries, outcome, all_kinds_at, FirstsAre}
 use Rattle.constructors.proofs.firsts.Promise.{entries_of}
-use Rattle.machine.specs.Analysed.{Indexed}
+use Rattle.machine.specs.Analysed.{Indexed, Suited}
 use Rattle.memory.specs.Layout.{blocks_room}
 use Rattle.state.specs.Layout.{ivar_kinds_at, ivar_bits_at}
 use Rattle.sctp.specs.starts.Starts.{Mains, BegunIf, Started}
-use Rattle.sctp.proofs.starts.Filled.{held_at, filled_view}
+use Rattle.sctp.proofs.starts.Filled.{filled_view}
 
 -- ---- the rules' start by its tests
 
@@ -49,9 +50,9 @@ begun : (z : Sizes) (w : List ℕ) (r : Acted) → ReadyAfter z no_entries w r �
 begun z w (On q) h = record { ready = h.ready; count = h.count }
 begun z w (Refused n) h = tt
 
-module _ {s p : List ℕ} {c : Counts} {x : List ℕ} {z : Sizes} (a : Indexed s p c x z) where
-  -- ---- the main entry
+-- ---- the main entry
 
+module _ {s p : List ℕ} {c : Counts} {L : Limits} (a : Suited s p c L) where
   pub main-below : {f : ℕ} → 0 < c.functions → f ≡ main_function (P.program_view s p c) → f < c.functions
   main-below h e = let l = functions-length s p c.functions in rw e (let m = main_in (P.program_view s p c) (omega arith) in omega arith)
 
@@ -60,9 +61,10 @@ module _ {s p : List ℕ} {c : Counts} {x : List ℕ} {z : Sizes} (a : Indexed s
       let l = functions-length s p c.functions in
       let b = blocks-length p c.blocks in
       let i : row.entry.0 ≡ entry (P.program_view s p c) (main_function (P.program_view s p c)) = sym (ap (λ (y : R.Function). y.entry) (g.is s)) ∙ ap (entry (P.program_view s p c)) e in
-      let m = entry_in a.suited.finished (main_function (P.program_view s p c)) (main_in (P.program_view s p c) (omega arith)) in
+      let m = entry_in a.finished (main_function (P.program_view s p c)) (main_in (P.program_view s p c) (omega arith)) in
       record { is = i; inside = omega arith }
 
+module _ {s p : List ℕ} {c : Counts} {x : List ℕ} {z : Sizes} (a : Indexed s p c x z) where
   -- ---- what the calls rely on
 
   pub jumps_inside : WalkInside p c
@@ -77,19 +79,13 @@ module _ {s p : List ℕ} {c : Counts} {x : List ℕ} {z : Sizes} (a : Indexed s
   pub code-held : HasCode z x
   code-held = has_code z p c x a.index a.sized.insns few
 
-  pub main-live : {b : ℕ} → Mains s p c b → b < z.blocks
-  main-live g = omega (arith, g.inside, a.sized.blocks)
-
-  pub filled-ready : {m w : List ℕ} {e : ℕ} {q : Regs} → StateCleared z m → FirstsAre s p c ivar_kinds_at ivar_bits_at m w e → q ≡ no_entries → StateReady z w q
-  filled-ready {m} {w} g f h = rw h (blank-ready z w (held_at s p c z a.sized w a.ready (f.only.len_same ∙ g.held.len)))
-
   -- ---- the ways
 
   module _ (L : Limits) where
     some-functions : (c.functions ≡ 0 → ⊥) → eqb (length (P.program_view s p c).functions) 0 ≡ false
     some-functions h = let l = functions-length s p c.functions in ne_eqb (length (P.program_view s p c).functions) 0 (λ q. h (sym l ∙ q))
 
-    all-classes : {m w : List ℕ} {e : ℕ} → FirstsAre s p c ivar_kinds_at ivar_bits_at m w e
+    all-classes : {m w : List ℕ} {e : Result ⊤ Refusal} → FirstsAre s p c ivar_kinds_at ivar_bits_at m w e
         → first_kinds_from L (P.program_view s p c) 0 (length (P.program_view s p c).classes) ≡ outcome e (all_kinds_at p c ivar_kinds_at ivar_bits_at w)
     all-classes f = ap (first_kinds_from L (P.program_view s p c) 0) (classes-length s p c.classes) ∙ sym (f.is L)
 
@@ -99,24 +95,22 @@ module _ {s p : List ℕ} {c : Counts} {x : List ℕ} {z : Sizes} (a : Indexed s
     ok = tt;
   }
 
-  pub start-refused : {m w : List ℕ} {e : ℕ} → (c.functions ≡ 0 → ⊥) → FirstsAre s p c ivar_kinds_at ivar_bits_at m w e → (e ≡ 0 → ⊥) → Started s p c z w (Refused e)
-  start-refused {m} {w} {e} h f k = record {
-    is = λ L S v _.
-        sym (start_by L (P.program_view s p c) false (refused e) (some-functions L h)
-        (all-classes L f ∙ ap (λ (b : 𝔹). cond b (answered (all_kinds_at p c ivar_kinds_at ivar_bits_at w)) (refused e)) (ne_eqb e 0 k)));
+  pub start-refused : {m w : List ℕ} {e : Refusal} → (c.functions ≡ 0 → ⊥) → FirstsAre s p c ivar_kinds_at ivar_bits_at m w (Err e) → Started s p c z w (Refused (number_of e))
+  start-refused {m} {w} {e} h f = record {
+    is = λ L S v _. sym (start_by L (P.program_view s p c) false (refused (number_of e)) (some-functions L h) (all-classes L f));
     ok = tt;
   }
 
-  pub start-live : {m w : List ℕ} {e b : ℕ} {q : Regs} {w' : List ℕ} {r : Acted} → StateCleared z m → (c.functions ≡ 0 → ⊥)
-      → FirstsAre s p c ivar_kinds_at ivar_bits_at m w e → e ≡ 0 → Mains s p c b → q ≡ no_entries
+  pub start-live : {m w : List ℕ} {u : ⊤} {b : ℕ} {q : Regs} {w' : List ℕ} {r : Acted} → StateCleared z m → (c.functions ≡ 0 → ⊥)
+      → FirstsAre s p c ivar_kinds_at ivar_bits_at m w (Ok u) → Mains s p c b → q ≡ no_entries
       → StateDid z (CodeIs z x) (λ L P. go_live L P b) w q w' r → Started s p c z w' r
-  start-live {m} {w} {e} {b} {q} {w'} {r} g h f k i j d =
+  start-live {m} {w} {u} {b} {q} {w'} {r} g h f i j d =
       let d' = rw j at d in
       record {
         is = λ L S v t.
             ap (state_of L (P.program_view s p c)) (d'.is L S.room.worklist (P.program_view s p c) v (code_is z p c x a.index a.sized.insns few s v)
             ∙ ap₂ (λ (y : ℕ) (st : State). go_live L (P.program_view s p c) y st) i.is (filled_view s p c z a.sized a.ready m w g f.only L v t))
             ∙ sym (start_by L (P.program_view s p c) false (answered (all_kinds_at p c ivar_kinds_at ivar_bits_at w)) (some-functions L h)
-            (all-classes L f ∙ ap (λ (y : ℕ). outcome y (all_kinds_at p c ivar_kinds_at ivar_bits_at w)) k));
+            (all-classes L f));
         ok = begun z w' r d'.ok;
       }

@@ -6,8 +6,7 @@ use Rattle.program.specs.View as P
 use Rattle.program.specs.declared.Counts.{Counts}
 use Rattle.state.specs.declared.Sizes.{Sizes}
 use Rattle.state.specs.declared.Regs.{Regs}
-use Rattle.state.specs.declared.Acted.{Acted}
-use Rattle.state.specs.declared.Acted.TheVariants.{On, Refused}
+use Rattle.state.specs.Acted.{Acted, On, Refused}
 use Rattle.state.specs.View.{Attrs, StateReady}
 use Rattle.state.specs.Changes.{went}
 use Rattle.machine.specs.Analysed.{Suited, MachineFits}

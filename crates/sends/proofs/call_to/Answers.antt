@@ -1,22 +1,18 @@
 -- `sends::call_to` meets its contract. Assumes nothing.
-use Rattle.sends.proofs.Called.{next-ready, to_both, to_stop}
+use mathlib.Core.Path.{◌≡◌}
+use Rattle.std.specs.Prelude.{Err}
+use borrow.Author.Rules.{rules}
+use mathlib.Core.List.{[]}
+use Rattle.sends.proofs.Called.{to_both, to_stop}
 use Rattle.sends.proofs.call_to.Goals as goal
 
-pub pass-requires-clause-state_ready : goal.pass-requires-clause-state_ready
-pass-requires-clause-state_ready c = next-ready c.args.program.now c.args.counts c.args.i.0 c.args.args c.args.f.0
-    c.enter_call.ensures c.in-On.is
+pub returns-in_err-enter_call : goal.returns-in_err-enter_call
+returns-in_err-enter_call c =
+    let e : c.from_residual.result ≡ Err c.in_err-enter_call.field-0.0 = search rules in
+    rw e (to_stop c.args.code.now.program.words.now c.args.code.now.program.counts c.args.i.0 c.args.args c.args.f.0 c.enter_call.ensures c.in_err-enter_call.was)
 
 pub pass-requires-clause-calling : goal.pass-requires-clause-calling
-pass-requires-clause-calling c = c.requires.calling
+pass-requires-clause-calling c = rw ((c.enter_call.ensures []).lent.sizes) c.requires.calling
 
-pub pass-requires-clause-f_lt_functions : goal.pass-requires-clause-f_lt_functions
-pass-requires-clause-f_lt_functions c = c.requires.f_lt_functions
-
-pub returns-in-On : goal.returns-in-On
-returns-in-On c =
-    to_both c.args.program.now c.args.counts c.args.i.0 c.args.args c.args.f.0 c.enter_call.ensures c.in-On.is
-    c.pass.ensures
-
-pub returns-in-Refused : goal.returns-in-Refused
-returns-in-Refused c =
-    to_stop c.args.program.now c.args.counts c.args.i.0 c.args.args c.args.f.0 c.enter_call.ensures c.in-Refused.is
+pub returns : goal.returns
+returns c = to_both c.args.code.now.program.words.now c.args.code.now.program.counts c.args.i.0 c.args.args c.args.f.0 c.enter_call.ensures c.pass.result c.in_ok-enter_call.was c.pass.ensures

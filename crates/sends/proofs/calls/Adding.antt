@@ -1,7 +1,6 @@
 -- The ways through add_call. Assumes nothing.
 use mathlib.Core.Bool.{Bool as 𝔹, true, false, cond}
-use mathlib.Core.Path.{◌≡◌, refl, sym, ap, ◌∙◌}
-use mathlib.Core.List.{List}
+use mathlib.Core.Path.{◌≡◌, refl, sym, ap, ap₂, ◌∙◌}
 use Prim.Native.Nat.{ℕ, ◌≤◌, ◌<◌}
 use borrow.Author.Tests.{le-leb, lt-leb, not-true, not-false}
 use lib.Dec.{leb}
@@ -11,11 +10,14 @@ use Rattle.rules.specs.Program.{Limits, Program, about, op_of, entry, parameters
 use Rattle.rules.specs.Machine.{State, marked, add_caller, push_block, add_call}
 use Rattle.state.specs.declared.Sizes.{Sizes}
 use Rattle.state.specs.declared.Regs.{Regs}
-use Rattle.state.specs.declared.Acted.{Acted}
-use Rattle.state.specs.declared.Acted.TheVariants.{On, Refused}
-use Rattle.state.specs.View.{Attrs, called_of, state_view, StateReady}
-use Rattle.state.specs.Changes.{went, Added, StateDid, Every}
-use Rattle.memory.specs.Layout.{worklist_most}
+use Rattle.state.specs.declared.State as S
+use Rattle.state.specs.View.{Attrs, called_of, state_view}
+use Rattle.state.specs.Changes.{Every}
+use Rattle.state.specs.Methods.{view, Added, Did}
+use Rattle.state.proofs.Methods.{Along, along_step, along_stop, along_end, along_refused, ready_at}
+use Rattle.std.specs.Prelude.{Result, Ok, Err}
+use Rattle.refusals.specs.declared.Refusal.{Refusal}
+use Rattle.refusals.specs.declared.Refusal.TheVariants.{MissingArgument}
 use Rattle.sends.specs.calls.Calls.{CallIs}
 
 -- the rest of a new call
@@ -31,46 +33,48 @@ new_is : (L : Limits) (p : Program) (i f : ℕ) (s : State) → marked s.called_
 unfolding add_call
 new_is L p i f s e = rw e
 
-module _ (z : Sizes) (m : List ℕ) (q : Regs) (i f e n k : ℕ) {w : List ℕ} {b : 𝔹} (a : Added z f i m w b) where
-  was : b ≡ false → marked (called_of z m) f i ≡ true
-  was h = not-false (marked (called_of z m) f i) (sym a.told ∙ h)
+module _ (s : S.State) (i f e n k : ℕ) {t : S.State} {b : 𝔹} (a : Added f i s t b) where
+  was : b ≡ false → marked (called_of s.sizes s.words.now) f i ≡ true
+  was h = not-false (marked (called_of s.sizes s.words.now) f i) (sym a.added.told ∙ h)
 
-  wasn't : b ≡ true → marked (called_of z m) f i ≡ false
-  wasn't h = not-true (marked (called_of z m) f i) (sym a.told ∙ h)
+  wasn't : b ≡ true → marked (called_of s.sizes s.words.now) f i ≡ false
+  wasn't h = not-true (marked (called_of s.sizes s.words.now) f i) (sym a.added.told ∙ h)
 
-  pub call-ready : StateReady z m q → StateReady z w q
-  call-ready r = a.put.ok q r
+  same-sizes : (v : Attrs) → view v t ≡ state_view s.sizes v t.words.now s.regs
+  same-sizes v = ap₂ (λ (z : Sizes) (q : Regs). state_view z v t.words.now q) a.lent.sizes a.regs
 
-  pub call-old : StateReady z m q → b ≡ false → StateDid z (CallIs i f e n k) (λ L p. add_call L p i f) m q w (On q)
-  call-old r h = record {
-    is = λ L room p v g.
-        let s = state_view z v m q in
-        let u : state_view z v w q ≡ s = a.put.is v q ∙ ap (λ (x : 𝔹). cond x s (add_caller f i s)) (was h) in
-        ap (λ (x : State). answered (tt, x)) u ∙ sym (old-is L p i f s (was h));
-    ok = record { ready = call-ready r; count = refl };
+  pub call-old : b ≡ false → Did (CallIs i f e n k) (λ L p. add_call L p i f) s t (Ok tt)
+  call-old h = record {
+    lent = a.lent;
+    did = record {
+      is = λ L room p v g.
+          let y = view v s in
+          let u : state_view s.sizes v t.words.now s.regs ≡ y = a.added.put.is v s.regs ∙ ap (λ (x : 𝔹). cond x y (add_caller f i y)) (was h) in
+          ap (λ (q : Regs). answered (tt, state_view s.sizes v t.words.now q)) a.regs ∙ ap (λ (x : State). answered (tt, x)) u ∙ sym (old-is L p i f y (was h));
+      ok = record { ready = ready_at t a.lent.sizes; count = ap (λ (q : Regs). q.count) a.regs };
+    };
   }
 
-  module _ (h : b ≡ true) {w' : List ℕ} {x : Acted} (d : StateDid z Every (λ L p. push_block L p e) w q w' x) where
-    rest : (L : Limits) → L.worklist ≡ worklist_most → (p : Program) (v : Attrs) → CallIs i f e n k p v → asks n k (went z v w' x) ≡ add_call L p i f (state_view z v m q)
-    rest L room p v g =
-        let s = state_view z v m q in
-        let u : state_view z v w q ≡ add_caller f i s = a.put.is v q ∙ ap (λ (y : 𝔹). cond y s (add_caller f i s)) (wasn't h) in
-        ap (asks n k) (d.is L room p v tt) ∙ ap (λ (y : State). asks n k (push_block L p e y)) u
-        ∙ rw (← g.entered, ← g.params, ← g.args) (sym (new_is L p i f s (wasn't h)))
-
-    pub call-new : {r : Regs} → x ≡ On r → n ≤ k → StateDid z (CallIs i f e n k) (λ L p. add_call L p i f) m q w' (On r)
-    call-new {r} ex le =
-        let d' = rw ex at d in
-        record {
-          is = λ L room p v g. let t : asks n k (went z v w' (On r)) ≡ add_call L p i f (state_view z v m q) = rw ex at (rest L room p v g) in rw (le-leb n k le) at t;
-          ok = d'.ok;
-        }
-
-    pub call-short : {r : Regs} → x ≡ On r → k < n → StateDid z (CallIs i f e n k) (λ L p. add_call L p i f) m q w' (Refused 16)
-    call-short {r} ex lt = record {
-      is = λ L room p v g. let t : asks n k (went z v w' (On r)) ≡ add_call L p i f (state_view z v m q) = rw ex at (rest L room p v g) in rw (lt-leb n k lt) at t;
-      ok = tt;
+  module _ (h : b ≡ true) where
+    new : Along (CallIs i f e n k) (λ L p y. asks n k (push_block L p e y)) (λ L p. add_call L p i f) s t
+    new = record {
+      lent = a.lent;
+      count = ap (λ (q : Regs). q.count) a.regs;
+      same = λ L room p v g.
+          let y = view v s in
+          let u : view v t ≡ add_caller f i y = same-sizes v ∙ a.added.put.is v s.regs ∙ ap (λ (x : 𝔹). cond x y (add_caller f i y)) (wasn't h) in
+          ap (λ (x : State). asks n k (push_block L p e x)) u ∙ rw (← g.entered, ← g.params, ← g.args) (sym (new_is L p i f y (wasn't h)));
     }
 
-    pub call-stop : {y : ℕ} → x ≡ Refused y → StateDid z (CallIs i f e n k) (λ L p. add_call L p i f) m q w' (Refused y)
-    call-stop ex = record { is = λ L room p v g. rw ex at (rest L room p v g); ok = tt }
+    module _ {u : S.State} {r : Result (Unit {0}) Refusal} (d : Did Every (λ L p. push_block L p e) t u r) where
+      pub call-stop : {x : Refusal} → r ≡ Err x → Did (CallIs i f e n k) (λ L p. add_call L p i f) s u (Err x)
+      call-stop ex = along_stop new (λ L p. ask 16 (leb n k)) d ex (λ p v g. tt) (λ L room p v g. refl)
+
+      pushed : {x : Unit {0}} → r ≡ Ok x → Along (CallIs i f e n k) (λ L p. ask 16 (leb n k)) (λ L p. add_call L p i f) s u
+      pushed ex = along_step new d ex (λ p v g. tt) (λ L room p v g. refl)
+
+      pub call-new : {x : Unit {0}} → r ≡ Ok x → n ≤ k → Did (CallIs i f e n k) (λ L p. add_call L p i f) s u (Ok tt)
+      call-new ex le = along_end (pushed ex) (λ L room p v g. rw (le-leb n k le))
+
+      pub call-short : {x : Unit {0}} → r ≡ Ok x → k < n → Did (CallIs i f e n k) (λ L p. add_call L p i f) s u (Err MissingArgument)
+      call-short ex lt = along_refused (pushed ex) MissingArgument (λ L room p v g. rw (lt-leb n k lt))

@@ -3,25 +3,19 @@ use Rattle.sends.proofs.Called.{entry-below, fun_below, caller-below, params-the
 use Rattle.sends.proofs.enter_call.Goals as goal
 
 pub returns-then-has_called : goal.returns-then-has_called
-returns-then-has_called c =
-    caller-known c.args.i.0 c.args.f.0 c.requires.state_ready c.has_called.ensures c.if-has_called.true
+returns-then-has_called c = caller-known c.args.i.0 c.args.f.0 c.args.state.now c.has_called.ensures c.if-has_called.true c.args.args
 
 pub count_params-params-requires : goal.count_params-params-requires
-count_params-params-requires c =
-    params-there c.requires.calling c.requires.f_lt_functions c.read_fun-row.ensures
-
-pub add_call-requires-clause-state_ready : goal.add_call-requires-clause-state_ready
-add_call-requires-clause-state_ready c = c.requires.state_ready
+count_params-params-requires c = params-there c.requires.calling c.requires.f_lt_functions c.fun.ensures
 
 pub add_call-requires-clause-f_lt_functions : goal.add_call-requires-clause-f_lt_functions
 add_call-requires-clause-f_lt_functions c = (
-  fun_below c.requires.calling c.requires.f_lt_functions c.read_fun-row.ensures,
-  caller-below c.requires.calling c.requires.f_lt_functions c.read_fun-row.ensures,
+  fun_below c.requires.calling c.requires.f_lt_functions c.fun.ensures,
+  caller-below c.requires.calling c.requires.f_lt_functions c.fun.ensures,
 )
 
 pub add_call-requires-clause-lt_blocks : goal.add_call-requires-clause-lt_blocks
-add_call-requires-clause-lt_blocks c = entry-below c.requires.calling c.requires.f_lt_functions c.read_fun-row.ensures
+add_call-requires-clause-lt_blocks c = entry-below c.requires.calling c.requires.f_lt_functions c.fun.ensures
 
 pub returns : goal.returns
-returns c =
-    call-entered c.requires.calling c.requires.f_lt_functions c.read_fun-row.ensures c.count_params-params.ensures c.add_call.ensures
+returns c = call-entered c.requires.calling c.requires.f_lt_functions c.fun.ensures c.count_params-params.ensures c.add_call.ensures

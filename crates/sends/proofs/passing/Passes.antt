@@ -10,16 +10,18 @@ use mir.Syntax.{w64}
 use mir.Val.{Fits}
 use lib.Bits.{bit_or, or_zero_r}
 use lib.ListN.{length, get_or}
+use Rattle.std.specs.Prelude.{Result, Ok, Err, Some as Set}
+use Rattle.refusals.specs.declared.Refusal.{Refusal}
 use Rattle.kinds.specs.declared.Kind.{Kind}
 use Rattle.kinds.specs.declared.Kind.TheVariants.{Empty, Nil, Num, Truth, Fun, Class, Int, Bool, Objects, Any}
-use Rattle.kinds.specs.declared.Joined.TheVariants.{Of}
 use Rattle.kinds.specs.Kinds.{kind_from, same_kind, is_name}
 use Rattle.kinds.specs.Union.{set_of, mix_of, lub, union_of}
 use Rattle.kinds.proofs.Laws.{union-any_l, union_empty_r, union_idem, union-sets}
 use Rattle.kinds.proofs.Same.{same_refl}
 use Rattle.rules.specs.Program as P
 use Rattle.rules.specs.Program.{Limits, Program, about, parameters}
-use Rattle.rules.specs.Machine.{State, kind_of, push_insn, wake_if_wider, place_of, argument, pass_arguments}
+use Rattle.rules.specs.Machine as R
+use Rattle.rules.specs.Machine.{kind_of, push_insn, wake_if_wider, place_of, argument, pass_arguments}
 use Rattle.program.specs.declared.Opnd.{Opnd}
 use Rattle.program.specs.declared.Counts.{Counts}
 use Rattle.program.specs.Rows.{opnd_of, op_in, op_from}
@@ -29,20 +31,19 @@ use Rattle.program.proofs.Forms.{op_10}
 use Rattle.program.proofs.Reading.{insn_read}
 use Rattle.state.specs.declared.Sizes.{Sizes}
 use Rattle.state.specs.declared.Regs.{Regs}
-use Rattle.state.specs.declared.Acted.{Acted}
-use Rattle.state.specs.declared.Acted.TheVariants.{On, Refused}
-use Rattle.state.specs.View.{Attrs, kinds_of, StateHeld, StateReady, no_entries}
-use Rattle.state.specs.View.{state_view}
-use Rattle.state.specs.Changes.{StateDid, Every}
-use Rattle.state.proofs.Wakes.{wake_same, wake_wider}
+use Rattle.state.specs.declared.State.{State}
+use Rattle.state.specs.View.{Attrs, kinds_of, StateReady}
+use Rattle.state.specs.Changes.{Every}
+use Rattle.state.specs.Methods.{view, Did}
+use Rattle.state.proofs.Wakes.{wake_old, wake_new}
+use Rattle.state.proofs.Methods.{along_start, along_last, along_end}
 use Rattle.chains.specs.Chains.{ChainsChained, at, self, ChainIs, FitsId}
 use Rattle.chains.proofs.Lists.{Starts, chained_below, chained_none, chained_some, chained_low, chained_high, chained_next}
 use Rattle.machine.specs.opnds.Reads.{OperandInside, kind_in}
 use Rattle.machine.proofs.opnds.Given.{kind_of_lem}
-use Rattle.flows.specs.declared.AsSet.TheVariants.{Set}
 use Rattle.flows.specs.Flows.{Argues, as_set}
 use Rattle.flows.proofs.Callers.{fits-inside}
-use Rattle.machine.proofs.blocks.Walk.{From, Walking, walk-ready, walk-falls, walk-word, walk_more, walk-stop, walk-done}
+use Rattle.machine.proofs.blocks.Walk.{From, Walking, walk-falls, walk-word, walk_more, walk-stop, walk-done}
 use Rattle.memory.specs.Layout.{instructions_most}
 use Rattle.program.specs.Layout.{insns_at, insn_words}
 use Rattle.chains.specs.Layout.{params_at, param_links_at}
@@ -87,7 +88,7 @@ module _ (m : List ℕ) (c : Counts) (j : ℕ) (r : ProgramReady m c) (below : j
 pub argument-inside : {m : List ℕ} {c : Counts} {z : Sizes} {i : ℕ} (n : ℕ) {o : Opnd} → Caller m c z i → Argues m c i n o → OperandInside z o
 argument-inside {z = z} n {o} g a = fits-inside z o (rw (a.is P.limits g.script g.call) (g.listed n))
 
-pass-is : (L : Limits) (p : Program) (i j : ℕ) (s : State) → wake_if_wider L p (kind_of s (argument L p (place_of L p j) i)) j s ≡ pass_to L p i j s
+pass-is : (L : Limits) (p : Program) (i j : ℕ) (s : R.State) → wake_if_wider L p (kind_of s (argument L p (place_of L p j) i)) j s ≡ pass_to L p i j s
 unfolding pass_to
 pass-is L p i j s = refl
 
@@ -100,27 +101,32 @@ kind-passed {m} {c} {z} w i d a ek = record {
 pub passes-is : {m : List ℕ} {c : Counts} {z : Sizes} {w : List ℕ} {i j : ℕ} {k k' : Kind} → ArgumentPasses m c z w i j k → k' ≡ k → ArgumentPasses m c z w i j k'
 passes-is a e = rw e a
 
-module _ {m : List ℕ} {c : Counts} {z : Sizes} {w : List ℕ} {q : Regs} {i j : ℕ} {k : Kind} (a : ArgumentPasses m c z w i j k) where
-  pub passed_to : {w' : List ℕ} {r : Acted} → StateDid z Every (λ L p. wake_if_wider L p k j) w q w' r → StateDid z (CallIn m c i) (λ L p. pass_to L p i j) w q w' r
-  passed_to g = record {
-    is = λ L room p v u.
-        let s = state_view z v w q in
-        let y = program_view u.script m c in
-        let e : k ≡ kind_of s (argument L y (place_of L y j) i) = a.is L u.script u.call ∙ sym (kind_of_lem s (argument L y (place_of L y j) i)) in
-        g.is L room p v tt ∙ rw u.program (ap (λ (t : Kind). wake_if_wider L y t j s) e ∙ pass-is L y i j s);
-    ok = g.ok;
-  }
+module _ {m : List ℕ} {c : Counts} (s : State) {i j : ℕ} {k : Kind} (a : ArgumentPasses m c s.sizes s.words.now i j k) where
+  passed : (L : Limits) (p : Program) (v : Attrs) → CallIn m c i p v → pass_to L p i j (view v s) ≡ wake_if_wider L p k j (view v s)
+  passed L p v u =
+      let y = program_view u.script m c in
+      let e : k ≡ kind_of (view v s) (argument L y (place_of L y j) i) = a.is L u.script u.call ∙ sym (kind_of_lem (view v s) (argument L y (place_of L y j) i)) in
+      rw u.program (sym (pass-is L y i j (view v s)) ∙ ap (λ (t : Kind). wake_if_wider L y t j (view v s)) (sym e))
 
-pub kept_on : {m : List ℕ} {c : Counts} {z : Sizes} {w : List ℕ} {q : Regs} {i j : ℕ} → StateReady z w q → Keeps m c z w i j → StateDid z (CallIn m c i) (λ L p. pass_to L p i j) w q w (On q)
-kept_on {z = z} {w = w} {q = q} {j = j} r h = passed_to h.passes (wake_same z w q j h.kind refl refl r (get_or (kinds_of z w) j Empty) h.same refl (same_refl (get_or (kinds_of z w) j Empty)))
+  pub passed_to : {t : State} (r : Result (Unit {0}) Refusal) → Did Every (λ L p. wake_if_wider L p k j) s t r → Did (CallIn m c i) (λ L p. pass_to L p i j) s t r
+  passed_to r g = along_last (along_start s) r g (λ p v u. tt) (λ L room p v u. passed L p v u)
+
+pub kept_on : {m : List ℕ} {c : Counts} (s : State) {i j : ℕ} → Keeps m c s.sizes s.words.now i j → Did (CallIn m c i) (λ L p. pass_to L p i j) s s (Ok tt)
+kept_on s {i} {j} h =
+    let o = get_or (kinds_of s.sizes s.words.now) j Empty in
+    along_end (along_start s) (λ L room p v u. passed s h.passes L p v u ∙ wake_old L p h.kind j (view v s) o h.same (same_refl o))
 
 -- a is the Param's kind, k the argument's
 module _ {m : List ℕ} {c : Counts} {z : Sizes} {w : List ℕ} {i j : ℕ} {k a : Kind} (g : ArgumentPasses m c z w i j k) (ea : a ≡ get_or (kinds_of z w) j Empty) where
-  pub surely_kept : union_of a k ≡ Of a → Keeps m c z w i j
-  surely_kept h = record { kind = k; passes = g; same = subst (λ (x : Kind). union_of x k ≡ Of x) ea h }
+  pub surely_kept : union_of a k ≡ Ok a → Keeps m c z w i j
+  surely_kept h = record { kind = k; passes = g; same = subst (λ (x : Kind). union_of x k ≡ Ok x) ea h }
 
-  pub pushed_to : {q : Regs} {w' : List ℕ} {r : Acted} → Widens a k → StateDid z Every (λ L p. push_insn L p j) w q w' r → StateDid z (CallIn m c i) (λ L p. pass_to L p i j) w q w' r
-  pushed_to {q} h d = passed_to g (wake_wider z w q j k ea refl h.union h.is refl h.other d)
+module _ {m : List ℕ} {c : Counts} {s : State} {i j : ℕ} {k a : Kind} (g : ArgumentPasses m c s.sizes s.words.now i j k) (ea : a ≡ get_or (kinds_of s.sizes s.words.now) j Empty) where
+  pub pushed_to : {t : State} (r : Result (Unit {0}) Refusal) → Widens a k → Did Every (λ L p. push_insn L p j) s t r → Did (CallIn m c i) (λ L p. pass_to L p i j) s t r
+  pushed_to r h d =
+      along_last (along_start s) r d (λ p v u. tt)
+      (λ L room p v u. passed s g L p v u
+      ∙ wake_new L p k j (view v s) h.union (ap (λ (x : Kind). union_of x k) (sym ea) ∙ h.is) (ap (λ (x : Kind). same_kind h.union x) (sym ea) ∙ h.other))
 
 -- ---- kinds in words
 
@@ -159,7 +165,7 @@ unfolding kind_from
 objects_from x e = rw e
 
 -- a set joined with a kind that is no name and not Any has the classes of both
-set-joins : (s : ℕ) (k : Kind) (u : ℕ) → Set u ≡ as_set k → union_of (Objects s) k ≡ Of (Objects (bit_or s u))
+set-joins : (s : ℕ) (k : Kind) (u : ℕ) → Set u ≡ as_set k → union_of (Objects s) k ≡ Ok (Objects (bit_or s u))
 unfolding union_of lub mix_of same_kind
 set-joins s Empty u e = let z : u ≡ 0 = cc in rw (z, or_zero_r)
 set-joins s Nil u e = let z : u ≡ set_of Nil = cc in rw z
@@ -177,23 +183,23 @@ unfolding same_kind
 other-set x y h = ne_eqb x y h
 
 module _ (s x t y : ℕ) where
-  pub covers_empty : t ≡ 0 → union_of (kind_from s x) (kind_from t y) ≡ Of (kind_from s x)
+  pub covers_empty : t ≡ 0 → union_of (kind_from s x) (kind_from t y) ≡ Ok (kind_from s x)
   covers_empty e = ap (union_of (kind_from s x)) (empty_from y e) ∙ union_empty_r (kind_from s x)
 
-  pub covers-any : 8 < s → union_of (kind_from s x) (kind_from t y) ≡ Of (kind_from s x)
+  pub covers-any : 8 < s → union_of (kind_from s x) (kind_from t y) ≡ Ok (kind_from s x)
   covers-any h = rw (any-from s x h) (union-any_l (kind_from t y))
 
   module _ (f : s ≡ 8) {u : ℕ} (g : Set u ≡ as_set (kind_from t y)) where
-    set-union : union_of (kind_from s x) (kind_from t y) ≡ Of (Objects (bit_or x u))
+    set-union : union_of (kind_from s x) (kind_from t y) ≡ Ok (Objects (bit_or x u))
     set-union = rw (objects_from x f) (set-joins x (kind_from t y) u g)
 
-    pub covers-set : bit_or x u ≡ x → union_of (kind_from s x) (kind_from t y) ≡ Of (kind_from s x)
-    covers-set h = set-union ∙ ap Of (ap Objects h ∙ sym (objects_from x f))
+    pub covers-set : bit_or x u ≡ x → union_of (kind_from s x) (kind_from t y) ≡ Ok (kind_from s x)
+    covers-set h = set-union ∙ ap Ok (ap Objects h ∙ sym (objects_from x f))
 
     pub widens_set : (bit_or x u ≡ x → ⊥) → Widens (kind_from s x) (kind_from t y)
     widens_set h = record { union = Objects (bit_or x u); is = set-union; other = rw (objects_from x f) (other-set (bit_or x u) x h) }
 
-  pub covers-same : s ≡ t → (s ≡ 4 → ⊥) → (s ≡ 5 → ⊥) → x ≡ y → union_of (kind_from s x) (kind_from t y) ≡ Of (kind_from s x)
+  pub covers-same : s ≡ t → (s ≡ 4 → ⊥) → (s ≡ 5 → ⊥) → x ≡ y → union_of (kind_from s x) (kind_from t y) ≡ Ok (kind_from s x)
   covers-same e h4 h5 h = rw (← e, ← h) (union_idem (kind_from s x) (no_name-from s x h4 h5))
 
 -- the head's word fits
@@ -205,8 +211,11 @@ params-word {n} {x} {e} u =
 
 -- ---- pass_arguments at its loop's head
 
-module _ {m : List ℕ} {c : Counts} {z : Sizes} {x : List ℕ} {h : ℕ} {m₀ : List ℕ} {q₀ : Regs} {w : List ℕ} {q : Regs} {i j : ℕ}
-    (g : Walking z x param_links_at (λ L p. pass_to L p i) (CallIn m c i) h m₀ q₀ w q j) (e : ℕ) (eh : h ≡ get_or x (params_at + e) 0) where
+module _ {m : List ℕ} {c : Counts} {x : List ℕ} {h : ℕ} {s₀ s : State} {i j : ℕ} (g : Walking x param_links_at (λ L p. pass_to L p i) (CallIn m c i) h s₀ s j) (e : ℕ)
+    (eh : h ≡ get_or x (params_at + e) 0) where
+  abbrev z : Sizes
+  z = s₀.sizes
+
   from_head : (l : List ℕ) → ChainIs x z.insns 1 e l → From z.insns x param_links_at h l
   from_head l d = rw eh d
 
@@ -219,48 +228,32 @@ module _ {m : List ℕ} {c : Counts} {z : Sizes} {x : List ℕ} {h : ℕ} {m₀ 
   pub params-next : HasParams z.insns x e → j < z.insns → FitsId x (param_links_at + j)
   params-next u lt = walk-word g u.list (from_head u.list u.held) lt
 
-  pub params-stop : {w' : List ℕ} {r : Acted} {n : ℕ} → j < z.insns → StateDid z (CallIn m c i) (λ L p. pass_to L p i j) w q w' r → r ≡ Refused n
-      → (f : ℕ) → StateDid z (PassIn m c z x i f e) (λ L p. pass_arguments L p i f) m₀ q₀ w' (Refused n)
+  pub params-stop : {t : State} {r : Result (Unit {0}) Refusal} {n : Refusal} → j < z.insns → Did (CallIn m c i) (λ L p. pass_to L p i j) s t r → r ≡ Err n
+      → (f : ℕ) → Did (PassIn m c z x i f e) (λ L p. pass_arguments L p i f) s₀ t (Err n)
   unfolding pass_arguments pass_to
   params-stop lt d er f = walk-stop g (λ p. parameters p f) (held f) lt d er
 
-  pub params-done : z.insns ≤ j → (f : ℕ) → StateDid z (PassIn m c z x i f e) (λ L p. pass_arguments L p i f) m₀ q₀ w (On q)
+  pub params-done : z.insns ≤ j → (f : ℕ) → Did (PassIn m c z x i f e) (λ L p. pass_arguments L p i f) s₀ s (Ok tt)
   unfolding pass_arguments pass_to
   params-done le f = walk-done g (λ p. parameters p f) (held f) le
 
--- one Param further: it was passed its argument, or kept
-module _ {m : List ℕ} {c : Counts} {z : Sizes} {x : List ℕ} {h : ℕ} {m₀ : List ℕ} {q₀ : Regs} {w : List ℕ} {q : Regs} {i j : ℕ}
-    (g : Walking z x param_links_at (λ L p. pass_to L p i) (CallIn m c i) h m₀ q₀ w q j) (lt : j < z.insns) where
-  pub param_passed : {w' : List ℕ} {r : Acted} {q' : Regs} {n : ℕ} {w₁ : List ℕ} {q₁ : Regs} → length w' ≡ length w → StateDid z (CallIn m c i) (λ L p. pass_to L p i j) w q w' r → r ≡ On q'
-      → n ≡ get_or x (param_links_at + j) 0 → w₁ ≡ w' → q₁ ≡ q' → Walking z x param_links_at (λ L p. pass_to L p i) (CallIn m c i) h m₀ q₀ w₁ q₁ n
-  param_passed len d er en ew eq = rw (ew, eq) (walk_more g lt len d er en)
-
-  pub param_kept : {n : ℕ} {w₁ : List ℕ} {q₁ : Regs} → Keeps m c z w i j
-      → n ≡ get_or x (param_links_at + j) 0 → w₁ ≡ w → q₁ ≡ q → Walking z x param_links_at (λ L p. pass_to L p i) (CallIn m c i) h m₀ q₀ w₁ q₁ n
-  param_kept k en ew eq = param_passed refl (kept_on (walk-ready g) k) refl en ew eq
-
 -- ---- surely_keeps_all at its loop's head: the same walk from whatever registers, and none of them changes
 
-abbrev pub Keeping : List ℕ → Counts → Sizes → List ℕ → ℕ → List ℕ → ℕ → ℕ → Type 0
-Keeping m c z x h w i j = (q : Regs) → StateReady z w q → Walking z x param_links_at (λ L p. pass_to L p i) (CallIn m c i) h w q w q j
+abbrev pub with_regs : (s : State) (q : Regs) → StateReady s.sizes s.words.now q → State
+with_regs s q r = record { words = s.words; sizes = s.sizes; regs = q; ready = r }
 
-module _ {m : List ℕ} {c : Counts} {z : Sizes} {x : List ℕ} {h : ℕ} {w : List ℕ} {i j : ℕ} (g : Keeping m c z x h w i j) where
-  pub keeping_walk : StateHeld z w → Walking z x param_links_at (λ L p. pass_to L p i) (CallIn m c i) h w no_entries w no_entries j
-  keeping_walk held = g no_entries (record {
-    held = held;
-    insn_head = omega arith;
-    insn_len = omega arith;
-    block_head = omega arith;
-    block_len = omega arith;
-    insns_below = λ k lt. absurd (omega arith);
-    blocks_below = λ k lt. absurd (omega arith);
-  })
+abbrev pub Keeping : List ℕ → Counts → List ℕ → ℕ → State → ℕ → ℕ → Type 0
+Keeping m c x h s i j = (q : Regs) (r : StateReady s.sizes s.words.now q) → Walking x param_links_at (λ L p. pass_to L p i) (CallIn m c i) h (with_regs s q r) (with_regs s q r) j
 
-  pub keeping_more : {b : 𝔹} {n : ℕ} → j < z.insns → (b ≡ true → Keeps m c z w i j) → b ≡ true → n ≡ get_or x (param_links_at + j) 0 → Keeping m c z x h w i n
-  keeping_more {b} lt f t en q r = param_kept (g q r) lt (f t) en refl refl
+module _ {m : List ℕ} {c : Counts} {x : List ℕ} {h : ℕ} (s : State) {i j : ℕ} (g : Keeping m c x h s i j) where
+  pub keeping_walk : Walking x param_links_at (λ L p. pass_to L p i) (CallIn m c i) h (with_regs s s.regs s.ready) (with_regs s s.regs s.ready) j
+  keeping_walk = g s.regs s.ready
 
-  pub keeping_done : (e : ℕ) → h ≡ get_or x (params_at + e) 0 → z.insns ≤ j → (f : ℕ) → PassIdle z (PassIn m c z x i f e) (λ L p. pass_arguments L p i f) w
-  keeping_done e eh le f = record { is = λ q r. params-done (g q r) e eh le f }
+  pub keeping_more : {b : 𝔹} {n : ℕ} → j < s.sizes.insns → (b ≡ true → Keeps m c s.sizes s.words.now i j) → b ≡ true → n ≡ get_or x (param_links_at + j) 0 → Keeping m c x h s i n
+  keeping_more {b} lt f t en q r = walk_more (g q r) lt (kept_on (with_regs s q r) (f t)) refl en
+
+  pub keeping_done : (e : ℕ) → h ≡ get_or x (params_at + e) 0 → s.sizes.insns ≤ j → (f : ℕ) → PassIdle s.sizes (PassIn m c s.sizes x i f e) (λ L p. pass_arguments L p i f) s.words.now
+  keeping_done e eh le f = record { is = λ q r. (params-done (g q r) e eh le f).did }
 
 pub no_truth : {A : Type 0} → false ≡ true → A
 no_truth e = let z : ◌≡◌ {A = ℕ} 0 1 = cc in absurd (omega arith)

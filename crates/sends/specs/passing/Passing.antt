@@ -1,8 +1,7 @@
 -- What passing arguments relies on. Assumes nothing.
-use Rattle.std.specs.Prelude.{true, false, ◌≡◌, List, ℕ, ◌≤◌, ◌<◌, length, get_or}
+use Rattle.std.specs.Prelude.{true, false, ◌≡◌, List, ℕ, ◌≤◌, ◌<◌, length, get_or, Ok}
 use Rattle.kinds.specs.declared.Kind.{Kind}
 use Rattle.kinds.specs.declared.Kind.TheVariants.{Empty}
-use Rattle.kinds.specs.declared.Joined.TheVariants.{Of}
 use Rattle.kinds.specs.Kinds.{same_kind}
 use Rattle.kinds.specs.Union.{union_of}
 use Rattle.rules.specs.Actions.{◌>>=◌, the}
@@ -14,7 +13,7 @@ use Rattle.program.specs.declared.Counts.{Counts}
 use Rattle.program.specs.View.{program_view, ProgramReady}
 use Rattle.state.specs.declared.Sizes.{Sizes}
 use Rattle.state.specs.declared.Regs.{Regs}
-use Rattle.state.specs.declared.Acted.TheVariants.{On}
+use Rattle.state.specs.Acted.{On}
 use Rattle.state.specs.View.{Attrs, kinds_of}
 use Rattle.state.specs.View.{StateReady}
 use Rattle.state.specs.Changes.{StateDid}
@@ -60,12 +59,12 @@ pub record ArgumentPasses (m : List ℕ) (c : Counts) (z : Sizes) (w : List ℕ)
 -- the union of a with k is a kind other than a
 pub record Widens (a k : Kind) : Type 0 where
   pub union : Kind
-  pub is : union_of a k ≡ Of union
+  pub is : union_of a k ≡ Ok union
   pub other : same_kind union a ≡ false
 
 -- what an answer tells of the union of a with k
 abbrev pub CoversTells : Kind → Kind → Covers → Type 0
-CoversTells a k Yes = union_of a k ≡ Of a
+CoversTells a k Yes = union_of a k ≡ Ok a
 CoversTells a k No = Widens a k
 CoversTells a k Unknown = Unit {0}
 
@@ -73,7 +72,7 @@ CoversTells a k Unknown = Unit {0}
 pub record Keeps (m : List ℕ) (c : Counts) (z : Sizes) (w : List ℕ) (i j : ℕ) : Type 0 where
   pub kind : Kind
   pub passes : ArgumentPasses m c z w i j kind
-  pub same : union_of (get_or (kinds_of z w) j Empty) kind ≡ Of (get_or (kinds_of z w) j Empty)
+  pub same : union_of (get_or (kinds_of z w) j Empty) kind ≡ Ok (get_or (kinds_of z w) j Empty)
 
 -- the program is the one in memory, and instruction i a call
 pub record CallIn (m : List ℕ) (c : Counts) (i : ℕ) (p : Program) (v : Attrs) : Type 0 where

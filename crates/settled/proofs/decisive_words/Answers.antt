@@ -5,14 +5,8 @@ use Rattle.settled.proofs.decisive_words.Goals as goal
 pub returns-then-insn-lt13 : goal.returns-then-insn-lt13
 returns-then-insn-lt13 c = record { receiver = λ e. absurd (omega arith); value = λ e. absurd (omega arith) }
 
-pub operand_words-requires-clause-program_ready : goal.operand_words-requires-clause-program_ready
-operand_words-requires-clause-program_ready c = let o = c.requires.operands in o.ready
-
 pub operand_words-requires-clause-count_bound : goal.operand_words-requires-clause-count_bound
 operand_words-requires-clause-count_bound c = let o = c.requires.operands in o.range
-
-pub operand_words-requires-clause-state_held : goal.operand_words-requires-clause-state_held
-operand_words-requires-clause-state_held c = let o = c.requires.operands in c.requires.state_held
 
 pub operand_words-requires-clause-operand_inside : goal.operand_words-requires-clause-operand_inside
 operand_words-requires-clause-operand_inside c = let o = c.requires.operands in o.receiver c.if-insn-eq13.true
@@ -20,14 +14,8 @@ operand_words-requires-clause-operand_inside c = let o = c.requires.operands in 
 pub returns-then-insn-eq13 : goal.returns-then-insn-eq13
 returns-then-insn-eq13 c = record { receiver = λ e. c.operand_words.ensures; value = λ e. absurd (omega arith) }
 
-pub operand_words-requires-2-clause-program_ready : goal.operand_words-requires-2-clause-program_ready
-operand_words-requires-2-clause-program_ready c = let o = c.requires.operands in o.ready
-
 pub operand_words-requires-2-clause-count_bound : goal.operand_words-requires-2-clause-count_bound
 operand_words-requires-2-clause-count_bound c = let o = c.requires.operands in o.range
-
-pub operand_words-requires-2-clause-state_held : goal.operand_words-requires-2-clause-state_held
-operand_words-requires-2-clause-state_held c = let o = c.requires.operands in c.requires.state_held
 
 pub operand_words-requires-2-clause-operand_inside : goal.operand_words-requires-2-clause-operand_inside
 operand_words-requires-2-clause-operand_inside c = let o = c.requires.operands in o.value (omega arith)

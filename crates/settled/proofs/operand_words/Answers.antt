@@ -6,20 +6,16 @@ use Rattle.settled.proofs.operand_words.Goals as goal
 
 pub opnd_words-requires-clause-at_in_bounds : goal.opnd_words-requires-clause-at_in_bounds
 opnd_words-requires-clause-at_in_bounds c = let insn = c.args.insn in
-    let j = c.args.j in word-inside insn j c.requires.program_ready c.requires.count_bound (omega arith)
-
-pub opnd_words-requires-clause-state_held : goal.opnd_words-requires-clause-state_held
-opnd_words-requires-clause-state_held c = let insn = c.args.insn in
-    let j = c.args.j in c.requires.state_held
+    let j = c.args.j in word-inside insn j c.args.program.now.ready c.requires.count_bound (omega arith)
 
 pub opnd_words-requires-clause-operand_inside : goal.opnd_words-requires-clause-operand_inside
 opnd_words-requires-clause-operand_inside c = let insn = c.args.insn in
-    let j = c.args.j in stands_inside insn j c.requires.program_ready c.requires.count_bound c.args.sizes (c.requires.operand_inside (omega arith))
+    let j = c.args.j in stands_inside insn j c.args.program.now.ready c.requires.count_bound c.args.state.now.sizes (c.requires.operand_inside (omega arith))
 
 pub returns-then-j-insn : goal.returns-then-j-insn
 returns-then-j-insn c =
-    operand_kind c.args.insn c.args.j c.requires.program_ready c.requires.count_bound (kinds_of c.args.sizes c.args.state.now) (omega arith) c.opnd_words.ensures
+    operand_kind c.args.insn c.args.j c.args.program.now.ready c.requires.count_bound (kinds_of c.args.state.now.sizes c.args.state.now.words.now) (omega arith) c.opnd_words.ensures
 
 pub returns : goal.returns
-returns c = operand_nil c.args.insn c.args.j c.requires.program_ready c.requires.count_bound (kinds_of c.args.sizes c.args.state.now)
+returns c = operand_nil c.args.insn c.args.j c.args.program.now.ready c.requires.count_bound (kinds_of c.args.state.now.sizes c.args.state.now.words.now)
     c.if-j-insn.false

@@ -2,9 +2,6 @@
 use Rattle.settled.proofs.Settling.{none_settled}
 use Rattle.settled.proofs.stamp.Goals as goal
 
-pub settled-requires-clause-state_held : goal.settled-requires-clause-state_held
-settled-requires-clause-state_held c = c.requires.state_held
-
 pub settled-requires-clause-state_matches : goal.settled-requires-clause-state_matches
 settled-requires-clause-state_matches c = c.requires.state_matches
 

@@ -1,239 +1,349 @@
 -- The cycle `statement` of `statements` meets its contracts. Assumes nothing.
-use Rattle.statements.proofs.Cycle.{block-yes, block_in, block_no, block_no2, else_arm, else_bare, else_in, else_in2, else_in3, else_inside, else_join, else_no, else_no2}
-use Rattle.statements.proofs.Cycle.{else_none, else_sorted, else_yes, going_ends, going_less, going_no, going_none, going_on, going_start, if_arm, if_in2, if_in3, if_in4}
-use Rattle.statements.proofs.Cycle.{if_no, if_no2, if_no3, if_no4, if_yes, state_deep, state_expr, state_if, state_in, state_return}
-use Rattle.statements.proofs.Paths.{expr_in}
-use mathlib.Core.Path.{refl}
+use mathlib.Core.Path.{◌≡◌, refl, ap, ◌∙◌}
 use native.Mathlib.Omega.{arith}
+use Rattle.std.specs.Prelude.{Ok}
+use Rattle.std.proofs.Common.{rules}
+use Rattle.std.proofs.lemmas.Result.{err_from_is_err_and}
+use Rattle.lexer.specs.declared.Token.TheVariants as T
+use Rattle.cursor.specs.Parsers.{cursor_of, parsed_in, moved_in, matched_if, matched_in}
+use Rattle.cursor.proofs.Kept.{kept_none, after_none, after_placed, after_kept, after_adds, did_of, reading_of, finish}
+use Rattle.statements.specs.Shape.{opened_in, stops_if, stops_in}
+use Rattle.statements.proofs.Paths.{place_aside}
+use Rattle.statements.proofs.Cycle.{block-yes, block_no, block_no2, else_arm, else_bare, else_in2, else_inside, else_join, else_no, else_no2}
+use Rattle.statements.proofs.Cycle.{else_none, else_sorted, else_yes, going_ends, going_less, going_no, going_none, going_on, going_start, if_arm, if_in3, if_in4}
+use Rattle.statements.proofs.Cycle.{if_no, if_no2, if_no3, if_no4, if_on, if_yes, state_deep, state_expr, state_if, state_in, state_return}
+use Rattle.statements.proofs.Standing.{ends_of, opens_of, else_of, finishes_of, from_of, halts_of, after_block, finish_from}
 use Rattle.statements.proofs.+statement.Goals as goal
 
 pub parse_block-parse_statements-requires : goal.parse_block-parse_statements-requires
 parse_block-parse_statements-requires t c =
-    (omega (arith, c.decreases), (c.requires.fact, c.requires.small))
+    (omega (arith, c.decreases), c.requires)
 
-pub parse_block-end_block-requires : goal.parse_block-end_block-requires
-parse_block-end_block-requires t c = record {
-  program_ready = (block_in _ _ c.parse_statements.ensures c.in-Done.is).ready.tables;
-  small = c.requires.small;
-  block_lt_blocks = (block_in _ _ c.parse_statements.ensures c.in-Done.is).block;
-}
+pub parse_block-returns-in_err-v : goal.parse_block-returns-in_err-v
+parse_block-returns-in_err-v t c =
+    let a1 = after_kept (after_none c.args.p.now) c.parse_statements.ensures.kept in
+    let x = err_from_is_err_and c.from_residual.result c.from_residual.ensures.1 in
+    rw (x.1, x.2)
+    (finish a1 (block_no c.args.p.now.program.limits c.args.depth
+    {p = parsed_in c.parse_statements.new.p c.parse_statements.result} c.parse_statements.ensures.did c.args.join
+    (ap (parsed_in c.parse_statements.new.p) c.in_err-v.was)))
 
-pub parse_block-returns-in-Refused : goal.parse_block-returns-in-Refused
-parse_block-returns-in-Refused t c =
-    block_no _ _ c.parse_statements.ensures c.args.join c.in-Refused.is
+pub parse_block-returns-in_err-end_block : goal.parse_block-returns-in_err-end_block
+parse_block-returns-in_err-end_block t c =
+    let a1 = after_kept (after_none c.args.p.now) c.parse_statements.ensures.kept in
+    let x = err_from_is_err_and c.from_residual-in_err-end_block.result c.from_residual-in_err-end_block.ensures.1 in
+    rw (x.1, x.2)
+    (finish (after_adds a1 c.end_block.ensures.kept)
+    (block_no2 c.args.p.now.program.limits c.args.depth
+    {p = parsed_in c.parse_statements.new.p c.parse_statements.result} c.parse_statements.ensures.did
+    (ap (parsed_in c.parse_statements.new.p) c.in_ok-v.was) (ends_of a1 c.end_block.ensures)
+    (ap (moved_in c.end_block.new.p) c.in_err-end_block.was)))
 
-pub parse_block-returns-in-Refused-end_block : goal.parse_block-returns-in-Refused-end_block
-parse_block-returns-in-Refused-end_block t c =
-    block_no2 _ _ c.parse_statements.ensures c.in-Done.is c.end_block.ensures c.in-Refused-end_block.is
+pub parse_block-returns : goal.parse_block-returns
+parse_block-returns t c =
+    let a1 = after_kept (after_none c.args.p.now) c.parse_statements.ensures.kept in
+    finish (after_adds a1 c.end_block.ensures.kept)
+    (block-yes c.args.p.now.program.limits c.args.depth
+    {p = parsed_in c.parse_statements.new.p c.parse_statements.result} c.parse_statements.ensures.did
+    (ap (parsed_in c.parse_statements.new.p) c.in_ok-v.was) (ends_of a1 c.end_block.ensures)
+    (ap (moved_in c.end_block.new.p) c.in_ok-end_block.was))
 
-pub parse_block-returns-in-On : goal.parse_block-returns-in-On
-parse_block-returns-in-On t c =
-    block-yes _ _ c.parse_statements.ensures c.in-Done.is c.end_block.ensures c.in-On.is
+pub parse_else-returns-in_err-match_token-clause-did : goal.parse_else-returns-in_err-match_token-clause-did
+parse_else-returns-in_err-match_token-clause-did t c = λ c₀ a.
+    let a1 = after_placed (after_none c.args.p.now) c.match_token.ensures.same in
+    let x = err_from_is_err_and c.from_residual.result c.from_residual.ensures.1 in
+    rw (x.1, x.2) (finish_from a1 (else_none c.args.p.now.program.limits c.args.depth c.args.q c.requires.reading a c.match_token.ensures.matches
+    (ap (matched_in c.match_token.new.self) c.in_err-match_token.was)))
 
-pub parse_else-finish_if-requires : goal.parse_else-finish_if-requires
-parse_else-finish_if-requires t c = record { fact = c.requires.fact; small = c.requires.small; arm = c.requires.arm }
-
-pub parse_else-open_else-requires : goal.parse_else-open_else-requires
-parse_else-open_else-requires t c = record {
-  fact = else_in c.args.limits c.args.depth c.args.q c.requires.fact c.requires.arm
-      c.match_token.ensures c.in-Yes.is;
-  small = c.requires.small;
-  arm = else_arm c.args.limits c.args.depth c.args.q c.requires.fact c.requires.arm
-      c.match_token.ensures c.in-Yes.is;
-}
+pub parse_else-returns-in_err-b-clause-did : goal.parse_else-returns-in_err-b-clause-did
+parse_else-returns-in_err-b-clause-did t c = λ c₀ a.
+    let a1 = after_placed (after_none c.args.p.now) c.match_token.ensures.same in
+    let a2 = after_kept a1 c.open_else.ensures.kept in
+    let e = ap (matched_in c.match_token.new.self) c.in_ok-match_token.was ∙ ap (matched_if c.match_token.new.self) c.if-branch.true in
+    let g = else_of a1 (c.open_else.ensures.opens c₀ (else_arm c.args.p.now.program.limits c.args.depth c.args.q c.requires.reading a c.match_token.ensures.matches e)) in
+    let x = err_from_is_err_and c.from_residual-in_err-b.result c.from_residual-in_err-b.ensures.1 in
+    rw (x.1, x.2) (finish_from a2 (else_no c.args.p.now.program.limits c.args.depth c.args.q c.requires.reading a c.match_token.ensures.matches e g (ap (opened_in c.open_else.new.p) c.in_err-b.was)))
 
 pub parse_else-parse_block-requires : goal.parse_else-parse_block-requires
-parse_else-parse_block-requires t c = (
-  omega (
-    arith,
-    c.decreases,
-  ),
-  (
-    else_in2 c.args.limits c.args.depth c.args.q c.requires.fact c.requires.arm
-        c.match_token.ensures c.in-Yes.is c.open_else.ensures c.in-On.is,
-    c.requires.small,
-  ),
-)
+parse_else-parse_block-requires t c =
+    let a = c.requires.arm.arm in
+    let a1 = after_placed (after_none c.args.p.now) c.match_token.ensures.same in
+    let a2 = after_kept a1 c.open_else.ensures.kept in
+    let e = ap (matched_in c.match_token.new.self) c.in_ok-match_token.was ∙ ap (matched_if c.match_token.new.self) c.if-branch.true in
+    let g = else_of a1 (c.open_else.ensures.opens c.requires.arm.from (else_arm c.args.p.now.program.limits c.args.depth c.args.q c.requires.reading a c.match_token.ensures.matches e)) in
+    let i = ap (opened_in c.open_else.new.p) c.in_ok-b.was in
+    (omega (arith, c.decreases), reading_of a2 (else_in2 c.args.p.now.program.limits c.args.depth c.args.q c.requires.reading a c.match_token.ensures.matches e g i))
 
-pub parse_else-finish_else-requires : goal.parse_else-finish_else-requires
-parse_else-finish_else-requires t c = record {
-  fact = else_in3 c.args.limits c.args.depth c.args.q c.requires.fact c.requires.arm
-      c.match_token.ensures c.in-Yes.is c.open_else.ensures c.in-On.is
-      c.parse_block.ensures c.in-Done.is;
-  small = c.requires.small;
-  statement_inside = else_inside c.args.limits c.args.depth c.args.q c.requires.fact c.requires.arm
-      c.match_token.ensures c.in-Yes.is c.open_else.ensures c.in-On.is
-      c.parse_block.ensures c.in-Done.is;
-  join_lt_blocks = else_join c.args.limits c.args.depth c.args.q c.requires.fact c.requires.arm
-      c.match_token.ensures c.in-Yes.is c.open_else.ensures c.in-On.is
-      c.parse_block.ensures c.in-Done.is;
-  sorted = else_sorted c.args.limits c.args.depth c.args.q c.requires.fact c.requires.arm
-      c.match_token.ensures c.in-Yes.is c.open_else.ensures c.in-On.is
-      c.parse_block.ensures c.in-Done.is;
-}
+pub parse_else-returns-in_err-y-clause-did : goal.parse_else-returns-in_err-y-clause-did
+parse_else-returns-in_err-y-clause-did t c = λ c₀ a.
+    let a1 = after_placed (after_none c.args.p.now) c.match_token.ensures.same in
+    let a2 = after_kept a1 c.open_else.ensures.kept in
+    let a3 = after_kept a2 c.parse_block.ensures.kept in
+    let e = ap (matched_in c.match_token.new.self) c.in_ok-match_token.was ∙ ap (matched_if c.match_token.new.self) c.if-branch.true in
+    let g = else_of a1 (c.open_else.ensures.opens c₀ (else_arm c.args.p.now.program.limits c.args.depth c.args.q c.requires.reading a c.match_token.ensures.matches e)) in
+    let i = ap (opened_in c.open_else.new.p) c.in_ok-b.was in
+    let u = did_of a2 c.parse_block.ensures in
+    let x = err_from_is_err_and c.from_residual-in_err-y.result c.from_residual-in_err-y.ensures.1 in
+    rw (x.1, x.2) (finish_from a3 (else_no2 c.args.p.now.program.limits c.args.depth c.args.q c.requires.reading a c.match_token.ensures.matches e g i
+    {p = parsed_in c.parse_block.new.p c.parse_block.result} u (ap (parsed_in c.parse_block.new.p) c.in_err-y.was)))
 
-pub parse_else-returns-in-Refused : goal.parse_else-returns-in-Refused
-parse_else-returns-in-Refused t c =
-    else_none c.args.limits c.args.depth c.args.q c.requires.fact c.requires.arm c.match_token.ensures c.in-Refused.is
+pub parse_else-finish_else-requires-clause-within : goal.parse_else-finish_else-requires-clause-within
+parse_else-finish_else-requires-clause-within t c =
+    let a = c.requires.arm.arm in
+    let a1 = after_placed (after_none c.args.p.now) c.match_token.ensures.same in
+    let a2 = after_kept a1 c.open_else.ensures.kept in
+    let a3 = after_kept a2 c.parse_block.ensures.kept in
+    let e = ap (matched_in c.match_token.new.self) c.in_ok-match_token.was ∙ ap (matched_if c.match_token.new.self) c.if-branch.true in
+    let g = else_of a1 (c.open_else.ensures.opens c.requires.arm.from (else_arm c.args.p.now.program.limits c.args.depth c.args.q c.requires.reading a c.match_token.ensures.matches e)) in
+    let i = ap (opened_in c.open_else.new.p) c.in_ok-b.was in
+    let u = did_of a2 c.parse_block.ensures in
+    let j = ap (parsed_in c.parse_block.new.p) c.in_ok-y.was in
+    record {
+      from = c.requires.arm.from;
+      place = a.place;
+      inside = else_inside c.args.p.now.program.limits c.args.depth c.args.q c.requires.reading a c.match_token.ensures.matches e g i
+          {p = parsed_in c.parse_block.new.p c.parse_block.result} u j;
+    }
 
-pub parse_else-returns-in-Not : goal.parse_else-returns-in-Not
-parse_else-returns-in-Not t c =
-    else_bare c.args.limits c.args.depth c.args.q c.requires.fact c.requires.arm c.match_token.ensures c.in-Not.is
-    c.finish_if.ensures
+pub parse_else-finish_else-requires-clause-join_lt_blocks : goal.parse_else-finish_else-requires-clause-join_lt_blocks
+parse_else-finish_else-requires-clause-join_lt_blocks t c =
+    let a = c.requires.arm.arm in
+    let a1 = after_placed (after_none c.args.p.now) c.match_token.ensures.same in
+    let a2 = after_kept a1 c.open_else.ensures.kept in
+    let a3 = after_kept a2 c.parse_block.ensures.kept in
+    let e = ap (matched_in c.match_token.new.self) c.in_ok-match_token.was ∙ ap (matched_if c.match_token.new.self) c.if-branch.true in
+    let g = else_of a1 (c.open_else.ensures.opens c.requires.arm.from (else_arm c.args.p.now.program.limits c.args.depth c.args.q c.requires.reading a c.match_token.ensures.matches e)) in
+    let i = ap (opened_in c.open_else.new.p) c.in_ok-b.was in
+    let u = did_of a2 c.parse_block.ensures in
+    let j = ap (parsed_in c.parse_block.new.p) c.in_ok-y.was in
+    else_join c.args.p.now.program.limits c.args.depth c.args.q c.requires.reading a c.match_token.ensures.matches e g i {p = parsed_in c.parse_block.new.p c.parse_block.result} u j
 
-pub parse_else-returns-in-Refused-open_else : goal.parse_else-returns-in-Refused-open_else
-parse_else-returns-in-Refused-open_else t c =
-    else_no c.args.limits c.args.depth c.args.q c.requires.fact c.requires.arm c.match_token.ensures c.in-Yes.is
-    c.open_else.ensures c.in-Refused-open_else.is
+pub parse_else-finish_else-requires-clause-sorted : goal.parse_else-finish_else-requires-clause-sorted
+parse_else-finish_else-requires-clause-sorted t c =
+    let a = c.requires.arm.arm in
+    let a1 = after_placed (after_none c.args.p.now) c.match_token.ensures.same in
+    let a2 = after_kept a1 c.open_else.ensures.kept in
+    let a3 = after_kept a2 c.parse_block.ensures.kept in
+    let e = ap (matched_in c.match_token.new.self) c.in_ok-match_token.was ∙ ap (matched_if c.match_token.new.self) c.if-branch.true in
+    let g = else_of a1 (c.open_else.ensures.opens c.requires.arm.from (else_arm c.args.p.now.program.limits c.args.depth c.args.q c.requires.reading a c.match_token.ensures.matches e)) in
+    let i = ap (opened_in c.open_else.new.p) c.in_ok-b.was in
+    let u = did_of a2 c.parse_block.ensures in
+    let j = ap (parsed_in c.parse_block.new.p) c.in_ok-y.was in
+    rw (a3.kept.script, place_aside c.requires.arm.from a.place) (else_sorted c.args.p.now.program.limits c.args.depth c.args.q c.requires.reading a
+    c.match_token.ensures.matches e g i
+    {p = parsed_in c.parse_block.new.p c.parse_block.result} u j)
 
-pub parse_else-returns-in-Refused-parse_block : goal.parse_else-returns-in-Refused-parse_block
-parse_else-returns-in-Refused-parse_block t c =
-    else_no2 c.args.limits c.args.depth c.args.q c.requires.fact c.requires.arm c.match_token.ensures c.in-Yes.is
-    c.open_else.ensures c.in-On.is c.parse_block.ensures c.in-Refused-parse_block.is
+pub parse_else-returns-then-branch-clause-did : goal.parse_else-returns-then-branch-clause-did
+parse_else-returns-then-branch-clause-did t c = λ c₀ a.
+    let a1 = after_placed (after_none c.args.p.now) c.match_token.ensures.same in
+    let a2 = after_kept a1 c.open_else.ensures.kept in
+    let a3 = after_kept a2 c.parse_block.ensures.kept in
+    let e = ap (matched_in c.match_token.new.self) c.in_ok-match_token.was ∙ ap (matched_if c.match_token.new.self) c.if-branch.true in
+    let g = else_of a1 (c.open_else.ensures.opens c₀ (else_arm c.args.p.now.program.limits c.args.depth c.args.q c.requires.reading a c.match_token.ensures.matches e)) in
+    let i = ap (opened_in c.open_else.new.p) c.in_ok-b.was in
+    let u = did_of a2 c.parse_block.ensures in
+    let j = ap (parsed_in c.parse_block.new.p) c.in_ok-y.was in
+    finish_from (after_kept a3 c.finish_else.ensures.kept)
+    (else_yes c.args.p.now.program.limits c.args.depth c.args.q c.requires.reading a c.match_token.ensures.matches e g i
+    {p = parsed_in c.parse_block.new.p c.parse_block.result} u j {o = parsed_in c.finish_else.new.p c.finish_else.result}
+    (finishes_of a3 (c.finish_else.ensures.finishes c₀ a.place (else_inside c.args.p.now.program.limits c.args.depth c.args.q c.requires.reading a
+    c.match_token.ensures.matches e g i
+    {p = parsed_in c.parse_block.new.p c.parse_block.result} u j))))
 
-pub parse_else-returns-in-Done : goal.parse_else-returns-in-Done
-parse_else-returns-in-Done t c =
-    else_yes c.args.limits c.args.depth c.args.q c.requires.fact c.requires.arm c.match_token.ensures c.in-Yes.is
-    c.open_else.ensures c.in-On.is c.parse_block.ensures c.in-Done.is c.finish_else.ensures
+pub parse_else-returns-clause-did : goal.parse_else-returns-clause-did
+parse_else-returns-clause-did t c = λ c₀ a.
+    let a1 = after_placed (after_none c.args.p.now) c.match_token.ensures.same in
+    let e = ap (matched_in c.match_token.new.self) c.in_ok-match_token.was ∙ ap (matched_if c.match_token.new.self) c.if-branch.false in
+    let z = c.match_token.ensures.stays (c.in_ok-match_token.was ∙ ap Ok c.if-branch.false) in
+    let d = rw z at c.finish_if.ensures.did in
+    finish_from (after_kept a1 c.finish_if.ensures.kept)
+    (else_bare c.args.p.now.program.limits c.args.depth c.args.q c.requires.reading a c.match_token.ensures.matches e (d c₀ a).did)
 
-pub parse_if-parse_expr-requires : goal.parse_if-parse_expr-requires
-parse_if-parse_expr-requires t c = record { fact = c.requires.fact; small = c.requires.small }
+pub parse_if-returns-in_err-cond : goal.parse_if-returns-in_err-cond
+parse_if-returns-in_err-cond t c =
+    let a1 = after_kept (after_none c.args.p.now) c.parse_expr.ensures.kept in
+    let x = err_from_is_err_and c.from_residual.result c.from_residual.ensures.1 in
+    rw (x.1, x.2) (finish a1 (if_no c.args.p.now.program.limits c.args.depth
+    {p = parsed_in c.parse_expr.new.p c.parse_expr.result} c.parse_expr.ensures.did (ap (parsed_in c.parse_expr.new.p) c.in_err-cond.was)))
 
-pub parse_if-new_block-requires : goal.parse_if-new_block-requires
-parse_if-new_block-requires t c = record { program_ready = (expr_in _ _ _ c.parse_expr.ensures c.in-Done.is).ready.tables; small = c.requires.small }
+pub parse_if-returns-in_err-first : goal.parse_if-returns-in_err-first
+parse_if-returns-in_err-first t c =
+    let a1 = after_kept (after_none c.args.p.now) c.parse_expr.ensures.kept in
+    let a2 = after_adds a1 c.new_block.ensures.kept in
+    let e = ap (parsed_in c.parse_expr.new.p) c.in_ok-cond.was in
+    let b = opens_of a1 c.new_block.ensures in
+    let x = err_from_is_err_and c.from_residual-in_err-first.result c.from_residual-in_err-first.ensures.1 in
+    rw (x.1, x.2) (finish a2 (if_no2 c.args.p.now.program.limits c.args.depth
+    {p = parsed_in c.parse_expr.new.p c.parse_expr.result} c.parse_expr.ensures.did e b (ap (opened_in c.new_block.new.p) c.in_err-first.was)))
 
-pub parse_if-new_block-requires-in-On : goal.parse_if-new_block-requires-in-On
-parse_if-new_block-requires-in-On t c = record { program_ready = (if_in2 _ _ c.parse_expr.ensures c.in-Done.is c.new_block.ensures c.in-On.is).ready.tables; small = c.requires.small }
+pub parse_if-returns-in_err-join : goal.parse_if-returns-in_err-join
+parse_if-returns-in_err-join t c =
+    let a1 = after_kept (after_none c.args.p.now) c.parse_expr.ensures.kept in
+    let a2 = after_adds a1 c.new_block.ensures.kept in
+    let a3 = after_adds a2 c.new_block-2.ensures.kept in
+    let e = ap (parsed_in c.parse_expr.new.p) c.in_ok-cond.was in
+    let b = opens_of a1 c.new_block.ensures in
+    let f = ap (opened_in c.new_block.new.p) c.in_ok-first.was in
+    let g = opens_of a2 c.new_block-2.ensures in
+    let x = err_from_is_err_and c.from_residual-in_err-join.result c.from_residual-in_err-join.ensures.1 in
+    rw (x.1, x.2) (finish a3 (if_no3 c.args.p.now.program.limits c.args.depth
+    {p = parsed_in c.parse_expr.new.p c.parse_expr.result} c.parse_expr.ensures.did e b f g
+    (ap (opened_in c.new_block-2.new.p) c.in_err-join.was)))
 
 pub parse_if-parse_block-requires : goal.parse_if-parse_block-requires
-parse_if-parse_block-requires t c = (
-  omega (
-    arith,
-    c.decreases,
-  ),
-  (
-    if_in3 _ _ c.parse_expr.ensures c.in-Done.is c.new_block.ensures c.in-On.is
-        c.new_block-in-On.ensures c.in-On-new_block.is c.at_block.ensures,
-    c.requires.small,
-  ),
-)
+parse_if-parse_block-requires t c =
+    let a1 = after_kept (after_none c.args.p.now) c.parse_expr.ensures.kept in
+    let a2 = after_adds a1 c.new_block.ensures.kept in
+    let a3 = after_adds a2 c.new_block-2.ensures.kept in
+    let a4 = after_block a3 c.in_ok-first.first in
+    let e = ap (parsed_in c.parse_expr.new.p) c.in_ok-cond.was in
+    let b = opens_of a1 c.new_block.ensures in
+    let f = ap (opened_in c.new_block.new.p) c.in_ok-first.was in
+    let g = opens_of a2 c.new_block-2.ensures in
+    let i = ap (opened_in c.new_block-2.new.p) c.in_ok-join.was in
+    (omega (arith, c.decreases), reading_of a4 (if_in3 c.args.p.now.program.limits c.args.depth {p = parsed_in c.parse_expr.new.p c.parse_expr.result} c.parse_expr.ensures.did e b f g i refl))
+
+pub parse_if-returns-in_err-value : goal.parse_if-returns-in_err-value
+parse_if-returns-in_err-value t c =
+    let a1 = after_kept (after_none c.args.p.now) c.parse_expr.ensures.kept in
+    let a2 = after_adds a1 c.new_block.ensures.kept in
+    let a3 = after_adds a2 c.new_block-2.ensures.kept in
+    let a4 = after_block a3 c.in_ok-first.first in
+    let a5 = after_kept a4 c.parse_block.ensures.kept in
+    let e = ap (parsed_in c.parse_expr.new.p) c.in_ok-cond.was in
+    let b = opens_of a1 c.new_block.ensures in
+    let f = ap (opened_in c.new_block.new.p) c.in_ok-first.was in
+    let g = opens_of a2 c.new_block-2.ensures in
+    let i = ap (opened_in c.new_block-2.new.p) c.in_ok-join.was in
+    let u = did_of a4 c.parse_block.ensures in
+    let x = err_from_is_err_and c.from_residual-in_err-value.result c.from_residual-in_err-value.ensures.1 in
+    rw (x.1, x.2) (finish a5 (if_no4 c.args.p.now.program.limits c.args.depth
+    {p = parsed_in c.parse_expr.new.p c.parse_expr.result} c.parse_expr.ensures.did e b f g i refl
+    {o = parsed_in c.parse_block.new.p c.parse_block.result} u (ap (parsed_in c.parse_block.new.p) c.in_err-value.was)))
 
 pub parse_if-parse_else-requires : goal.parse_if-parse_else-requires
-parse_if-parse_else-requires t c = (
-  omega (
-    arith,
-    c.decreases,
-  ),
-  (
-    if_in4 _ _ c.parse_expr.ensures c.in-Done.is c.new_block.ensures c.in-On.is
-        c.new_block-in-On.ensures c.in-On-new_block.is c.at_block.ensures c.parse_block.ensures
-        c.in-Done-parse_block.is,
-    (
-      c.requires.small,
-      if_arm _ _ c.parse_expr.ensures c.in-Done.is c.new_block.ensures c.in-On.is
-          c.new_block-in-On.ensures c.in-On-new_block.is c.at_block.ensures
-          c.parse_block.ensures c.in-Done-parse_block.is refl,
-    ),
-  ),
-)
+parse_if-parse_else-requires t c =
+    let a1 = after_kept (after_none c.args.p.now) c.parse_expr.ensures.kept in
+    let a2 = after_adds a1 c.new_block.ensures.kept in
+    let a3 = after_adds a2 c.new_block-2.ensures.kept in
+    let a4 = after_block a3 c.in_ok-first.first in
+    let a5 = after_kept a4 c.parse_block.ensures.kept in
+    let e = ap (parsed_in c.parse_expr.new.p) c.in_ok-cond.was in
+    let b = opens_of a1 c.new_block.ensures in
+    let f = ap (opened_in c.new_block.new.p) c.in_ok-first.was in
+    let g = opens_of a2 c.new_block-2.ensures in
+    let i = ap (opened_in c.new_block-2.new.p) c.in_ok-join.was in
+    let u = did_of a4 c.parse_block.ensures in
+    let z = ap (parsed_in c.parse_block.new.p) c.in_ok-value.was in (
+      omega (arith, c.decreases),
+      (
+        reading_of a5 (if_in4 c.args.p.now.program.limits c.args.depth
+            {p = parsed_in c.parse_expr.new.p c.parse_expr.result} c.parse_expr.ensures.did e b f g i refl
+            {o = parsed_in c.parse_block.new.p c.parse_block.result} u z),
+        record {
+          from = cursor_of c.parse_expr.new.p;
+          arm = if_arm c.args.p.now.program.limits c.args.depth
+              {p = parsed_in c.parse_expr.new.p c.parse_expr.result} c.parse_expr.ensures.did e b f g i refl
+              {o = parsed_in c.parse_block.new.p c.parse_block.result} u z refl refl;
+        },
+      ),
+    )
 
-pub parse_if-returns-in-Refused : goal.parse_if-returns-in-Refused
-parse_if-returns-in-Refused t c =
-    if_no _ _ c.parse_expr.ensures c.in-Refused.is
+pub parse_if-returns : goal.parse_if-returns
+parse_if-returns t c =
+    let a1 = after_kept (after_none c.args.p.now) c.parse_expr.ensures.kept in
+    let a2 = after_adds a1 c.new_block.ensures.kept in
+    let a3 = after_adds a2 c.new_block-2.ensures.kept in
+    let a4 = after_block a3 c.in_ok-first.first in
+    let a5 = after_kept a4 c.parse_block.ensures.kept in
+    let e = ap (parsed_in c.parse_expr.new.p) c.in_ok-cond.was in
+    let b = opens_of a1 c.new_block.ensures in
+    let f = ap (opened_in c.new_block.new.p) c.in_ok-first.was in
+    let g = opens_of a2 c.new_block-2.ensures in
+    let i = ap (opened_in c.new_block-2.new.p) c.in_ok-join.was in
+    let u = did_of a4 c.parse_block.ensures in
+    let z = ap (parsed_in c.parse_block.new.p) c.in_ok-value.was in
+    finish (after_kept a5 c.parse_else.ensures.kept)
+    (if_yes c.args.p.now.program.limits c.args.depth {p = parsed_in c.parse_expr.new.p c.parse_expr.result} c.parse_expr.ensures.did e b f g i refl
+    {o = parsed_in c.parse_block.new.p c.parse_block.result} u z
+    (from_of a5 (c.parse_else.ensures.did (cursor_of c.parse_expr.new.p)
+    (if_arm c.args.p.now.program.limits c.args.depth
+    {p = parsed_in c.parse_expr.new.p c.parse_expr.result} c.parse_expr.ensures.did e b f g i refl
+    {o = parsed_in c.parse_block.new.p c.parse_block.result} u z refl refl))))
 
-pub parse_if-returns-in-Refused-new_block : goal.parse_if-returns-in-Refused-new_block
-parse_if-returns-in-Refused-new_block t c =
-    if_no2 _ _ c.parse_expr.ensures c.in-Done.is c.new_block.ensures c.in-Refused-new_block.is
-
-pub parse_if-returns-in-Refused-new_block-2 : goal.parse_if-returns-in-Refused-new_block-2
-parse_if-returns-in-Refused-new_block-2 t c =
-    if_no3 _ _ c.parse_expr.ensures c.in-Done.is c.new_block.ensures c.in-On.is c.new_block-in-On.ensures c.in-Refused-new_block-2.is
-
-pub parse_if-returns-in-Refused-parse_block : goal.parse_if-returns-in-Refused-parse_block
-parse_if-returns-in-Refused-parse_block t c =
-    if_no4 _ _ c.parse_expr.ensures c.in-Done.is c.new_block.ensures c.in-On.is c.new_block-in-On.ensures c.in-On-new_block.is
-    c.at_block.ensures c.parse_block.ensures c.in-Refused-parse_block.is
-
-pub parse_if-returns-in-Done-parse_block : goal.parse_if-returns-in-Done-parse_block
-parse_if-returns-in-Done-parse_block t c =
-    if_yes _ _ c.parse_expr.ensures c.in-Done.is c.new_block.ensures c.in-On.is c.new_block-in-On.ensures c.in-On-new_block.is
-    c.at_block.ensures c.parse_block.ensures c.in-Done-parse_block.is c.parse_else.ensures
-
-pub parse_statement-parse_return-requires : goal.parse_statement-parse_return-requires
-parse_statement-parse_return-requires t c = record {
-  fact = state_in c.args.limits
-      c.requires.fact
-      c.requires.sees
-      (λ z. omega (arith, c.if-x-eq-RETURN.true)) c.move_to.ensures;
-  small = c.requires.small;
-}
-
-pub parse_statement-returns-then-x-eq-RETURN : goal.parse_statement-returns-then-x-eq-RETURN
-parse_statement-returns-then-x-eq-RETURN t c =
-    state_return c.args.limits c.requires.fact c.requires.sees _ c.if-x-eq-RETURN.true c.move_to.ensures c.parse_return.ensures
+pub parse_statement-returns-then-eq : goal.parse_statement-returns-then-eq
+parse_statement-returns-then-eq t c =
+    let k : c.args.x.token ≡ T.Return = search rules in
+    let a1 = after_placed (after_none c.args.p.now) {at = c.args.x.next} refl in
+    finish (after_kept a1 c.parse_return.ensures.kept) (state_return c.args.p.now.program.limits c.requires.reading c.requires.sees c.args.depth k refl (did_of a1 c.parse_return.ensures))
 
 pub parse_statement-returns-then-depth-eq0 : goal.parse_statement-returns-then-depth-eq0
 parse_statement-returns-then-depth-eq0 t c =
-    state_deep c.args.limits c.requires.fact c.requires.sees _ c.if-x-eq-RETURN.false c.if-x-eq-IF.true c.if-depth-eq0.true
-
-pub parse_statement-overflow_sub-depth : goal.parse_statement-overflow_sub-depth
-parse_statement-overflow_sub-depth t c = omega (arith, c.if-depth-eq0.false)
+    let no : c.args.x.token ≡ T.Return → ⊥ = search rules in
+    let k : c.args.x.token ≡ T.If = search rules in
+    finish (after_none c.args.p.now) (state_deep c.args.p.now.program.limits c.requires.reading c.requires.sees c.args.depth no k c.if-depth-eq0.true)
 
 pub parse_statement-parse_if-requires : goal.parse_statement-parse_if-requires
-parse_statement-parse_if-requires t c = (
-  omega (
-    arith,
-    c.decreases,
-    c.if-depth-eq0.false,
-  ),
-  (
-    state_in c.args.limits
-        c.requires.fact
-        c.requires.sees
-        (λ z. omega (arith, c.if-x-eq-IF.true)) c.move_to-then-x-eq-IF.ensures,
-    c.requires.small,
-  ),
-)
+parse_statement-parse_if-requires t c =
+    let k : c.args.x.token ≡ T.If = search rules in
+    (omega (arith, c.decreases, c.if-depth-eq0.false), state_in c.args.p.now.program.limits c.requires.reading c.requires.sees (if_on k) refl)
 
-pub parse_statement-returns-then-x-eq-IF : goal.parse_statement-returns-then-x-eq-IF
-parse_statement-returns-then-x-eq-IF t c =
-    state_if c.args.limits c.requires.fact c.requires.sees _ c.if-x-eq-RETURN.false c.if-x-eq-IF.true c.if-depth-eq0.false c.move_to-then-x-eq-IF.ensures
-    c.parse_if.ensures
-
-pub parse_statement-parse_from-requires : goal.parse_statement-parse_from-requires
-parse_statement-parse_from-requires t c = record { fact = c.requires.fact; small = c.requires.small; sees = c.requires.sees }
+pub parse_statement-returns-then-eq-2 : goal.parse_statement-returns-then-eq-2
+parse_statement-returns-then-eq-2 t c =
+    let no : c.args.x.token ≡ T.Return → ⊥ = search rules in
+    let k : c.args.x.token ≡ T.If = search rules in
+    let a1 = after_placed (after_none c.args.p.now) {at = c.args.x.next} refl in
+    finish (after_kept a1 c.parse_if.ensures.kept) (state_if c.args.p.now.program.limits c.requires.reading c.requires.sees c.args.depth no k c.if-depth-eq0.false refl (did_of a1 c.parse_if.ensures))
 
 pub parse_statement-returns : goal.parse_statement-returns
 parse_statement-returns t c =
-    state_expr c.args.limits c.requires.fact c.requires.sees _ c.if-x-eq-RETURN.false c.if-x-eq-IF.false c.parse_from.ensures
+    let no : c.args.x.token ≡ T.Return → ⊥ = search rules in
+    let no2 : c.args.x.token ≡ T.If → ⊥ = search rules in
+    finish (after_kept (after_none c.args.p.now) c.parse_from.ensures.kept) (state_expr c.args.p.now.program.limits c.requires.reading c.requires.sees c.args.depth no no2 c.parse_from.ensures.did)
 
-pub parse_statements-loop-e-init : goal.parse_statements-loop-e-init
-parse_statements-loop-e-init t c =
-    going_start _ _ _ _ _ _ _ c.requires.fact
+pub parse_statements-loop-x-init : goal.parse_statements-loop-x-init
+parse_statements-loop-x-init t c =
+    record { kept = kept_none _; going = going_start c.args.p.now.program.limits _ c.args.arm c.args.depth _ _ _ c.requires }
 
-pub parse_statements-returns-in-Refused : goal.parse_statements-returns-in-Refused
-parse_statements-returns-in-Refused t c =
-    going_none c.loop-e.invariant c.at_end.ensures c.in-Refused.is
-
-pub parse_statements-returns-in-Here : goal.parse_statements-returns-in-Here
-parse_statements-returns-in-Here t c =
-    going_ends c.loop-e.invariant c.at_end.ensures c.in-Here.is
+pub parse_statements-returns-in_err-x : goal.parse_statements-returns-in_err-x
+parse_statements-returns-in_err-x t c =
+    let a = after_kept (after_none c.args.p.now) c.loop-x.invariant.kept in
+    let x = err_from_is_err_and c.from_residual.result c.from_residual.ensures.1 in
+    rw (x.1, x.2) (finish a (going_none c.loop-x.invariant.going (halts_of a c.word_ahead.ensures) (ap stops_in c.in_err-x.was)))
 
 pub parse_statements-parse_statement-requires : goal.parse_statements-parse_statement-requires
-parse_statements-parse_statement-requires t c = (
-  omega (arith, c.decreases),
-  (c.loop-e.invariant.here, (c.requires.small, c.at_end.ensures.next _ c.in-Not.is)),
-)
+parse_statements-parse_statement-requires t c =
+    let a = after_kept (after_none c.args.p.now) c.loop-x.invariant.kept in
+    (omega (arith, c.decreases), (reading_of a c.loop-x.invariant.going.here, c.word_ahead.ensures.next _ (ap stops_in c.in_ok-x.was ∙ ap stops_if c.in-Some.is)))
 
-pub parse_statements-returns-in-Refused-parse_statement : goal.parse_statements-returns-in-Refused-parse_statement
-parse_statements-returns-in-Refused-parse_statement t c =
-    going_no c.loop-e.invariant c.at_end.ensures c.in-Not.is c.parse_statement.ensures c.in-Refused-parse_statement.is
+pub parse_statements-returns-in_err-v : goal.parse_statements-returns-in_err-v
+parse_statements-returns-in_err-v t c =
+    let a = after_kept (after_none c.args.p.now) c.loop-x.invariant.kept in
+    let a1 = after_kept a c.parse_statement.ensures.kept in
+    let x = err_from_is_err_and c.from_residual-in_err-v.result c.from_residual-in_err-v.ensures.1 in
+    rw (x.1, x.2) (finish a1 (going_no c.loop-x.invariant.going (halts_of a c.word_ahead.ensures)
+    (ap stops_in c.in_ok-x.was ∙ ap stops_if c.in-Some.is) {p = parsed_in c.parse_statement.new.p c.parse_statement.result}
+    (did_of a c.parse_statement.ensures) (ap (parsed_in c.parse_statement.new.p) c.in_err-v.was)))
 
-pub parse_statements-loop-e-smaller : goal.parse_statements-loop-e-smaller
-parse_statements-loop-e-smaller t c =
-    going_less c.loop-e.invariant c.at_end.ensures c.in-Not.is c.parse_statement.ensures c.in-Done.is
+pub parse_statements-loop-x-smaller : goal.parse_statements-loop-x-smaller
+parse_statements-loop-x-smaller t c =
+    let a = after_kept (after_none c.args.p.now) c.loop-x.invariant.kept in
+    going_less c.loop-x.invariant.going (halts_of a c.word_ahead.ensures) (ap stops_in c.in_ok-x.was ∙ ap stops_if c.in-Some.is)
+    {p = parsed_in c.parse_statement.new.p c.parse_statement.result} (did_of a c.parse_statement.ensures)
+    (ap (parsed_in c.parse_statement.new.p) c.in_ok-v.was)
 
-pub parse_statements-loop-e-preserved : goal.parse_statements-loop-e-preserved
-parse_statements-loop-e-preserved t c =
-    going_on c.loop-e.invariant c.at_end.ensures c.in-Not.is c.parse_statement.ensures c.in-Done.is
-    c.parse_statement.auto.program c.parse_statement.auto.scratch
+pub parse_statements-loop-x-preserved : goal.parse_statements-loop-x-preserved
+parse_statements-loop-x-preserved t c =
+    let a = after_kept (after_none c.args.p.now) c.loop-x.invariant.kept in
+    let a1 = after_kept a c.parse_statement.ensures.kept in
+    record {
+      kept = a1.kept;
+      going = going_on c.loop-x.invariant.going (halts_of a c.word_ahead.ensures) (ap stops_in c.in_ok-x.was ∙ ap stops_if c.in-Some.is)
+          {p = parsed_in c.parse_statement.new.p c.parse_statement.result} (did_of a c.parse_statement.ensures)
+          (ap (parsed_in c.parse_statement.new.p) c.in_ok-v.was);
+    }
+
+pub parse_statements-returns : goal.parse_statements-returns
+parse_statements-returns t c =
+    let a = after_kept (after_none c.args.p.now) c.loop-x.invariant.kept in
+    finish a (going_ends c.loop-x.invariant.going (halts_of a c.word_ahead.ensures) (ap stops_in c.in_ok-x.was ∙ ap stops_if c.in_default.is))

@@ -1,7 +1,7 @@
 -- What falls at each call in the cycle `statement`, and what its loops keep.
 use Prim.Native.Nat.{◌*◌, ◌+◌, ◌-◌}
-use Rattle.statements.proofs.Cycle.{Going}
 use lib.ListN.{length}
+use Rattle.statements.proofs.Standing.{StatementsStand}
 use Rattle.statements.proofs.+statement.Given as goal
 
 abbrev pub decreases-parse_block : goal.decreases-parse_block
@@ -19,8 +19,8 @@ decreases-parse_statement l = 5 * l.depth
 abbrev pub decreases-parse_statements : goal.decreases-parse_statements
 decreases-parse_statements l = 5 * l.depth + 1
 
-abbrev pub invariant-parse_statements-loop-e : goal.invariant-parse_statements-loop-e
-invariant-parse_statements-loop-e l = Going l.limits l.script l.arm l.depth l.initial.program l.initial.scratch l.initial.cur l.program l.scratch l.cur l.v
+abbrev pub invariant-parse_statements-loop-x : goal.invariant-parse_statements-loop-x
+invariant-parse_statements-loop-x l = StatementsStand l.arm l.depth l.initial.p l.p l.v
 
-abbrev pub decreases-parse_statements-loop-e : goal.decreases-parse_statements-loop-e
-decreases-parse_statements-loop-e l = length l.script - l.cur.at
+abbrev pub decreases-parse_statements-loop-x : goal.decreases-parse_statements-loop-x
+decreases-parse_statements-loop-x l = length l.initial.p.script.now - l.p.at

@@ -1,11 +1,23 @@
 -- `statements::end_block` meets its contract. Assumes nothing.
+use Rattle.cursor.specs.Parsers.{cursor_of}
 use Rattle.statements.proofs.Paths.{ends_shut, ends_open}
+use Rattle.statements.proofs.Standing.{adds_none}
 use Rattle.statements.proofs.end_block.Goals as goal
 
 pub returns-then-is_terminated : goal.returns-then-is_terminated
 returns-then-is_terminated c =
-    ends_shut _ _ _ _ _ c.requires.program_ready c.is_terminated.ensures c.if-is_terminated.true
+    record {
+      kept = adds_none _;
+      ends =
+          ends_shut c.args.p.now.program.limits c.args.op c.args.g _ (cursor_of c.args.p.now) c.args.p.now.program.ready
+          (rw (c.program-program.ensures.words, c.program-program.ensures.counts) at c.is_terminated.ensures) c.if-is_terminated.true;
+    }
 
 pub returns : goal.returns
 returns c =
-    ends_open _ _ _ _ _ c.requires.program_ready c.is_terminated.ensures c.if-is_terminated.false c.add_end.ensures
+    record {
+      kept = c.add_end.ensures.kept;
+      ends =
+          ends_open c.args.p.now.program.limits c.args.op c.args.g _ (cursor_of c.args.p.now) c.args.p.now.program.ready
+          (rw (c.program-program.ensures.words, c.program-program.ensures.counts) at c.is_terminated.ensures) c.if-is_terminated.false c.add_end.ensures.adds;
+    }

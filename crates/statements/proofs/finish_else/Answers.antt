@@ -1,17 +1,22 @@
 -- `statements::finish_else` meets its contract. Assumes nothing.
-use Rattle.statements.proofs.Paths.{both_no, both_in, both_yes}
+use mathlib.Core.Path.{ap}
+use Rattle.std.proofs.lemmas.Result.{err_from_is_err_and}
+use Rattle.cursor.specs.Parsers.{parsed_in, moved_in}
+use Rattle.cursor.proofs.Kept.{after_none, after_kept, did_of}
+use Rattle.statements.proofs.Paths.{both_no, both_yes}
+use Rattle.statements.proofs.Standing.{finish_arms}
 use Rattle.statements.proofs.finish_else.Goals as goal
 
-pub join_value-requires-clause-fact : goal.join_value-requires-clause-fact
-join_value-requires-clause-fact c = both_in c.args.limits c.args.q c.args.b c.args.y c.join_vars.ensures c.in-On.is
+pub returns-in_err-join_vars-clause-finishes : goal.returns-in_err-join_vars-clause-finishes
+returns-in_err-join_vars-clause-finishes c = λ c₀ e i.
+    let a1 = after_kept (after_none c.args.p.now) c.join_vars.ensures.kept in
+    let x = err_from_is_err_and c.from_residual.result c.from_residual.ensures.1 in
+    rw (x.1, x.2)
+    (finish_arms a1 (both_no c.args.p.now.program.limits c.args.q c.args.b c.args.y (c.join_vars.ensures.joins c₀ e i).joins (ap (moved_in c.join_vars.new.p) c.in_err-join_vars.was)))
 
-pub join_value-requires-clause-small : goal.join_value-requires-clause-small
-join_value-requires-clause-small c = c.requires.small
-
-pub returns-in-On : goal.returns-in-On
-returns-in-On c =
-    both_yes _ _ _ _ c.join_vars.ensures c.in-On.is c.join_value.ensures
-
-pub returns-in-Refused : goal.returns-in-Refused
-returns-in-Refused c =
-    both_no _ _ _ _ c.join_vars.ensures c.in-Refused.is
+pub returns-clause-finishes : goal.returns-clause-finishes
+returns-clause-finishes c = λ c₀ e i.
+    let a1 = after_kept (after_none c.args.p.now) c.join_vars.ensures.kept in
+    finish_arms (after_kept a1 c.join_value.ensures.kept)
+    (both_yes c.args.p.now.program.limits c.args.q c.args.b c.args.y (c.join_vars.ensures.joins c₀ e i).joins (ap (moved_in c.join_vars.new.p) c.in_ok-join_vars.was)
+    {p = parsed_in c.join_value.new.p c.join_value.result} (did_of a1 c.join_value.ensures))

@@ -1,24 +1,25 @@
 -- `statements::join_value` meets its contract. Assumes nothing.
-use Rattle.statements.proofs.Paths.{value_no, value_in_lem, value_no2, value-yes}
+use mathlib.Core.Path.{ap}
+use Rattle.std.proofs.lemmas.Result.{err_from_is_err_and}
+use Rattle.cursor.specs.Parsers.{moved_in}
+use Rattle.cursor.proofs.Kept.{after_none, after_placed, finish}
+use Rattle.statements.proofs.Paths.{value_no, value_in_lem}
+use Rattle.statements.proofs.Standing.{value_ends, after_draft}
 use Rattle.statements.proofs.join_value.Goals as goal
 
-pub phi-requires-clause-program_ready : goal.phi-requires-clause-program_ready
-phi-requires-clause-program_ready c = (value_in_lem c.requires.fact c.expect.ensures c.in-On.is).ready.tables
+pub returns-in_err-expect : goal.returns-in_err-expect
+returns-in_err-expect c =
+    let x = err_from_is_err_and c.from_residual.result c.from_residual.ensures.1 in
+    rw (x.1, x.2)
+    (finish (after_placed (after_none c.args.p.now) c.expect.ensures.same)
+    (value_no c.args.p.now.program.limits c.args.left c.args.v c.args.right c.args.x c.requires c.expect.ensures.expects (ap (moved_in c.expect.new.self) c.in_err-expect.was)))
 
-pub phi-requires-clause-small : goal.phi-requires-clause-small
-phi-requires-clause-small c = c.requires.small
+pub phi-requires : goal.phi-requires
+phi-requires c = record { at_lt_blocks = (value_in_lem c.requires c.expect.ensures.expects (ap (moved_in c.expect.new.self) c.in_ok-expect.was)).block }
 
-pub phi-requires-clause-at_lt_blocks : goal.phi-requires-clause-at_lt_blocks
-phi-requires-clause-at_lt_blocks c = (value_in_lem c.requires.fact c.expect.ensures c.in-On.is).block
-
-pub returns-in-Of : goal.returns-in-Of
-returns-in-Of c =
-    value-yes _ _ _ _ _ c.requires.fact c.expect.ensures c.in-On.is c.phi.ensures c.in-Of.is c.counted.ensures
-
-pub returns-in-Refused-phi : goal.returns-in-Refused-phi
-returns-in-Refused-phi c =
-    value_no2 _ _ _ _ _ c.requires.fact c.expect.ensures c.in-On.is c.phi.ensures c.in-Refused-phi.is
-
-pub returns-in-Refused : goal.returns-in-Refused
-returns-in-Refused c =
-    value_no c.args.limits c.args.left c.args.v c.args.right c.args.x c.requires.fact c.expect.ensures c.in-Refused.is
+pub returns : goal.returns
+returns c =
+    let a1 = after_placed (after_none c.args.p.now) c.expect.ensures.same in
+    finish (after_draft a1 c.phi.new.draft c.phi.ensures.kept)
+    (rw a1.kept.limits at (value_ends c.args.left c.args.v c.args.right c.args.x c.requires c.expect.ensures.expects c.expect.new.self c.phi.new.draft c.phi.result
+    (ap (moved_in c.expect.new.self) c.in_ok-expect.was) (rw a1.words at c.phi.ensures.did)))

@@ -1,31 +1,28 @@
 -- `statements::join_vars` meets its contract. Assumes nothing.
-use native.Mathlib.Omega.{arith}
-use Rattle.statements.proofs.Paths.{joins-fit, vars_no, vars-on, placed}
+use mathlib.Core.Path.{refl, ap}
+use Rattle.std.proofs.lemmas.Result.{err_from_is_err_and}
+use Rattle.cursor.specs.Cursor.{count_cur}
+use Rattle.cursor.specs.Parsers.{cursor_of}
+use Rattle.statements.specs.declared.Before.{Before}
+use Rattle.statements.specs.Shape.{block_cur, vars_cur}
+use Rattle.statements.proofs.Paths.{place_vars, place_aside, vars_no, vars-on}
 use Rattle.statements.proofs.join_vars.Goals as goal
 
-pub join_arms-requires-clause-program_ready : goal.join_arms-requires-clause-program_ready
-join_arms-requires-clause-program_ready c = c.requires.fact.ready.tables
+pub returns-in_err-p-clause-joins : goal.returns-in_err-p-clause-joins
+returns-in_err-p-clause-joins c = λ c₀ e i.
+    let x = err_from_is_err_and c.from_residual.result c.from_residual.ensures.1 in
+    rw (x.1, x.2)
+    (record {
+      joins =
+          vars_no c.requires.reading i c.args.p.now.program.limits c.args.q c.requires.at_lt_blocks
+          (rw (place_vars c₀ e, place_aside c₀ e) at c.join_arms.ensures.did) c.in_err-p.was refl;
+    })
 
-pub join_arms-requires-clause-small : goal.join_arms-requires-clause-small
-join_arms-requires-clause-small c = c.requires.small
-
-pub join_arms-requires-clause-at_lt_blocks : goal.join_arms-requires-clause-at_lt_blocks
-join_arms-requires-clause-at_lt_blocks c = c.requires.at_lt_blocks
-
-pub join_arms-requires-clause-variables_size_in_bounds : goal.join_arms-requires-clause-variables_size_in_bounds
-join_arms-requires-clause-variables_size_in_bounds c = omega (arith, c.requires.fact.ready.scratch)
-
-pub join_arms-requires-clause-arms : goal.join_arms-requires-clause-arms
-join_arms-requires-clause-arms c = joins-fit c.requires.fact c.requires.statement_inside
-
-pub join_arms-requires-clause-sorted : goal.join_arms-requires-clause-sorted
-join_arms-requires-clause-sorted c = c.requires.sorted
-
-pub returns-in-On : goal.returns-in-On
-returns-in-On c =
-    vars-on c.requires.fact c.requires.statement_inside _ _ c.requires.at_lt_blocks c.join_arms.ensures c.in-On.is
-    (placed c.requires.fact c.at_block.ensures c.with_vars.ensures c.counted.ensures)
-
-pub returns-in-Refused : goal.returns-in-Refused
-returns-in-Refused c =
-    vars_no c.requires.fact c.requires.statement_inside _ _ c.requires.at_lt_blocks c.join_arms.ensures c.in-Refused.is
+pub returns-clause-joins : goal.returns-clause-joins
+returns-clause-joins c = λ c₀ e i.
+    record {
+      joins =
+          vars-on c.requires.reading i c.args.p.now.program.limits c.args.q c.requires.at_lt_blocks
+          (rw (place_vars c₀ e, place_aside c₀ e) at c.join_arms.ensures.did) c.in_ok-p.was
+          (ap (λ (z : Before). block_cur c.args.q.at (vars_cur c.in_ok-p.field-0 z.aside (count_cur c.join_arms.new.draft.counts (cursor_of c.args.p.now)))) e);
+    }

@@ -1,52 +1,70 @@
 -- `statements::open_else` meets its contract. Assumes nothing.
+use mathlib.Core.Path.{ap}
+use Prim.Native.Nat.{◌+◌}
 use native.Mathlib.Omega.{arith}
-use Rattle.statements.proofs.Paths.{open_no, open_in, open_before, open_no2, open_old, open_part, open_in2, open_yes, placed2}
+use Rattle.std.proofs.lemmas.Result.{err_from_is_err_and}
+use Rattle.cursor.specs.Parsers.{cursor_of, moved_in}
+use Rattle.cursor.proofs.Kept.{after_none, after_adds}
+use Rattle.statements.specs.declared.Before.{Before}
+use Rattle.statements.specs.Shape.{block_cur, vars_cur, opened_in}
+use Rattle.statements.proofs.Paths.{place_vars, place_aside, open_no, open_no2, open_old, open_part, open_yes}
+use Rattle.statements.proofs.Standing.{adds_of, finish_opens}
 use Rattle.statements.proofs.open_else.Goals as goal
 
-pub add_end-requires-clause-program_ready : goal.add_end-requires-clause-program_ready
-add_end-requires-clause-program_ready c = (open_in _ _ c.requires.fact c.requires.arm c.new_block.ensures c.in-On.is).ready.tables
+pub returns-in_err-b-clause-opens : goal.returns-in_err-b-clause-opens
+returns-in_err-b-clause-opens c = λ c₀ a.
+    let a1 = after_adds (after_none c.args.p.now) c.new_block.ensures.kept in
+    let x = err_from_is_err_and c.from_residual.result c.from_residual.ensures.1 in
+    rw (x.1, x.2)
+    (finish_opens a1 (open_no c.args.p.now.program.limits c.args.q c.requires.reading a c.new_block.ensures.opens (ap (opened_in c.new_block.new.p) c.in_err-b.was)))
 
-pub add_end-requires-clause-small : goal.add_end-requires-clause-small
-add_end-requires-clause-small c = c.requires.small
+pub returns-in_err-add_end-clause-opens : goal.returns-in_err-add_end-clause-opens
+returns-in_err-add_end-clause-opens c = λ c₀ a.
+    let a1 = after_adds (after_none c.args.p.now) c.new_block.ensures.kept in
+    let a2 = after_adds a1 c.add_end.ensures.kept in
+    let x = err_from_is_err_and c.from_residual-in_err-add_end.result c.from_residual-in_err-add_end.ensures.1 in
+    rw (x.1, x.2)
+    (finish_opens a2
+    (open_no2 c.args.p.now.program.limits c.args.q c.requires.reading a c.new_block.ensures.opens (ap (opened_in c.new_block.new.p) c.in_ok-b.was)
+    (adds_of a1 c.add_end.ensures) (ap (moved_in c.add_end.new.p) c.in_err-add_end.was)))
 
-pub add_end-requires-clause-b_lt_blocks : goal.add_end-requires-clause-b_lt_blocks
-add_end-requires-clause-b_lt_blocks c = open_before _ _ c.requires.fact c.requires.arm c.new_block.ensures c.in-On.is
+pub overflow_sub-p : goal.overflow_sub-p
+overflow_sub-p c =
+    let a = c.requires.arm.arm in
+    let a1 = after_adds (after_none c.args.p.now) c.new_block.ensures.kept in
+    rw (place_vars c.requires.arm.from a.place)
+    (open_old c.args.p.now.program.limits c.args.q c.requires.reading a c.new_block.ensures.opens (ap (opened_in c.new_block.new.p) c.in_ok-b.was)
+    (adds_of a1 c.add_end.ensures) (ap (moved_in c.add_end.new.p) c.in_ok-add_end.was))
 
-pub overflow_sub-c2 : goal.overflow_sub-c2
-overflow_sub-c2 c =
-    open_old _ _ c.requires.fact c.requires.arm c.new_block.ensures c.in-On.is c.add_end.ensures c.in-On-add_end.is
+pub set_aside-n-requires-clause-k_bound : goal.set_aside-n-requires-clause-k_bound
+set_aside-n-requires-clause-k_bound c =
+    let a = c.requires.arm.arm in
+    let a1 = after_adds (after_none c.args.p.now) c.new_block.ensures.kept in
+    rw (place_vars c.requires.arm.from a.place, place_aside c.requires.arm.from a.place)
+    (open_part c.args.p.now.program.limits c.args.q c.requires.reading a c.new_block.ensures.opens (ap (opened_in c.new_block.new.p) c.in_ok-b.was)
+    (adds_of a1 c.add_end.ensures) (ap (moved_in c.add_end.new.p) c.in_ok-add_end.was))
 
-pub set_aside-n-requires : goal.set_aside-n-requires
-set_aside-n-requires c =
-    let part = open_part _ _ c.requires.fact c.requires.arm c.new_block.ensures c.in-On.is c.add_end.ensures c.in-On-add_end.is in
-    record { variables_size_in_bounds = part.0; k_bound = part.1 }
-
-pub overflow_add-top : goal.overflow_add-top
-overflow_add-top c =
+pub overflow_add-p : goal.overflow_add-p
+overflow_add-p c =
+    let a = c.requires.arm.arm in
+    let a1 = after_adds (after_none c.args.p.now) c.new_block.ensures.kept in
     omega (
       arith,
-      (open_part _ _
-          c.requires.fact
-          c.requires.arm
-          c.new_block.ensures
-          c.in-On.is
-          c.add_end.ensures
-          c.in-On-add_end.is).1.1,
+      (open_part c.args.p.now.program.limits c.args.q c.requires.reading a c.new_block.ensures.opens (ap (opened_in c.new_block.new.p) c.in_ok-b.was)
+          (adds_of a1 c.add_end.ensures) (ap (moved_in c.add_end.new.p) c.in_ok-add_end.was)).1,
+      place_vars c.requires.arm.from a.place,
+      place_aside c.requires.arm.from a.place,
       c.set_aside-n.ensures.less,
     )
 
-pub returns-in-On-add_end : goal.returns-in-On-add_end
-returns-in-On-add_end c =
-    open_yes _ _ c.requires.fact c.requires.arm c.new_block.ensures c.in-On.is c.add_end.ensures c.in-On-add_end.is c.set_aside-n.ensures
-    (placed2
-    (open_in2 _ _ c.requires.fact c.requires.arm c.new_block.ensures c.in-On.is c.add_end.ensures
-    c.in-On-add_end.is)
-    c.at_block.ensures c.with_vars.ensures)
-
-pub returns-in-Refused-add_end : goal.returns-in-Refused-add_end
-returns-in-Refused-add_end c =
-    open_no2 _ _ c.requires.fact c.requires.arm c.new_block.ensures c.in-On.is c.add_end.ensures c.in-Refused-add_end.is
-
-pub returns-in-Refused : goal.returns-in-Refused
-returns-in-Refused c =
-    open_no _ _ c.requires.fact c.requires.arm c.new_block.ensures c.in-Refused.is
+pub returns-clause-opens : goal.returns-clause-opens
+returns-clause-opens c = λ c₀ a.
+    let a1 = after_adds (after_none c.args.p.now) c.new_block.ensures.kept in
+    let a2 = after_adds a1 c.add_end.ensures.kept in
+    record {
+      opens =
+          open_yes c.args.p.now.program.limits c.args.q c.requires.reading a c.new_block.ensures.opens (ap (opened_in c.new_block.new.p) c.in_ok-b.was)
+          (adds_of a1 c.add_end.ensures) (ap (moved_in c.add_end.new.p) c.in_ok-add_end.was)
+          (rw (a2.kept.script, a2.scratch, place_vars c₀ a.place, place_aside c₀ a.place) at c.set_aside-n.ensures)
+          (ap (λ (z : Before). block_cur c.in_ok-b.b (vars_cur z.vars (z.aside + c.set_aside-n.result) (cursor_of c.add_end.new.p))) a.place);
+    }

@@ -1,24 +1,35 @@
 -- `statements::parse_return` meets its contract. Assumes nothing.
+use mathlib.Core.Path.{ap}
+use Rattle.std.proofs.lemmas.Result.{err_from_is_err_and}
+use Rattle.cursor.specs.Parsers.{parsed_in, moved_in}
+use Rattle.cursor.proofs.Kept.{after_none, after_kept, after_adds, finish}
 use Rattle.statements.proofs.Paths.{return_no, expr_in, return_no2, return_yes}
+use Rattle.statements.proofs.Standing.{adds_of}
 use Rattle.statements.proofs.parse_return.Goals as goal
 
-pub add_end-requires-clause-program_ready : goal.add_end-requires-clause-program_ready
-add_end-requires-clause-program_ready c = (expr_in _ _ _ c.parse_expr.ensures c.in-Done.is).ready.tables
+pub returns-in_err-v : goal.returns-in_err-v
+returns-in_err-v c =
+    let x = err_from_is_err_and c.from_residual.result c.from_residual.ensures.1 in
+    rw (x.1, x.2)
+    (finish (after_kept (after_none c.args.p.now) c.parse_expr.ensures.kept)
+    (return_no c.args.p.now.program.limits _ c.args.depth {p = parsed_in c.parse_expr.new.p c.parse_expr.result} c.parse_expr.ensures.did (ap (parsed_in c.parse_expr.new.p) c.in_err-v.was)))
 
-pub add_end-requires-clause-small : goal.add_end-requires-clause-small
-add_end-requires-clause-small c = c.requires.small
+pub add_end-requires : goal.add_end-requires
+add_end-requires c =
+    (expr_in c.args.p.now.program.limits _ c.args.depth {p = parsed_in c.parse_expr.new.p c.parse_expr.result} c.parse_expr.ensures.did (ap (parsed_in c.parse_expr.new.p) c.in_ok-v.was)).block
 
-pub add_end-requires-clause-b_lt_blocks : goal.add_end-requires-clause-b_lt_blocks
-add_end-requires-clause-b_lt_blocks c = (expr_in _ _ _ c.parse_expr.ensures c.in-Done.is).block
+pub returns-in_err-add_end : goal.returns-in_err-add_end
+returns-in_err-add_end c =
+    let a1 = after_kept (after_none c.args.p.now) c.parse_expr.ensures.kept in
+    let x = err_from_is_err_and c.from_residual-in_err-add_end.result c.from_residual-in_err-add_end.ensures.1 in
+    rw (x.1, x.2)
+    (finish (after_adds a1 c.add_end.ensures.kept)
+    (return_no2 c.args.p.now.program.limits _ c.args.depth {p = parsed_in c.parse_expr.new.p c.parse_expr.result} c.parse_expr.ensures.did (ap (parsed_in c.parse_expr.new.p) c.in_ok-v.was)
+    (adds_of a1 c.add_end.ensures) (ap (moved_in c.add_end.new.p) c.in_err-add_end.was)))
 
-pub returns-in-On : goal.returns-in-On
-returns-in-On c =
-    return_yes _ _ _ c.parse_expr.ensures c.in-Done.is c.add_end.ensures c.in-On.is
-
-pub returns-in-Refused-add_end : goal.returns-in-Refused-add_end
-returns-in-Refused-add_end c =
-    return_no2 _ _ _ c.parse_expr.ensures c.in-Done.is c.add_end.ensures c.in-Refused-add_end.is
-
-pub returns-in-Refused : goal.returns-in-Refused
-returns-in-Refused c =
-    return_no _ _ _ c.parse_expr.ensures c.in-Refused.is
+pub returns : goal.returns
+returns c =
+    let a1 = after_kept (after_none c.args.p.now) c.parse_expr.ensures.kept in
+    finish (after_adds a1 c.add_end.ensures.kept)
+    (return_yes c.args.p.now.program.limits _ c.args.depth {p = parsed_in c.parse_expr.new.p c.parse_expr.result} c.parse_expr.ensures.did (ap (parsed_in c.parse_expr.new.p) c.in_ok-v.was)
+    (adds_of a1 c.add_end.ensures) (ap (moved_in c.add_end.new.p) c.in_ok-add_end.was))

@@ -3,6 +3,6 @@ use Rattle.std.proofs.Common.{rules}
 use Rattle.streams.proofs.Laws.{written_more}
 use Rattle.streams.proofs.write.Goals as goal
 
-pub loop-done-preserved : goal.loop-done-preserved
-loop-done-preserved g c =
-    (search rules, written_more _ _ _ c.loop-done.done c.write_some-n.result c.args.bytes.now c.loop-done.invariant.1 c.write_some-n.ensures.appends)
+pub loop-taken-preserved : goal.loop-taken-preserved
+loop-taken-preserved g c =
+    (search rules, written_more _ _ _ c.loop-taken.taken c.in-Ok.n c.args.bytes.now c.loop-taken.invariant.1 c.in-Ok.ensures.appends)

@@ -1,17 +1,14 @@
--- What the loop of `uses::compute_uses` keeps.
+-- What the loops of `uses::compute_uses` keep.
 use Rattle.uses.proofs.Laying.{Laying, Copying}
 use Prim.Native.Nat.{◌-◌}
 use Rattle.memory.specs.Layout.{uses_most}
 use Rattle.uses.proofs.compute_uses.Given as goal
 
 abbrev pub invariant-loop-h : goal.invariant-loop-h
-invariant-loop-h l = Copying l.program l.n l.starts l.users l.scratch l.initial.u l.u l.j l.pos l.h
+invariant-loop-h l = Copying l.program.words.now l.n l.starts l.users l.scratch l.initial.u l.u l.j l.pos l.h
 
 abbrev pub decreases-loop-h : goal.decreases-loop-h
 decreases-loop-h l = uses_most - l.h
 
 abbrev pub invariant-loop-j : goal.invariant-loop-j
-invariant-loop-j l = Laying l.program l.n l.starts l.users l.initial.u l.u l.pos l.j
-
-abbrev pub decreases-loop-j : goal.decreases-loop-j
-decreases-loop-j l = l.n - l.j
+invariant-loop-j l = Laying l.program.words.now l.n l.starts l.users l.initial.u l.u l.pos l.j

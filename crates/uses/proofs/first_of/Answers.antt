@@ -5,5 +5,5 @@ use Rattle.uses.proofs.first_of.Goals as goal
 pub returns-then-h-lt-USES_MOST : goal.returns-then-h-lt-USES_MOST
 returns-then-h-lt-USES_MOST c = search first_some
 
-pub returns : goal.returns
-returns c = search first-none
+pub returns-else-h-lt-USES_MOST : goal.returns-else-h-lt-USES_MOST
+returns-else-h-lt-USES_MOST c = search first-none

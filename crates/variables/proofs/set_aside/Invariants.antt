@@ -1,10 +1,6 @@
 -- What the loop of `variables::set_aside` keeps.
 use Rattle.variables.proofs.Laws.{Leaving}
-use Prim.Native.Nat.{◌-◌}
 use Rattle.variables.proofs.set_aside.Given as goal
 
 abbrev pub invariant-loop-i : goal.invariant-loop-i
 invariant-loop-i l = Leaving l.script l.mark l.k l.to l.initial.scratch l.i l.n l.scratch
-
-abbrev pub decreases-loop-i : goal.decreases-loop-i
-decreases-loop-i l = l.k - l.i

@@ -1,44 +1,46 @@
 -- `visits::get_ivar` meets its contract. Assumes nothing.
-use Rattle.visits.proofs.Ways.{get_needs, get_within, did-held, get_way, get_stop}
+use mathlib.Core.Path.{◌≡◌, refl, ap}
+use Rattle.std.specs.Prelude.{Err}
+use borrow.Author.Rules.{rules}
+use Rattle.state.specs.Acted.{acted_of}
+use Rattle.visits.proofs.Ways.{get_needs, get_within, get_way, get_stop}
 use Rattle.visits.proofs.Given.{matches}
 use Rattle.visits.proofs.get_ivar.Goals as goal
 
-pub operand-o-requires-clause-program_ready : goal.operand-o-requires-clause-program_ready
-operand-o-requires-clause-program_ready c = c.requires.visiting.indexed.ready
+pub operand-o-requires : goal.operand-o-requires
+operand-o-requires c = c.requires.visiting.read.range
 
-pub operand-o-requires-clause-count_bound : goal.operand-o-requires-clause-count_bound
-operand-o-requires-clause-count_bound c = c.requires.visiting.read.range
+pub mark_reads-requires-clause-i_lt_insns : goal.mark_reads-requires-clause-i_lt_insns
+mark_reads-requires-clause-i_lt_insns c = c.requires.visiting.below
 
-pub mark_reads-w-requires-clause-state_ready : goal.mark_reads-w-requires-clause-state_ready
-mark_reads-w-requires-clause-state_ready c = c.requires.visiting.ready
+pub mark_reads-requires-clause-operand_inside : goal.mark_reads-requires-clause-operand_inside
+mark_reads-requires-clause-operand_inside c = (get_needs c.requires.visiting c.operand-o.result c.requires.op_value c.operand-o.ensures).0
 
-pub mark_reads-w-requires-clause-i_lt_insns : goal.mark_reads-w-requires-clause-i_lt_insns
-mark_reads-w-requires-clause-i_lt_insns c = c.requires.visiting.below
+pub mark_reads-requires-clause-receiver_within : goal.mark_reads-requires-clause-receiver_within
+mark_reads-requires-clause-receiver_within c = (get_needs c.requires.visiting c.operand-o.result c.requires.op_value c.operand-o.ensures).1
 
-pub mark_reads-w-requires-clause-operand_inside : goal.mark_reads-w-requires-clause-operand_inside
-mark_reads-w-requires-clause-operand_inside c = (get_needs c.requires.visiting c.operand-o.result c.requires.op_value c.operand-o.ensures).0
+pub returns-in_err-mark_reads : goal.returns-in_err-mark_reads
+returns-in_err-mark_reads c =
+    let e : c.from_residual.result ≡ Err c.in_err-mark_reads.field-0.0 = search rules in
+    rw e (record {
+      lent = c.mark_reads.ensures.lent;
+      rules = get_stop c.requires.visiting c.operand-o.result c.requires.op_value c.operand-o.ensures c.mark_reads.ensures.did
+          (ap (acted_of _) c.in_err-mark_reads.was);
+    })
 
-pub mark_reads-w-requires-clause-receiver_within : goal.mark_reads-w-requires-clause-receiver_within
-mark_reads-w-requires-clause-receiver_within c = (get_needs c.requires.visiting c.operand-o.result c.requires.op_value c.operand-o.ensures).1
+pub read_ivar-requires-clause-state_matches : goal.read_ivar-requires-clause-state_matches
+read_ivar-requires-clause-state_matches c = rw c.mark_reads.ensures.lent.sizes (matches c.requires.visiting)
 
-pub read_ivar-j-requires-clause-state_held : goal.read_ivar-j-requires-clause-state_held
-read_ivar-j-requires-clause-state_held c = did-held c.requires.visiting c.mark_reads-w.ensures c.in-On.is
+pub read_ivar-requires-clause-operand_inside : goal.read_ivar-requires-clause-operand_inside
+read_ivar-requires-clause-operand_inside c = rw c.mark_reads.ensures.lent.sizes (get_needs c.requires.visiting c.operand-o.result c.requires.op_value c.operand-o.ensures).0
 
-pub read_ivar-j-requires-clause-state_matches : goal.read_ivar-j-requires-clause-state_matches
-read_ivar-j-requires-clause-state_matches c = matches c.requires.visiting
+pub read_ivar-requires-clause-receiver_within : goal.read_ivar-requires-clause-receiver_within
+read_ivar-requires-clause-receiver_within c =
+    rw c.mark_reads.ensures.lent.sizes (get_within c.requires.visiting c.operand-o.result c.requires.op_value c.operand-o.ensures c.mark_reads.ensures.did (ap (acted_of _) c.in_ok-mark_reads.was))
 
-pub read_ivar-j-requires-clause-operand_inside : goal.read_ivar-j-requires-clause-operand_inside
-read_ivar-j-requires-clause-operand_inside c = (get_needs c.requires.visiting c.operand-o.result c.requires.op_value c.operand-o.ensures).0
-
-pub read_ivar-j-requires-clause-receiver_within : goal.read_ivar-j-requires-clause-receiver_within
-read_ivar-j-requires-clause-receiver_within c = get_within c.requires.visiting c.operand-o.result c.requires.op_value c.operand-o.ensures
-    c.mark_reads-w.ensures c.in-On.is
-
-pub returns-in-On : goal.returns-in-On
-returns-in-On c =
-    get_way c.requires.visiting c.operand-o.result c.requires.op_value c.operand-o.ensures c.mark_reads-w.ensures c.in-On.is c.read_ivar-j.ensures
-    c.with_kind.ensures
-
-pub returns-in-Refused : goal.returns-in-Refused
-returns-in-Refused c =
-    get_stop c.requires.visiting c.operand-o.result c.requires.op_value c.operand-o.ensures c.mark_reads-w.ensures c.in-Refused.is
+pub returns : goal.returns
+returns c = record {
+  lent = c.mark_reads.ensures.lent;
+  rules = get_way c.requires.visiting c.operand-o.result c.requires.op_value c.operand-o.ensures c.mark_reads.ensures.did
+      (ap (acted_of _) c.in_ok-mark_reads.was) (rw c.mark_reads.ensures.lent.sizes at c.read_ivar.ensures) refl;
+}

@@ -1,32 +1,34 @@
 -- `visits::visit` meets its contract. Assumes nothing.
-use Rattle.machine.proofs.Fitting.{did-fits}
+use mathlib.Core.Path.{◌≡◌}
+use Rattle.std.specs.Prelude.{Err}
+use borrow.Author.Rules.{rules}
+use Rattle.state.proofs.Methods.{did_fits}
 use Rattle.visits.proofs.Ways.{fits-tables}
-use Rattle.visits.proofs.Ruling.{visited, visit-stopped, ruled-ready}
+use Rattle.visits.proofs.Ruling.{visit_stored, visit_refused}
 use Rattle.visits.proofs.visit.Goals as goal
 
-pub rule-r-requires : goal.rule-r-requires
-rule-r-requires c =
-    record { indexed = c.requires.analysed.indexed; steady = c.requires.steady; ready = c.requires.state_ready; below = c.requires.i_lt_insns; read = c.requires.reads_insn }
+pub rule-requires : goal.rule-requires
+rule-requires c = record {
+  indexed = c.requires.analysed.indexed;
+  steady = c.requires.steady;
+  ready = c.args.state.now.ready;
+  below = c.requires.i_lt_insns;
+  read = c.requires.reads_insn;
+}
 
-pub store-requires-clause-state_ready : goal.store-requires-clause-state_ready
-store-requires-clause-state_ready c = ruled-ready c.rule-r.ensures c.in-On.is
-
-pub store-requires-clause-program_ready : goal.store-requires-clause-program_ready
-store-requires-clause-program_ready c = c.requires.analysed.indexed.ready
+pub returns-in_err-k : goal.returns-in_err-k
+returns-in_err-k c =
+    let e : c.from_residual.result ≡ Err c.in_err-k.field-0.0 = search rules in
+    rw e (visit_refused c.args.i.0 c.rule.ensures c.in_err-k.was)
 
 pub store-requires-clause-machine_sized : goal.store-requires-clause-machine_sized
-store-requires-clause-machine_sized c = c.requires.analysed.indexed.sized
+store-requires-clause-machine_sized c = rw c.rule.ensures.lent.sizes c.requires.analysed.indexed.sized
 
 pub store-requires-clause-users : goal.store-requires-clause-users
 store-requires-clause-users c = c.requires.analysed.users
 
 pub store-requires-clause-i_lt_insns : goal.store-requires-clause-i_lt_insns
-store-requires-clause-i_lt_insns c = c.requires.i_lt_insns
+store-requires-clause-i_lt_insns c = rw c.rule.ensures.lent.sizes c.requires.i_lt_insns
 
-pub returns-in-On : goal.returns-in-On
-returns-in-On c =
-    visited c.args.sizes _ c.args.state.now c.args.regs c.args.i.0 c.rule-r.ensures c.in-On.is (did-fits fits-tables c.store.ensures)
-
-pub returns-in-Refused : goal.returns-in-Refused
-returns-in-Refused c =
-    visit-stopped c.args.sizes _ c.args.state.now c.args.regs c.args.i.0 c.rule-r.ensures c.in-Refused.is
+pub returns : goal.returns
+returns c = visit_stored c.args.i.0 c.rule.ensures c.in_ok-k.was (did_fits c.store.ensures fits-tables)

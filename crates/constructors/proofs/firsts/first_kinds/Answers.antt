@@ -1,115 +1,37 @@
 -- `constructors::firsts::first_kinds` meets its contract. Assumes nothing.
+use Rattle.std.proofs.lemmas.Result.{err_from_is_err_and}
 use Rattle.constructors.proofs.firsts.Laws.{ctor_below, entry-below, first-none, first_refused, first_some}
-use native.Mathlib.Omega.{arith}
-use borrow.Author.Rules.{rules}
+use Rattle.constructors.proofs.firsts.first_kinds.Goals.{in-Some+in_ok-bits-in-Some, in-None}
 use Rattle.constructors.proofs.firsts.first_kinds.Goals as goal
 
-pub put_kinds-requires-clause-n_le_ivars_most : goal.put_kinds-requires-clause-n_le_ivars_most
-put_kinds-requires-clause-n_le_ivars_most c = c.requires.program_ready.ivars _ c.requires.walk_size_in_bounds.1
+pub fun-requires : goal.fun-requires
+fun-requires c = ctor_below c.constructor_of.ensures c.in-Some.is
 
-pub put_kinds-requires-clause-n_bound : goal.put_kinds-requires-clause-n_bound
-put_kinds-requires-clause-n_bound c = (
-  omega (
-    arith,
-    c.requires.program_ready.ivars _
-        c.requires.walk_size_in_bounds.1,
-    c.requires.ivars_most_bound.0,
-    c.requires.ivars_most_bound.1,
-    c.requires.walk_size_in_bounds.1,
-    c.requires.program_ready.classes,
-  ),
-  omega (
-    arith,
-    c.requires.program_ready.ivars _
-        c.requires.walk_size_in_bounds.1,
-    c.requires.ivars_most_bound.0,
-    c.requires.ivars_most_bound.1,
-    c.requires.walk_size_in_bounds.1,
-    c.requires.program_ready.classes,
-  ),
-)
+pub analyze_ctor-requires : goal.analyze_ctor-requires
+analyze_ctor-requires c = record {
+  walk_size_in_bounds = (
+    c.requires.walk_size_in_bounds.0,
+    (c.requires.walk_size_in_bounds.1, entry-below c.args.flow.now.entries (ctor_below c.constructor_of.ensures c.in-Some.is) c.fun.ensures.row),
+  );
+}
 
-pub read_fun-row-requires-clause-program_ready : goal.read_fun-row-requires-clause-program_ready
-read_fun-row-requires-clause-program_ready c = c.requires.program_ready
+pub returns-in_err-bits-in-Some : goal.returns-in_err-bits-in-Some
+returns-in_err-bits-in-Some c =
+    let p = err_from_is_err_and c.from_residual.result c.from_residual.ensures.1 in
+    rw (p.1, p.2)
+    (first_refused c.args.flow.now.indexed.program.script.now c.args.flow.now.indexed.program.words.now c.args.flow.now.indexed.program.counts c.args.k.0
+    c.requires.walk_size_in_bounds.1 (c.args.flow.now.indexed.program.ready.ivars _ c.requires.walk_size_in_bounds.1) c.constructor_of.ensures c.in-Some.is
+    (ctor_below c.constructor_of.ensures c.in-Some.is) c.fun.ensures.row c.in_err-bits-in-Some.ensures _ _ _)
 
-pub read_fun-row-requires-clause-f_lt_functions : goal.read_fun-row-requires-clause-f_lt_functions
-read_fun-row-requires-clause-f_lt_functions c = ctor_below c.constructor_of-found.ensures c.in-At.is
-
-pub analyze_ctor-sure-requires-clause-program_ready : goal.analyze_ctor-sure-requires-clause-program_ready
-analyze_ctor-sure-requires-clause-program_ready c = c.requires.program_ready
-
-pub analyze_ctor-sure-requires-clause-index : goal.analyze_ctor-sure-requires-clause-index
-analyze_ctor-sure-requires-clause-index c = c.requires.index
-
-pub analyze_ctor-sure-requires-clause-walk_inside : goal.analyze_ctor-sure-requires-clause-walk_inside
-analyze_ctor-sure-requires-clause-walk_inside c = c.requires.walk_inside
-
-pub analyze_ctor-sure-requires-clause-walk_size_in_bounds : goal.analyze_ctor-sure-requires-clause-walk_size_in_bounds
-analyze_ctor-sure-requires-clause-walk_size_in_bounds c = (
-  c.requires.walk_size_in_bounds.0,
-  (
-    c.requires.walk_size_in_bounds.1,
-    entry-below c.requires.entries
-        (ctor_below c.constructor_of-found.ensures c.in-At.is)
-        c.read_fun-row.ensures.row,
-  ),
-)
-
-pub put_kinds-requires-in-Set-clause-n_le_ivars_most : goal.put_kinds-requires-in-Set-clause-n_le_ivars_most
-put_kinds-requires-in-Set-clause-n_le_ivars_most c = c.requires.program_ready.ivars _ c.requires.walk_size_in_bounds.1
-
-pub put_kinds-requires-in-Set-clause-n_bound : goal.put_kinds-requires-in-Set-clause-n_bound
-put_kinds-requires-in-Set-clause-n_bound c = (
-  omega (
-    arith,
-    c.requires.program_ready.ivars
-        _
-        c.requires.walk_size_in_bounds.1,
-    c.requires.ivars_most_bound.0,
-    c.requires.ivars_most_bound.1,
-    c.requires.walk_size_in_bounds.1,
-    c.requires.program_ready.classes,
-  ),
-  omega (
-    arith,
-    c.requires.program_ready.ivars
-        _
-        c.requires.walk_size_in_bounds.1,
-    c.requires.ivars_most_bound.0,
-    c.requires.ivars_most_bound.1,
-    c.requires.walk_size_in_bounds.1,
-    c.requires.program_ready.classes,
-  ),
-)
-
-pub returns-in-Nothing : goal.returns-in-Nothing
-returns-in-Nothing c =
-    first-none c.args.script.now
-    c.args.program.now
-    c.args.counts _
-    c.requires.walk_size_in_bounds.1
-    (c.requires.program_ready.ivars _
-    c.requires.walk_size_in_bounds.1)
-    c.constructor_of-found.ensures (search rules) c.put_kinds.ensures
-
-pub returns-in-Undeclared : goal.returns-in-Undeclared
-returns-in-Undeclared c =
-    first_refused c.args.script.now
-    c.args.program.now
-    c.args.counts _
-    c.requires.walk_size_in_bounds.1
-    (c.requires.program_ready.ivars
-    _
-    c.requires.walk_size_in_bounds.1)
-    c.constructor_of-found.ensures c.analyze_ctor-sure.result
-    c.in-At.is
-    (ctor_below c.constructor_of-found.ensures
-    c.in-At.is)
-    c.read_fun-row.ensures.row c.analyze_ctor-sure.ensures _ _ _ (search rules)
-
-pub returns-in-Set : goal.returns-in-Set
-returns-in-Set c =
-    first_some c.args.script.now c.args.program.now c.args.counts _ c.requires.walk_size_in_bounds.1 (c.requires.program_ready.ivars _ c.requires.walk_size_in_bounds.1)
-    c.constructor_of-found.ensures c.analyze_ctor-sure.result c.in-At.is
-    (ctor_below c.constructor_of-found.ensures c.in-At.is) c.read_fun-row.ensures.row c.analyze_ctor-sure.ensures c.in-Set.is
-    c.put_kinds-in-Set.ensures
+pub returns : goal.returns
+returns c =
+    elim c.match-constructor_of.branch [
+      | in-Some+in_ok-bits-in-Some w ↦
+          first_some c.args.flow.now.indexed.program.script.now c.args.flow.now.indexed.program.words.now c.args.flow.now.indexed.program.counts c.args.k.0
+          c.requires.walk_size_in_bounds.1 (c.args.flow.now.indexed.program.ready.ivars _ c.requires.walk_size_in_bounds.1) c.constructor_of.ensures w.in-Some.is
+          (ctor_below c.constructor_of.ensures w.in-Some.is) w.fun.ensures.row w.in_ok-bits-in-Some.ensures (rw w.bits-is at c.put_kinds.ensures)
+      | in-None w ↦
+          first-none c.args.flow.now.indexed.program.script.now c.args.flow.now.indexed.program.words.now c.args.flow.now.indexed.program.counts c.args.k.0
+          c.requires.walk_size_in_bounds.1 (c.args.flow.now.indexed.program.ready.ivars _ c.requires.walk_size_in_bounds.1) c.constructor_of.ensures w.in-None.is
+          (rw w.bits-is at c.put_kinds.ensures)
+    ]

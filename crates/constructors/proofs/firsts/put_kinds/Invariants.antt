@@ -1,10 +1,6 @@
 -- What the loop of `constructors::firsts::put_kinds` keeps.
 use Rattle.constructors.proofs.firsts.Laws.{Putting}
-use Prim.Native.Nat.{◌-◌}
 use Rattle.constructors.proofs.firsts.put_kinds.Given as goal
 
 abbrev pub invariant-loop-a : goal.invariant-loop-a
 invariant-loop-a l = Putting l.tags l.payloads l.n l.bits l.initial.users l.users l.a
-
-abbrev pub decreases-loop-a : goal.decreases-loop-a
-decreases-loop-a l = l.n - l.a

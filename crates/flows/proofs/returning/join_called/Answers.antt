@@ -10,14 +10,8 @@ loop-f-init c = search summed_start
 pub overflow_cast-f : goal.overflow_cast-f
 overflow_cast-f c = search calling_fits
 
-pub join_returns-requires-clause-state_held : goal.join_returns-requires-clause-state_held
-join_returns-requires-clause-state_held c = search (rules, calling_below)
-
 pub join_returns-requires-clause-f_lt_functions : goal.join_returns-requires-clause-f_lt_functions
 join_returns-requires-clause-f_lt_functions c = search (rules, calling_below)
-
-pub returns-in-Other : goal.returns-in-Other
-returns-in-Other c = joined-none _ _ _ _ _ _ _
 
 pub loop-f-preserved : goal.loop-f-preserved
 loop-f-preserved c = search summed_more

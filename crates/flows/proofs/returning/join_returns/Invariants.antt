@@ -5,7 +5,7 @@ use Rattle.flows.proofs.returning.Sets.{Gathering}
 use Rattle.flows.proofs.returning.join_returns.Given as goal
 
 abbrev pub invariant-loop-j : goal.invariant-loop-j
-invariant-loop-j l = Gathering l.program l.counts l.chains (kinds_of l.sizes l.state) l.initial.j.0 l.was l.classes l.met l.s l.j.0
+invariant-loop-j l = Gathering l.program.words.now l.program.counts l.chains (kinds_of l.state.sizes l.state.words.now) l.initial.j.0 l.was l.classes l.met l.s l.j.0
 
 abbrev pub decreases-loop-j : goal.decreases-loop-j
-decreases-loop-j l = l.counts.insns - l.j.0
+decreases-loop-j l = l.program.counts.insns - l.j.0

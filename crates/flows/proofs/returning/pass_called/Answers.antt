@@ -9,9 +9,6 @@ loop-f-init c = search calling_start
 pub overflow_cast-f : goal.overflow_cast-f
 overflow_cast-f c = search calling_fits
 
-pub pass_returns-y-requires-clause-state_held : goal.pass_returns-y-requires-clause-state_held
-pass_returns-y-requires-clause-state_held c = search (rules, calling_below)
-
 pub pass_returns-y-requires-clause-f_lt_functions : goal.pass_returns-y-requires-clause-f_lt_functions
 pass_returns-y-requires-clause-f_lt_functions c = search (rules, calling_below)
 

@@ -5,7 +5,7 @@ use Prim.Native.Nat.{◌-◌}
 use Rattle.flows.proofs.returning.pass_returns.Given as goal
 
 abbrev pub invariant-loop-j : goal.invariant-loop-j
-invariant-loop-j l = Backing l.program l.counts l.chains (kinds_of l.sizes l.state) l.initial.j.0 l.initial.y l.y l.j.0
+invariant-loop-j l = Backing l.program.words.now l.program.counts l.chains (kinds_of l.state.sizes l.state.words.now) l.initial.j.0 l.initial.y l.y l.j.0
 
 abbrev pub decreases-loop-j : goal.decreases-loop-j
-decreases-loop-j l = l.counts.insns - l.j.0
+decreases-loop-j l = l.program.counts.insns - l.j.0

@@ -1,44 +1,43 @@
 -- `functions::params::parse_params` meets its contract. Assumes nothing.
-use Rattle.functions.proofs.params.Laws.{naming_start, naming_none, naming_close, naming_bad, naming_room, naming_stop, naming_last, naming_less, naming_on}
+use mathlib.Core.Path.{refl, ap, ◌∙◌, ◌≡◌}
+use Rattle.std.specs.Prelude.{Ok}
+use Rattle.std.proofs.Common.{rules}
+use Rattle.std.proofs.lemmas.Result.{err_from_is_err_and}
+use Rattle.lexer.specs.declared.Token.TheVariants as T
+use Rattle.cursor.proofs.Kept.{kept_none}
+use Rattle.functions.proofs.params.Laws.{naming_start}
+use Rattle.functions.proofs.params.Heads.{names_none, names_close, names_bad, names_stop, names_last, names_on}
 use Rattle.functions.proofs.params.parse_params.Goals as goal
 
-pub loop-e-init : goal.loop-e-init
-loop-e-init c =
-    naming_start _ _ _ c.requires
+pub loop-p-init : goal.loop-p-init
+loop-p-init c = record { naming = naming_start _ _ _ c.requires; kept = kept_none _; program = refl }
 
-pub returns-in-Refused : goal.returns-in-Refused
-returns-in-Refused c =
-    naming_none c.loop-e.invariant c.peek.ensures c.in-Refused.is
+pub returns-in_err-peek : goal.returns-in_err-peek
+returns-in_err-peek c =
+    let p = err_from_is_err_and c.from_residual.result c.from_residual.ensures.1 in
+    rw (p.1, p.2) (names_none c.loop-p.invariant c.peek.ensures c.in_err-peek.was)
 
-pub returns-then-x-eq41 : goal.returns-then-x-eq41
-returns-then-x-eq41 c =
-    naming_close c.loop-e.invariant c.peek.ensures c.in-Found.is c.if-x-eq41.true
+pub returns-in_err-n : goal.returns-in_err-n
+returns-in_err-n c =
+    let p = err_from_is_err_and c.from_residual-in_err-n.result c.from_residual-in_err-n.ensures.1 in
+    rw (p.1, p.2) (names_bad c.loop-p.invariant c.peek.ensures c.in_ok-peek.was (search rules) c.expect_ident.ensures c.in_err-n.was)
 
-pub returns-in-Refused-expect_ident : goal.returns-in-Refused-expect_ident
-returns-in-Refused-expect_ident c =
-    naming_bad c.loop-e.invariant c.peek.ensures c.in-Found.is c.if-x-eq41.false c.expect_ident.ensures c.in-Refused-expect_ident.is
+pub returns-in_err-match_token : goal.returns-in_err-match_token
+returns-in_err-match_token c =
+    let p = err_from_is_err_and c.from_residual-in_err-match_token.result c.from_residual-in_err-match_token.ensures.1 in
+    rw (p.1, p.2)
+    (names_stop c.loop-p.invariant c.peek.ensures c.in_ok-peek.was (search rules) c.expect_ident.ensures c.in_ok-n.was c.push_name.ensures c.match_token.ensures
+    c.in_err-match_token.was)
 
-pub push_name-c2-requires : goal.push_name-c2-requires
-push_name-c2-requires c =
-    let room = naming_room c.loop-e.invariant c.peek.ensures c.in-Found.is c.if-x-eq41.false c.expect_ident.ensures c.in-Found-expect_ident.is in
-    record { scratch_size_in_bounds = room.0; args_lt_operands_most = room.1 }
+pub returns-then-not-branch : goal.returns-then-not-branch
+returns-then-not-branch c =
+    names_last c.loop-p.invariant c.peek.ensures c.in_ok-peek.was (search rules) c.expect_ident.ensures c.in_ok-n.was c.push_name.ensures c.match_token.ensures
+    (c.in_ok-match_token.was ∙ ap Ok (search rules))
 
-pub returns-in-Refused-match_token : goal.returns-in-Refused-match_token
-returns-in-Refused-match_token c =
-    naming_stop c.loop-e.invariant c.peek.ensures c.in-Found.is c.if-x-eq41.false c.expect_ident.ensures c.in-Found-expect_ident.is c.push_name-c2.ensures
-    c.match_token.ensures c.in-Refused-match_token.is
+pub loop-p-preserved : goal.loop-p-preserved
+loop-p-preserved c =
+    names_on c.loop-p.invariant c.peek.ensures c.in_ok-peek.was (search rules) c.expect_ident.ensures c.in_ok-n.was c.push_name.ensures c.match_token.ensures
+    (c.in_ok-match_token.was ∙ ap Ok (search rules))
 
-pub returns-in-Not : goal.returns-in-Not
-returns-in-Not c =
-    naming_last c.loop-e.invariant c.peek.ensures c.in-Found.is c.if-x-eq41.false c.expect_ident.ensures c.in-Found-expect_ident.is c.push_name-c2.ensures
-    c.match_token.ensures c.in-Not.is
-
-pub loop-e-smaller : goal.loop-e-smaller
-loop-e-smaller c =
-    naming_less c.loop-e.invariant c.peek.ensures c.in-Found.is c.if-x-eq41.false c.expect_ident.ensures c.in-Found-expect_ident.is c.push_name-c2.ensures
-    c.match_token.ensures c.in-Yes.is
-
-pub loop-e-preserved : goal.loop-e-preserved
-loop-e-preserved c =
-    naming_on c.loop-e.invariant c.peek.ensures c.in-Found.is c.if-x-eq41.false c.expect_ident.ensures c.in-Found-expect_ident.is c.push_name-c2.ensures
-    c.match_token.ensures c.in-Yes.is
+pub returns : goal.returns
+returns c = names_close c.loop-p.invariant c.peek.ensures c.in_ok-peek.was (search rules)

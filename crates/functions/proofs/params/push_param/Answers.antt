@@ -1,23 +1,38 @@
 -- `functions::params::push_param` meets its contract. Assumes nothing.
-use Rattle.cursor.specs.declared.Cursor.{Cursor}
+use mathlib.Core.Path.{refl, ap, ◌∙◌}
 use native.Mathlib.Omega.{arith}
-use mathlib.Core.Path.{ap}
-use Rattle.functions.proofs.params.Laws.{param_no, param_yes}
+use Rattle.std.proofs.lemmas.Result.{err_from_is_err_and}
+use Rattle.cursor.specs.Parsers.{parsed_in}
+use Rattle.cursor.proofs.Kept.{kept_trans}
+use Rattle.functions.proofs.params.Laws.{param_no, param_yes, param-vars}
 use Rattle.functions.proofs.params.push_param.Goals as goal
 
-pub bound-requires : goal.bound-requires
-bound-requires c =
-    omega (
-      arith,
-      ap (λ (z : Cursor). z.vars) c.counted-c1.ensures,
-      c.requires.params_room.vars,
-    )
+pub returns-in_err-v : goal.returns-in_err-v
+returns-in_err-v c =
+    let p = err_from_is_err_and c.from_residual.result c.from_residual.ensures.1 in
+    rw (p.1, p.2)
+    (record {
+      kept = c.push.ensures.kept.kept;
+      pushes = rw c.push.ensures.kept.scratch (param_no c.args.p.now.program.limits c.args.k
+          {x = parsed_in c.push.new.self c.push.result} c.push.ensures.adds (ap (parsed_in c.push.new.self) c.in_err-v.was));
+    })
 
-pub returns-in-Added : goal.returns-in-Added
-returns-in-Added c =
-    param_yes c.args.limits c.args.k c.requires.params_room c.push_insn.ensures c.in-Added.is c.set_var.ensures c.counted-c1.ensures
-    c.bound.ensures
+pub set_var-requires-clause-variables_size_in_bounds : goal.set_var-requires-clause-variables_size_in_bounds
+set_var-requires-clause-variables_size_in_bounds c =
+    let e = param-vars c.args.p.now.program.limits c.args.k {x = parsed_in c.push.new.self c.push.result} c.push.ensures.adds (ap (parsed_in c.push.new.self) c.in_ok-v.was) in
+    rw (e, c.push.ensures.kept.scratch) (omega (arith, c.requires.scratch), omega (arith, c.requires.vars))
 
-pub returns-in-Refused : goal.returns-in-Refused
-returns-in-Refused c =
-    param_no c.args.limits c.args.k c.requires.params_room c.push_insn.ensures c.in-Refused.is
+pub overflow_add-p : goal.overflow_add-p
+overflow_add-p c =
+    let e = param-vars c.args.p.now.program.limits c.args.k {x = parsed_in c.push.new.self c.push.result} c.push.ensures.adds (ap (parsed_in c.push.new.self) c.in_ok-v.was) in
+    omega (arith, e, c.requires.vars)
+
+pub returns : goal.returns
+returns c =
+    let k = c.push.ensures.kept in
+    record {
+      kept = record { script = k.kept.script; limits = k.kept.limits; words_loan = k.kept.words_loan; scratch_loan = k.kept.scratch_loan };
+      pushes =
+          param_yes c.args.p.now.program.limits c.args.k {x = parsed_in c.push.new.self c.push.result} c.push.ensures.adds (ap (parsed_in c.push.new.self) c.in_ok-v.was)
+          (rw k.scratch at c.set_var.ensures) refl;
+    }

@@ -1,47 +1,31 @@
 -- `functions::params::push_params` meets its contract. Assumes nothing.
-use mathlib.Core.Path.{refl}
+use mathlib.Core.Path.{refl, ap}
 use native.Mathlib.Omega.{arith}
-use Rattle.functions.proofs.params.Laws.{binding_start, binding_room, binding_done, binding_no, binding_on}
+use Rattle.std.proofs.lemmas.Result.{err_from_is_err_and}
+use Rattle.cursor.specs.Parsers.{moved_in}
+use Rattle.cursor.proofs.Kept.{kept_trans}
+use Rattle.functions.proofs.params.Laws.{binding_done, binding_no, binding_on}
 use Rattle.functions.proofs.params.push_params.Goals as goal
 
-pub loop-k-init : goal.loop-k-init
-loop-k-init c =
-    (binding_start _ _ _ _ c.requires.params_filled, refl)
-
-pub push_param-requires-clause-params_room : goal.push_param-requires-clause-params_room
-push_param-requires-clause-params_room c =
-    binding_room c.loop-k.invariant.0
-    (omega (arith, c.loop-k-test.true, c.loop-k.invariant.1))
-
-pub push_param-requires-clause-small : goal.push_param-requires-clause-small
-push_param-requires-clause-small c = c.requires.small
-
-pub returns-in-Refused : goal.returns-in-Refused
-returns-in-Refused c =
-    binding_no c.loop-k.invariant.0
-    (omega (
-      arith,
-      c.loop-k-test.true,
-      c.loop-k.invariant.1,
-    ))
-    c.push_param.ensures c.in-Refused.is
-
-pub overflow_add-k : goal.overflow_add-k
-overflow_add-k c = omega (arith, c.loop-k-test.true)
-
-pub loop-k-smaller : goal.loop-k-smaller
-loop-k-smaller c = omega (arith, c.loop-k-test.true)
+pub returns-in_err-push_param : goal.returns-in_err-push_param
+returns-in_err-push_param c =
+    let p = err_from_is_err_and c.from_residual.result c.from_residual.ensures.1 in
+    let i = c.loop-k.invariant.0 in
+    rw (p.1, p.2)
+    (record {
+      kept = kept_trans i.1 c.push_param.ensures.kept;
+      pushes = binding_no i.0 (omega (arith, c.loop-k-test.true)) (rw i.1.limits at c.push_param.ensures.pushes) (ap (moved_in c.push_param.new.p) c.in_err-push_param.was);
+    })
 
 pub loop-k-preserved : goal.loop-k-preserved
-loop-k-preserved c = (
-  binding_on c.loop-k.invariant.0 (omega (
-    arith,
-    c.loop-k-test.true,
-    c.loop-k.invariant.1,
-  )) c.push_param.ensures c.in-On.is
-      c.push_param.auto.program,
-  c.loop-k.invariant.1,
-)
+loop-k-preserved c =
+    let i = c.loop-k.invariant.0 in (
+      (
+        binding_on i.0 (omega (arith, c.loop-k-test.true)) (rw i.1.limits at c.push_param.ensures.pushes) (ap (moved_in c.push_param.new.p) c.in_ok-push_param.was),
+        kept_trans i.1 c.push_param.ensures.kept,
+      ),
+      refl,
+    )
 
 pub returns : goal.returns
-returns c = binding_done c.loop-k.invariant.0 (omega (arith, c.loop-k-test.false, c.loop-k.invariant.1))
+returns c = let i = c.loop-k.invariant.0 in record { kept = i.1; pushes = binding_done i.0 (omega (arith, c.loop-k-test.false)) }

@@ -1,15 +1,20 @@
 -- `functions::params::push_self` meets its contract. Assumes nothing.
-use Rattle.functions.proofs.params.Laws.{self-none, self_no, self-yes}
+use mathlib.Core.Path.{refl}
+use Rattle.std.proofs.lemmas.Result.{err_from_is_err_and}
+use Rattle.functions.proofs.params.Laws.{adds-kept, self-none, self_no, self-yes}
+use Rattle.cursor.proofs.Kept.{kept_none}
 use Rattle.functions.proofs.params.push_self.Goals as goal
 
-pub returns-in-Nobody : goal.returns-in-Nobody
-returns-in-Nobody c =
-    self-none c.args.limits c.requires.program_ready c.in-Nobody.is
+pub returns-in_err-i : goal.returns-in_err-i
+returns-in_err-i c =
+    let p = err_from_is_err_and c.from_residual.result c.from_residual.ensures.1 in
+    rw (p.1, p.2)
+    (record { kept = adds-kept _ _ c.in_err-i.ensures.kept refl refl refl; pushes = self_no c.args.p.now.program.limits c.in-Some.is c.push_insn.new.self.counts _ c.in_err-i.ensures.did refl })
 
-pub returns-in-Added : goal.returns-in-Added
-returns-in-Added c =
-    self-yes c.args.limits c.in-Class.is c.push_insn.ensures c.in-Added.is c.counted-c1.ensures c.received.ensures
+pub returns-in_ok-i : goal.returns-in_ok-i
+returns-in_ok-i c =
+    record { kept = adds-kept _ _ c.in_ok-i.ensures.kept refl refl refl; pushes = self-yes c.args.p.now.program.limits c.in-Some.is c.push_insn.new.self.counts _ c.in_ok-i.ensures.did refl refl }
 
-pub returns-in-Refused : goal.returns-in-Refused
-returns-in-Refused c =
-    self_no c.args.limits c.in-Class.is c.push_insn.ensures c.in-Refused.is
+pub returns-in_default : goal.returns-in_default
+returns-in_default c =
+    record { kept = record { kept = kept_none _; scratch = refl }; pushes = self-none c.args.p.now.program.limits c.requires.tables c.in_default.is }

@@ -1,13 +1,12 @@
 -- What the loop of `parser::classes::parse_members` keeps.
-use Rattle.parser.proofs.classes.Loops.{Going}
-use Rattle.rules.specs.Reading.{parse_class_member}
-use Rattle.program.specs.View.{limits_of}
-use Prim.Native.Nat.{◌-◌}
 use lib.ListN.{length}
+use Prim.Native.Nat.{◌-◌}
+use Rattle.rules.specs.Reading.{parse_class_member}
+use Rattle.parser.proofs.classes.Readers.{Stands}
 use Rattle.parser.proofs.classes.parse_members.Given as goal
 
-abbrev pub invariant-loop-e : goal.invariant-loop-e
-invariant-loop-e l = Going (parse_class_member (limits_of l.limits) l.script l.k.0) l.script l.initial.program l.initial.scratch l.initial.cur l.program l.scratch l.cur
+abbrev pub invariant-loop : goal.invariant-loop
+invariant-loop l = Stands (λ L s. parse_class_member L s l.k.0) l.initial.p l.p
 
-abbrev pub decreases-loop-e : goal.decreases-loop-e
-decreases-loop-e l = length l.script - l.cur.at
+abbrev pub decreases-loop : goal.decreases-loop
+decreases-loop l = length l.initial.p.script.now - l.p.at

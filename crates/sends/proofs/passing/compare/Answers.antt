@@ -11,11 +11,11 @@ returns-then-a-gt8 c = search covers-any
 
 pub returns-then-a-t : goal.returns-then-a-t
 returns-then-a-t c =
-    covers-set _ _ _ _ c.if-a-eq8.true (sym c.in-Set.is ∙ c.as_set.ensures) c.if-a-t.true
+    covers-set _ _ _ _ c.if-a-eq8.true (sym c.in-Some.is ∙ c.as_set.ensures) c.if-a-t.true
 
-pub returns-in-Set : goal.returns-in-Set
-returns-in-Set c =
-    widens_set _ _ _ _ c.if-a-eq8.true (sym c.in-Set.is ∙ c.as_set.ensures) c.if-a-t.false
+pub returns-in-Some : goal.returns-in-Some
+returns-in-Some c =
+    widens_set _ _ _ _ c.if-a-eq8.true (sym c.in-Some.is ∙ c.as_set.ensures) c.if-a-t.false
 
 pub returns-then-a-k-2 : goal.returns-then-a-k-2
 returns-then-a-k-2 c = search covers-same

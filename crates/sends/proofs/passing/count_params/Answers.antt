@@ -10,7 +10,7 @@ first_param-j-requires-clause-fits_id c = params-word c.requires
 
 pub loop-j-init : goal.loop-j-init
 loop-j-init c =
-    count-start c.args.sizes.insns c.args.chains.now _
+    count-start c.args.n c.args.chains.now _
 
 pub overflow_add-count : goal.overflow_add-count
 overflow_add-count c =

@@ -5,12 +5,9 @@ use Rattle.sends.proofs.passing.passed_words.Goals as goal
 pub opnd_words-requires-clause-at_in_bounds : goal.opnd_words-requires-clause-at_in_bounds
 opnd_words-requires-clause-at_in_bounds c = c.argument_at-at.ensures.inside
 
-pub opnd_words-requires-clause-state_held : goal.opnd_words-requires-clause-state_held
-opnd_words-requires-clause-state_held c = c.requires.state_held
-
 pub opnd_words-requires-clause-operand_inside : goal.opnd_words-requires-clause-operand_inside
 opnd_words-requires-clause-operand_inside c = argument-inside _ c.requires.caller c.argument_at-at.ensures.is
 
 pub returns : goal.returns
 returns c =
-    kind-passed c.args.state.now c.args.i.0 c.place_of-n.ensures c.argument_at-at.ensures.is c.opnd_words.ensures
+    kind-passed c.args.state.now.words.now c.args.i.0 c.place_of-n.ensures c.argument_at-at.ensures.is c.opnd_words.ensures

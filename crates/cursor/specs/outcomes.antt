@@ -1,0 +1,4 @@
+pub mod Parsed
+pub mod Moved
+pub mod Ident
+pub mod Matched

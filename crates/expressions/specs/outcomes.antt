@@ -1,0 +1,3 @@
+pub mod ArgTurn
+pub mod Args
+pub mod Suffixed

@@ -1,6 +1,0 @@
--- `program::read_insn` meets its contract. Assumes nothing.
-use Rattle.program.proofs.Reading.{insn_read}
-use Rattle.program.proofs.read_insn.Goals as goal
-
-pub returns : goal.returns
-returns c = search insn_read

@@ -1,6 +1,0 @@
--- `program::read_operand` meets its contract. Assumes nothing.
-use Rattle.program.proofs.Reading.{operand_read}
-use Rattle.program.proofs.read_operand.Goals as goal
-
-pub returns : goal.returns
-returns c = search operand_read

@@ -1,0 +1,9 @@
+-- `program::writer::copy_opnds` meets its contract. Assumes nothing.
+use Rattle.program.proofs.Pushing.{copy_start, copy_more}
+use Rattle.program.proofs.writer.copy_opnds.Goals as goal
+
+pub loop-i-init : goal.loop-i-init
+loop-i-init c = search copy_start
+
+pub loop-i-preserved : goal.loop-i-preserved
+loop-i-preserved c = search copy_more

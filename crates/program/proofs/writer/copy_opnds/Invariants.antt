@@ -1,0 +1,6 @@
+-- The first i operands are copied.
+use Rattle.program.proofs.Pushing.{Copying}
+use Rattle.program.proofs.writer.copy_opnds.Given as goal
+
+abbrev pub invariant-loop-i : goal.invariant-loop-i
+invariant-loop-i l = Copying l.args l.a l.n l.at l.initial.words l.words l.i

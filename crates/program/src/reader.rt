@@ -1,0 +1,82 @@
+// A program that is read.
+ghost use Rattle.std.specs.Prelude.{◌≡◌, map, ◌+◌, ◌*◌, ◌≤◌, ◌<◌};
+ghost use Rattle.program.specs.View.{ProgramReady};
+
+use crate::{
+    BLOCKS, CLASS_WORDS, CLASSES, Counts, FUNCTION_WORDS, FUNCTIONS, Function, INSN_WORDS, INSNS,
+    Name, OPNDS, Opnd, Row, op_from, owner_from, read_opnd,
+};
+use ids::{BlockId, ClassId, FunId, InsnId};
+
+// The script, the words that its tables stand in, and how many rows of each are in use.
+#[derive(Clone, Copy)]
+pub struct Program<'a> {
+    pub script: &'a [u8],
+    pub words: &'a [usize],
+    pub counts: Counts,
+    pub ghost ready: { ProgramReady words.now counts },
+}
+
+impl<'a> Program<'a> {
+    ghost use Rattle.program.specs.Layout.{opnds_at};
+    ghost use Rattle.program.specs.Rows.{opnds_in, opnd_of, nth};
+    ghost use Rattle.program.specs.View.{OwnsFrom, ReadsInsn, ReadsFun, ReadsBlock};
+
+    // An instruction, from its row.
+    pub fn insn(&self, i: InsnId) -> Row
+        requires { i.0 < self.now.counts.insns }
+        ensures { ReadsInsn self.now.words.now self.now.counts i.0 result }
+    {
+        let at = INSNS + INSN_WORDS * (i.0 as usize);
+        Row {
+            block: BlockId((self.words[at + 1] % 4294967296) as u32),
+            op: op_from(self.words[at], self.words[at + 2], self.words[at + 3]),
+            first: self.words[at + 4],
+            count: self.words[at + 5],
+        }
+    }
+
+    // Operand j of an instruction.
+    pub fn operand(&self, x: Row, j: usize) -> Opnd
+        requires { (x.first + x.count ≤ self.now.counts.opnds) × (j < x.count) }
+        ensures { opnd_of result ≡ nth (map opnd_of (opnds_in self.now.words.now (opnds_at + 2 * x.first) x.count)) j }
+    {
+        read_opnd(self.words, OPNDS + 2 * x.first + 2 * j)
+    }
+
+    pub fn fun(&self, f: FunId) -> Function
+        requires { f.0 < self.now.counts.functions }
+        ensures { ReadsFun self.now.words.now self.now.counts f.0 result }
+    {
+        let at = FUNCTIONS + FUNCTION_WORDS * (f.0 as usize);
+        Function {
+            name: Name {
+                start: self.words[at],
+                len: self.words[at + 1],
+            },
+            class: owner_from(self.words[at + 2]),
+            entry: BlockId((self.words[at + 3] % 4294967296) as u32),
+        }
+    }
+
+    // No function of class k stands below this one.
+    pub fn first_function(&self, k: ClassId) -> usize
+        ensures { OwnsFrom self.now.words.now self.now.counts.functions k.0 result }
+    {
+        let n = k.0 as usize;
+        if n < self.counts.classes {
+            self.words[CLASSES + CLASS_WORDS * n + 3]
+        } else {
+            0
+        }
+    }
+
+    // The function of a block.
+    pub fn function_of(&self, b: BlockId) -> FunId
+        requires { b.0 < self.now.counts.blocks }
+        ensures { ReadsBlock self.now.words.now self.now.counts b.0 result.0 }
+    {
+        let at = BLOCKS + 2 * (b.0 as usize);
+        FunId((self.words[at] % 4294967296) as u32)
+    }
+}

@@ -1,0 +1,6 @@
+-- `state::State::add_read` meets its contract. Assumes nothing.
+use Rattle.state.proofs.Puts.{read_set}
+use Rattle.state.proofs.State.add_read.Goals as goal
+
+pub returns : goal.returns
+returns c = record { lent = c.add_mark.ensures.lent; regs = c.add_mark.ensures.regs; put = search read_set }

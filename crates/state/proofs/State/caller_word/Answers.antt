@@ -1,0 +1,6 @@
+-- `state::State::caller_word` meets its contract. Assumes nothing.
+use Rattle.state.proofs.Puts.{called-word}
+use Rattle.state.proofs.State.caller_word.Goals as goal
+
+pub returns : goal.returns
+returns c = search called-word

@@ -1,6 +1,0 @@
--- `state::caller_word` meets its contract. Assumes nothing.
-use Rattle.state.proofs.Puts.{called-word}
-use Rattle.state.proofs.caller_word.Goals as goal
-
-pub returns : goal.returns
-returns c = search called-word

@@ -1,6 +1,0 @@
--- `state::has_read` meets its contract. Assumes nothing.
-use Rattle.state.proofs.Puts.{read-read}
-use Rattle.state.proofs.has_read.Goals as goal
-
-pub returns : goal.returns
-returns c = search read-read

@@ -1,0 +1,32 @@
+-- What the rules promise of the state that they change. Assumes nothing.
+use Rattle.std.specs.Prelude.{ℕ, Result, Ok, Err}
+use Rattle.refusals.specs.declared.Refusal.{Refusal}
+use Rattle.kinds.specs.declared.Kind.{Kind}
+use Rattle.kinds.specs.declared.Kind.TheVariants.{Empty}
+use Rattle.kinds.specs.Union.{Joined}
+use Rattle.rules.specs.Program.{Limits, Program}
+use Rattle.rules.specs.Machine.{Acts}
+use Rattle.program.specs.declared.Row.{Row}
+use Rattle.state.specs.View.{Attrs}
+use Rattle.state.specs.Methods.{Lent}
+use Rattle.state.specs.declared.State.{State}
+use Rattle.machine.specs.declared.tables.Code.{Code}
+use Rattle.machine.specs.Analysed.{MachineFits}
+use Rattle.visits.specs.Visits.{kind_of, Rules, rule_of, Visiting}
+
+-- a change with no kind
+abbrev pub nothing_in : Result (Unit {0}) Refusal → Joined
+nothing_in (Ok a) = Ok Empty
+nothing_in (Err e) = Err e
+
+-- an action that gives a kind, of the state that is lent
+pub record Gave (fits : Program → Attrs → Type 0) (f : Limits → Program → Acts Kind) (s t : State) (r : Joined) : Type 0 where
+  pub lent : Lent s t
+  pub rules : Rules s.sizes fits f s.words.now s.regs t.words.now (kind_of t.regs r)
+
+-- what the rules of all sorts may rely on, and what they promise: row is that of instruction i
+abbrev pub VisitOf : Code → State → ℕ → Row → Type 0
+VisitOf c s i row = Visiting c.program.script.now c.program.words.now c.program.counts c.chains.now s.sizes s.words.now s.regs i row
+
+abbrev pub Gives : Code → State → State → ℕ → Joined → Type 0
+Gives c s t i r = Gave (MachineFits c.program.script.now c.program.words.now c.program.counts) (rule_of i) s t r
