@@ -47,7 +47,7 @@ pub fn bytes_at(script: &[u8], a: usize, n: usize) -> &[u8]
     &rest[..n.min(rest.len())]
 }
 
-fn same_bytes(x: &[u8], y: &[u8]) -> bool
+pub fn same_bytes(x: &[u8], y: &[u8]) -> bool
     ensures { result ≡ same x.now y.now }
 {
     x == y

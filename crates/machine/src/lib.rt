@@ -18,7 +18,7 @@ use kinds::Kind;
 use program::{Counts, Program};
 use refusals::Refusal;
 use state::{Sizes, State};
-pub use tables::{Code, Tables};
+pub use tables::Tables;
 
 pub fn sizes(counts: Counts) -> Sizes
     ensures { result ≡ sizes_of counts }

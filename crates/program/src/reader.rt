@@ -19,8 +19,15 @@ pub struct Program<'a> {
 
 impl<'a> Program<'a> {
     ghost use Rattle.program.specs.Layout.{opnds_at};
-    ghost use Rattle.program.specs.Rows.{opnds_in, opnd_of, nth};
+    ghost use Rattle.program.specs.Rows.{opnds_in, opnd_of, nth, name_in};
     ghost use Rattle.program.specs.View.{OwnsFrom, ReadsInsn, ReadsFun, ReadsBlock};
+
+    // The bytes of a name.
+    pub fn name(&self, n: Name) -> &'a [u8]
+        ensures { result.now ≡ name_in self.now.script.now n }
+    {
+        lexer::bytes_at(self.script, n.start, n.len)
+    }
 
     // An instruction, from its row.
     pub fn insn(&self, i: InsnId) -> Row

@@ -9,14 +9,15 @@ ghost use Rattle.state.specs.Acted.{acted_of};
 ghost use Rattle.state.specs.View.{StateHeld, StateCleared, no_entries};
 ghost use Rattle.state.specs.Methods.{Lent};
 ghost use Rattle.answer.specs.Layout.{answer_length};
-ghost use Rattle.machine.specs.Analysed.{Indexed, Analysed};
+ghost use Rattle.machine.specs.Analysed.{Indexed as Analysable, Analysed};
 ghost use Rattle.memory.specs.Layout.{instructions_most};
 ghost use Rattle.settled.specs.Reads.{whole};
 ghost use Rattle.run.specs.Runs.{StampsFresh, Reaching, RunRan};
 ghost use Rattle.chains.specs.Layout.{chains_size, program_length};
 ghost use Rattle.sctp.specs.Sctp.{tables_of, Given, SctpChained, SctpAside, StartsAside, Begins, Ends, Analyses};
 
-use machine::{Code, Tables};
+use chains::Indexed;
+use machine::Tables;
 use program::{Counts, Program};
 use refusals::Refusal;
 use state::{Regs, Sizes, State};
@@ -62,8 +63,8 @@ fn clear_callers(users: &mut [usize])
 }
 
 // The start; the answer's callers are its work memory.
-fn start_aside(code: &Code, users: &mut [usize], state: &mut State) -> Result<(), Refusal>
-    requires indexed { Indexed code.now.program.script.now code.now.program.words.now code.now.program.counts code.now.chains.now state.old.sizes }
+fn start_aside(code: &Indexed, users: &mut [usize], state: &mut State) -> Result<(), Refusal>
+    requires indexed { Analysable code.now.program.script.now code.now.program.words.now code.now.program.counts code.now.chains.now state.old.sizes }
     requires users_len { length users.old ≡ answer_length }
     requires state_cleared { StateCleared state.old.sizes state.old.words.now }
     requires nothing_waits { state.old.regs ≡ no_entries }
@@ -73,8 +74,8 @@ fn start_aside(code: &Code, users: &mut [usize], state: &mut State) -> Result<()
     starts::start(code, &mut users[answer::CALLERS..], state)
 }
 
-fn begin(code: &Code, users: &mut [usize], state: &mut State) -> Result<(), Refusal>
-    requires indexed { Indexed code.now.program.script.now code.now.program.words.now code.now.program.counts code.now.chains.now state.old.sizes }
+fn begin(code: &Indexed, users: &mut [usize], state: &mut State) -> Result<(), Refusal>
+    requires indexed { Analysable code.now.program.script.now code.now.program.words.now code.now.program.counts code.now.chains.now state.old.sizes }
     requires users_len { length users.old ≡ answer_length }
     requires nothing_waits { state.old.regs ≡ no_entries }
     ensures { Lent state.old state.new × Begins code.now.program.script.now code.now.program.words.now code.now.program.counts state.old.sizes
@@ -104,7 +105,7 @@ fn run_lent(tables: &Tables, state: &mut State, stamps: &mut [usize]) -> Result<
 
 // The start, then the run, with no stamp for any instruction.
 fn analyse(
-    code: &Code,
+    code: &Indexed,
     users: &mut [usize],
     state: &mut State,
     stamps: &mut [usize],
@@ -145,7 +146,7 @@ pub fn sctp(
         counts,
     };
     uses::compute_uses(&tables, state.words, users, answer::STARTS, answer::USERS);
-    let code = Code {
+    let code = Indexed {
         program: tables,
         chains,
     };

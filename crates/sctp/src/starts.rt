@@ -11,7 +11,6 @@ ghost use Rattle.sctp.specs.starts.Starts.{Mains, Started};
 use chains::Indexed;
 use constructors::Flow;
 use ids::BlockId;
-use machine::Code;
 use program::Program;
 use refusals::Refusal;
 use state::State;
@@ -31,7 +30,7 @@ fn main_entry(program: &Program) -> BlockId
 }
 
 // Question 12, then 13; y is work memory.
-pub fn start(code: &Code, y: &mut [usize], state: &mut State) -> Result<(), Refusal>
+pub fn start(code: &Indexed, y: &mut [usize], state: &mut State) -> Result<(), Refusal>
     requires indexed { Analysable code.now.program.script.now code.now.program.words.now code.now.program.counts code.now.chains.now state.old.sizes }
     requires walk_size_in_bounds { walk_size ≤ length y.old }
     requires state_cleared { StateCleared state.old.sizes state.old.words.now }
@@ -42,12 +41,7 @@ pub fn start(code: &Code, y: &mut [usize], state: &mut State) -> Result<(), Refu
     if code.program.counts.functions == 0 {
         return Err(Refusal::NoFunction);
     }
-    let flow = Flow {
-        indexed: Indexed {
-            program: code.program,
-            chains: code.chains,
-        },
-    };
+    let flow = Flow { indexed: *code };
     constructors::firsts::all_first_kinds(&flow, y, state.words, TAGS, PAYLOADS)?;
     let b = main_entry(&code.program);
     machine::blocks::go_live(state, code.chains, b)

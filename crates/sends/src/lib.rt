@@ -14,15 +14,15 @@ ghost use Rattle.machine.specs.opnds.Reads.{OperandInside};
 ghost use Rattle.sends.specs.passing.Passing.{PassIdle};
 ghost use Rattle.sends.specs.Sends.{call_to, call_static, send_to, send_all, Calling, CallsIn};
 
+use chains::Indexed;
 use ids::{ClassId, FunId, InsnId};
-use machine::Code;
 use program::{Name, Opnd};
 use refusals::Refusal;
 use state::State;
 
 // Call i, which has `args` arguments, is a caller of f, or 16 or 20.
 fn enter_call(
-    code: &Code,
+    code: &Indexed,
     state: &mut State,
     i: InsnId,
     args: usize,
@@ -42,7 +42,7 @@ fn enter_call(
 }
 
 // The Params of f wait whose kinds the arguments of call i would change, or 19 or 20.
-fn pass(code: &Code, state: &mut State, i: InsnId, f: FunId) -> Result<(), Refusal>
+fn pass(code: &Indexed, state: &mut State, i: InsnId, f: FunId) -> Result<(), Refusal>
     requires calling { Calling state.old.sizes code.now.program.words.now code.now.program.counts code.now.chains.now i.0 }
     requires f_lt_functions { f.0 < code.now.program.counts.functions }
     ensures { (s : List ℕ) (k : ℕ) → Did (CallsIn s code.now.program.words.now code.now.program.counts i.0 k)
@@ -52,7 +52,13 @@ fn pass(code: &Code, state: &mut State, i: InsnId, f: FunId) -> Result<(), Refus
     passing::pass_arguments(code, state, i, entry)
 }
 
-fn call_to(code: &Code, state: &mut State, i: InsnId, args: usize, f: FunId) -> Result<(), Refusal>
+fn call_to(
+    code: &Indexed,
+    state: &mut State,
+    i: InsnId,
+    args: usize,
+    f: FunId,
+) -> Result<(), Refusal>
     requires calling { Calling state.old.sizes code.now.program.words.now code.now.program.counts code.now.chains.now i.0 }
     requires f_lt_functions { f.0 < code.now.program.counts.functions }
     ensures { (s : List ℕ) → Did (CallsIn s code.now.program.words.now code.now.program.counts i.0 args)
@@ -64,7 +70,7 @@ fn call_to(code: &Code, state: &mut State, i: InsnId, args: usize, f: FunId) -> 
 
 // What the bare call i of f sets off: 16 or 20, then 17, then 19 or 20.
 pub fn send_static(
-    code: &Code,
+    code: &Indexed,
     state: &mut State,
     i: InsnId,
     args: usize,
@@ -84,7 +90,7 @@ pub fn send_static(
 }
 
 // A quick test that call i of f changes nothing: it is no new caller, and its arguments leave the kinds of f's Params as they are.
-fn settled(code: &Code, state: &State, i: InsnId, f: FunId) -> bool
+fn settled(code: &Indexed, state: &State, i: InsnId, f: FunId) -> bool
     requires calling { Calling state.now.sizes code.now.program.words.now code.now.program.counts code.now.chains.now i.0 }
     requires f_lt_functions { f.0 < code.now.program.counts.functions }
     ensures { result ≡ true → (s : List ℕ) (k : ℕ) → PassIdle state.now.sizes (CallsIn s code.now.program.words.now code.now.program.counts i.0 k)
@@ -99,7 +105,7 @@ fn settled(code: &Code, state: &State, i: InsnId, f: FunId) -> bool
 
 // Call i of the method n of class k, or 15.
 fn send_to(
-    code: &Code,
+    code: &Indexed,
     state: &mut State,
     i: InsnId,
     args: usize,
@@ -123,7 +129,7 @@ fn send_to(
 
 // Call i of the method n of each class of a set.
 fn send_each(
-    code: &Code,
+    code: &Indexed,
     state: &mut State,
     i: InsnId,
     args: usize,
@@ -144,7 +150,7 @@ fn send_each(
 
 // What call i of the method n of receiver o sets off: 14, then for each class 15, 16 or 20, 19 or 20.
 pub fn send_dynamic(
-    code: &Code,
+    code: &Indexed,
     state: &mut State,
     i: InsnId,
     args: usize,

@@ -7,9 +7,9 @@ ghost use Rattle.chains.specs.Chains.{ChainIs};
 ghost use Rattle.flows.specs.Flows.{words_of};
 ghost use Rattle.sends.specs.passing.Passing.{pass_to, ParamPlaced, HasParams, Caller, CallIn, ArgumentPasses, CoversTells, Keeps, PassIn, PassIdle};
 
+use chains::Indexed;
 use flows::Words;
 use ids::{BlockId, InsnId};
-use machine::Code;
 use program::Program;
 use refusals::Refusal;
 use state::State;
@@ -122,7 +122,7 @@ fn pass_to(program: &Program, state: &mut State, i: InsnId, j: InsnId) -> Result
 
 // The Params of a function with this entry wait whose kinds the arguments of call i would change.
 pub fn pass_arguments(
-    code: &Code,
+    code: &Indexed,
     state: &mut State,
     i: InsnId,
     entry: BlockId,
@@ -142,7 +142,7 @@ pub fn pass_arguments(
 }
 
 // A quick test that the arguments of call i leave the kinds of all Params of a function with this entry as they are.
-pub fn surely_keeps_all(code: &Code, state: &State, i: InsnId, entry: BlockId) -> bool
+pub fn surely_keeps_all(code: &Indexed, state: &State, i: InsnId, entry: BlockId) -> bool
     requires caller { Caller code.now.program.words.now code.now.program.counts state.now.sizes i.0 }
     requires has_params { HasParams state.now.sizes.insns code.now.chains.now entry.0 }
     ensures { result ≡ true → (f : ℕ) → PassIdle state.now.sizes

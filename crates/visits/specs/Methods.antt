@@ -10,7 +10,7 @@ use Rattle.program.specs.declared.Row.{Row}
 use Rattle.state.specs.View.{Attrs}
 use Rattle.state.specs.Methods.{Lent}
 use Rattle.state.specs.declared.State.{State}
-use Rattle.machine.specs.declared.tables.Code.{Code}
+use Rattle.chains.specs.declared.view.Indexed.{Indexed}
 use Rattle.machine.specs.Analysed.{MachineFits}
 use Rattle.visits.specs.Visits.{kind_of, Rules, rule_of, Visiting}
 
@@ -25,8 +25,8 @@ pub record Gave (fits : Program → Attrs → Type 0) (f : Limits → Program �
   pub rules : Rules s.sizes fits f s.words.now s.regs t.words.now (kind_of t.regs r)
 
 -- what the rules of all sorts may rely on, and what they promise: row is that of instruction i
-abbrev pub VisitOf : Code → State → ℕ → Row → Type 0
+abbrev pub VisitOf : Indexed → State → ℕ → Row → Type 0
 VisitOf c s i row = Visiting c.program.script.now c.program.words.now c.program.counts c.chains.now s.sizes s.words.now s.regs i row
 
-abbrev pub Gives : Code → State → State → ℕ → Joined → Type 0
+abbrev pub Gives : Indexed → State → State → ℕ → Joined → Type 0
 Gives c s t i r = Gave (MachineFits c.program.script.now c.program.words.now c.program.counts) (rule_of i) s t r

@@ -10,9 +10,10 @@ ghost use Rattle.machine.specs.Analysed.{Analysed, MachineFits, Steady};
 ghost use Rattle.visits.specs.Visits.{operands_of};
 ghost use Rattle.visits.specs.Methods.{nothing_in, VisitOf, Gives};
 
+use chains::Indexed;
 use ids::{BlockId, ClassId, FunId, InsnId};
 use kinds::{Arith, Kind};
-use machine::{Code, Tables};
+use machine::Tables;
 use program::{Name, Op, Opnd, Program, Row};
 use refusals::Refusal;
 use state::State;
@@ -39,7 +40,7 @@ fn operand(program: &Program, row: Row, j: usize) -> Opnd
 }
 
 // A Jump's target waits.
-fn jump(code: &Code, state: &mut State, i: InsnId, row: Row, b: BlockId) -> Result<Kind, Refusal>
+fn jump(code: &Indexed, state: &mut State, i: InsnId, row: Row, b: BlockId) -> Result<Kind, Refusal>
     requires visiting { VisitOf code.now state.old i.0 row }
     requires op_value { row.op ≡ Op.Jump b }
     ensures { Gives code.now state.old state.new i.0 result }
@@ -49,7 +50,7 @@ fn jump(code: &Code, state: &mut State, i: InsnId, row: Row, b: BlockId) -> Resu
 
 // The admitted arms of an IfTrue wait.
 fn branch(
-    code: &Code,
+    code: &Indexed,
     state: &mut State,
     i: InsnId,
     row: Row,
@@ -65,7 +66,7 @@ fn branch(
 }
 
 // The callers wait that a Return's kind would change.
-fn give_back(code: &Code, state: &mut State, i: InsnId, row: Row) -> Result<Kind, Refusal>
+fn give_back(code: &Indexed, state: &mut State, i: InsnId, row: Row) -> Result<Kind, Refusal>
     requires visiting { VisitOf code.now state.old i.0 row }
     requires op_value { row.op ≡ Op.Return }
     ensures { Gives code.now state.old state.new i.0 result }
@@ -76,7 +77,7 @@ fn give_back(code: &Code, state: &mut State, i: InsnId, row: Row) -> Result<Kind
 }
 
 // A call of function f.
-fn call(code: &Code, state: &mut State, i: InsnId, row: Row, f: FunId) -> Result<Kind, Refusal>
+fn call(code: &Indexed, state: &mut State, i: InsnId, row: Row, f: FunId) -> Result<Kind, Refusal>
     requires visiting { VisitOf code.now state.old i.0 row }
     requires op_value { row.op ≡ Op.SendStatic f }
     ensures { Gives code.now state.old state.new i.0 result }
@@ -86,7 +87,7 @@ fn call(code: &Code, state: &mut State, i: InsnId, row: Row, f: FunId) -> Result
 }
 
 // A call of the methods of a name.
-fn send(code: &Code, state: &mut State, i: InsnId, row: Row, n: Name) -> Result<Kind, Refusal>
+fn send(code: &Indexed, state: &mut State, i: InsnId, row: Row, n: Name) -> Result<Kind, Refusal>
     requires visiting { VisitOf code.now state.old i.0 row }
     requires op_value { row.op ≡ Op.SendDynamic n }
     ensures { Gives code.now state.old state.new i.0 result }
@@ -99,7 +100,7 @@ fn send(code: &Code, state: &mut State, i: InsnId, row: Row, n: Name) -> Result<
 }
 
 // Arithmetic.
-fn compute(code: &Code, state: &State, i: InsnId, row: Row, o: Arith) -> Result<Kind, Refusal>
+fn compute(code: &Indexed, state: &State, i: InsnId, row: Row, o: Arith) -> Result<Kind, Refusal>
     requires visiting { VisitOf code.now state.now i.0 row }
     requires op_value { row.op ≡ Op.Compute o }
     ensures { Gives code.now state.now state.now i.0 result }
@@ -111,7 +112,7 @@ fn compute(code: &Code, state: &State, i: InsnId, row: Row, o: Arith) -> Result<
 
 // The operands of a Phi whose blocks are live.
 fn phi(
-    code: &Code,
+    code: &Indexed,
     state: &State,
     i: InsnId,
     row: Row,
@@ -128,7 +129,7 @@ fn phi(
 }
 
 // What has flowed to a Param.
-fn param(code: &Code, state: &State, i: InsnId, row: Row, n: usize) -> Result<Kind, Refusal>
+fn param(code: &Indexed, state: &State, i: InsnId, row: Row, n: usize) -> Result<Kind, Refusal>
     requires visiting { VisitOf code.now state.now i.0 row }
     requires op_value { row.op ≡ Op.Param n }
     ensures { Gives code.now state.now state.now i.0 result }
@@ -138,7 +139,7 @@ fn param(code: &Code, state: &State, i: InsnId, row: Row, n: usize) -> Result<Ki
 }
 
 // The rule of an instruction, by its sort.
-fn rule(code: &Code, state: &mut State, i: InsnId, row: Row) -> Result<Kind, Refusal>
+fn rule(code: &Indexed, state: &mut State, i: InsnId, row: Row) -> Result<Kind, Refusal>
     requires { VisitOf code.now state.old i.0 row }
     ensures { Gives code.now state.old state.new i.0 result }
 {
@@ -159,7 +160,13 @@ fn rule(code: &Code, state: &mut State, i: InsnId, row: Row) -> Result<Kind, Ref
 }
 
 // An attribute is read.
-fn get_ivar(code: &Code, state: &mut State, i: InsnId, row: Row, n: Name) -> Result<Kind, Refusal>
+fn get_ivar(
+    code: &Indexed,
+    state: &mut State,
+    i: InsnId,
+    row: Row,
+    n: Name,
+) -> Result<Kind, Refusal>
     requires visiting { VisitOf code.now state.old i.0 row }
     requires op_value { row.op ≡ Op.GetIvar n }
     ensures { Gives code.now state.old state.new i.0 result }
@@ -170,7 +177,13 @@ fn get_ivar(code: &Code, state: &mut State, i: InsnId, row: Row, n: Name) -> Res
 }
 
 // An attribute is set.
-fn set_ivar(code: &Code, state: &mut State, i: InsnId, row: Row, n: Name) -> Result<Kind, Refusal>
+fn set_ivar(
+    code: &Indexed,
+    state: &mut State,
+    i: InsnId,
+    row: Row,
+    n: Name,
+) -> Result<Kind, Refusal>
     requires visiting { VisitOf code.now state.old i.0 row }
     requires op_value { row.op ≡ Op.SetIvar n }
     ensures { Gives code.now state.old state.new i.0 result }
