@@ -3,15 +3,19 @@ use mathlib.Core.Path.{◌≡◌, refl, sym, ap, ◌∙◌, subst}
 use mathlib.Core.List.Memᴰ
 use mathlib.Core.List.{List, [], ◌∷◌, Memᴰ}
 use mathlib.Core.Logic.{inl, inr}
-use Prim.Native.Nat.{ℕ, zero, suc, ◌+◌, ◌/◌, ◌%◌, ◌^◌, ◌≤◌, ◌<◌}
+use Prim.Native.Nat.{ℕ, zero, suc, ◌+◌, ◌*◌, ◌/◌, ◌%◌, ◌^◌, ◌≤◌, ◌<◌}
 use native.Mathlib.Omega.{arith}
-use native.Mathlib.Nat.{add-zero, pow-suc}
+use native.Mathlib.Nat.{mod-lt, add-zero, pow-suc, mul-zero, mul-suc, mul_assoc, add_comm}
+use lib.Dec.{lit<}
+use lib.Pow.{pow_pos}
 use lib.ListN.{length}
 use lib.Bits.{bit_or}
 use lib.Count.{ones}
 use Rattle.ids.specs.Sets.{keep, members_from, members_of}
+use Rattle.ids.specs.Left.{members_left}
+use Rattle.ids.specs.declared.upward.ClassWalk.{ClassWalk}
 use Rattle.ids.proofs.Bits.{or_half, or_low}
-use Rattle.ids.proofs.Walk.{clear, set, members_count, no_members}
+use Rattle.ids.proofs.Walk.{clear, set, members_count, no_members, Step}
 
 -- a strictly rising list of numbers from i on
 abbrev pub Rising : ℕ → List ℕ → Type 0
@@ -93,3 +97,35 @@ one_from (suc d) i (suc c) h =
 pub members_one : (c : ℕ) → c < 64 → members_of (2 ^ c) ≡ c ∷ []
 unfolding members_of
 members_one c h = one_from 64 0 c h ∙ ap (λ (x : ℕ). x ∷ []) (omega arith)
+
+-- a set is the sum of its members' bits
+abbrev pub sum_of : List ℕ → ℕ
+sum_of [] = 0
+sum_of (c ∷ l) = 2 ^ c + sum_of l
+
+sum-from : (d i s : ℕ) → s < 2 ^ d → sum_of (members_from d i s) ≡ 2 ^ i * s
+unfolding members_from
+sum-from zero i s h = let e : s ≡ 0 = omega arith in rw e (sym (mul-zero (2 ^ i)))
+sum-from (suc d) i s h = go (s % 2) refl (sum-from d (suc i) (s / 2) (let p = pow-suc 2 d in omega arith))
+  where
+    double : 2 ^ suc i * (s / 2) ≡ 2 ^ i * (2 * (s / 2))
+    double = ap (λ (x : ℕ). x * (s / 2)) (pow-suc 2 i) ∙ mul_assoc (2 ^ i) 2 (s / 2)
+
+    go : (r : ℕ) → s % 2 ≡ r → sum_of (members_from d (suc i) (s / 2)) ≡ 2 ^ suc i * (s / 2) → sum_of (members_from (suc d) i s) ≡ 2 ^ i * s
+    go zero e ih = ap sum_of (clear d s i 0 e) ∙ ih ∙ double ∙ ap (λ (x : ℕ). 2 ^ i * x) (omega arith)
+    go (suc r) e ih =
+        ap sum_of (set d s i r e) ∙ ap (λ (x : ℕ). 2 ^ i + x) (ih ∙ double) ∙ add_comm (2 ^ i) (2 ^ i * (2 * (s / 2))) ∙ sym (mul-suc (2 ^ i) (2 * (s / 2)))
+        ∙ ap (λ (x : ℕ). 2 ^ i * x) (omega (arith, mod-lt s (lit< {m = 0} {n = 2} tt)))
+
+-- a step of the walk, from what is left before it and after it
+pub walk_step : (u v : ClassWalk) (c : ℕ) → members_left u ≡ c ∷ members_left v → Step u.set c v.set
+unfolding members_of
+walk_step u v c e =
+    let a = sum-from 64 0 u.set u.fits in
+    let b = sum-from 64 0 v.set v.fits in
+    let f = ap sum_of e in
+    record {
+      walk = e;
+      falls = omega (arith, pow_pos c);
+      below = members_below 64 u.set c u.fits (subst (Memᴰ c) (sym e) (Memᴰ.head refl));
+    }

@@ -1,11 +1,19 @@
 // The numbers of a program's things, and sets of classes.
 #![tactic(auto)]
 
-ghost use Rattle.std.specs.Prelude.{◌≡◌, ◌<◌};
+mod upward;
+
+ghost use Rattle.std.specs.Prelude.{◌≡◌, ◌%◌, ◌^◌, ◌<◌};
 ghost use Rattle.std.specs.Int.Count.{ones};
 ghost use Rattle.ids.specs.Sets.{one_of, two_of, next_of};
 
+pub use upward::{ClassWalk, classes};
+
 // A class, a function, a block and an instruction: four types, so that no number is used for another sort of thing.
+// Stays: `index` stands in each. The checker refuses an `impl` that a macro of ours writes, and one type with the sort of thing as its
+// parameter would hold a marker besides, in every id that is made and in every pattern.
+// Stays: a row's number becomes an id by a cast: the check finds at each place that it fits, where `try_from` would hand on an error that
+// can't occur.
 #[derive(Clone, Copy, PartialEq, Eq)]
 pub struct ClassId(pub u32);
 
@@ -58,7 +66,15 @@ impl InsnId {
     }
 }
 
+// The number of a thing in a word, which no longer one is written to.
+pub fn number_in(word: usize) -> u32
+    ensures { result ≡ word % 2 ^ 32 }
+{
+    (word % 4294967296) as u32
+}
+
 // The set of one class.
+#[tactic(auto, using(crate::proofs::Bits::one_shl))]
 pub fn one(c: ClassId) -> u64
     requires { c.0 < 64 }
     ensures { result ≡ one_of c.0 }
@@ -75,6 +91,7 @@ pub fn two(c: ClassId, d: ClassId) -> u64
 }
 
 // A step of the walk upward: the smallest class, found by counting trailing zeros, and the set without it.
+#[tactic(auto, using(crate::proofs::Bits::one_shl, crate::proofs::Walk::smallest))]
 pub fn smallest(s: u64) -> Option<(ClassId, u64)>
     ensures { result ≡ next_of s }
 {

@@ -190,3 +190,9 @@ module _ (o : Arith) (a b : Kind) where
           go (Some m) (Some n) p q = absurd (u m n (known_num a m p) (known_num b n q))
           go (Some m) None p q = rw (s, h) e
           go None y p q = rw (s, h) e
+
+-- ---- what the check tries at each way through a function
+
+pub ruleset unions = (told, told_or, not-alone, union-any, union_left, union_right, union-name, union_mix)
+
+pub ruleset rules_of = (told_or, sub_arith, empty_arith, number_arith, wide_arith)

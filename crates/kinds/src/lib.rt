@@ -150,8 +150,8 @@ pub fn kind_from(tag: usize, bits: usize) -> Kind
         1 => Kind::Nil,
         2 => Kind::Num(numbers::number_of(bits as u64)),
         3 => Kind::Truth(bits != 0),
-        4 => Kind::Fun(FunId((bits % 4294967296) as u32)),
-        5 => Kind::Class(ClassId((bits % 4294967296) as u32)),
+        4 => Kind::Fun(FunId(ids::number_in(bits))),
+        5 => Kind::Class(ClassId(ids::number_in(bits))),
         6 => Kind::Int,
         7 => Kind::Bool,
         8 => Kind::Objects(bits as u64),
@@ -178,6 +178,7 @@ fn mix(a: Kind, b: Kind) -> Kind
 }
 
 // The union of any two kinds.
+#[tactic(auto, using(crate::proofs::Steps::unions))]
 fn union_of(a: Kind, b: Kind) -> Result<Kind, Refusal>
     ensures { result ≡ union_of a b }
 {
@@ -197,6 +198,7 @@ fn union_of(a: Kind, b: Kind) -> Result<Kind, Refusal>
 }
 
 // The same; two sets are joined at once.
+#[tactic(auto, using(crate::proofs::Laws::sets_joined))]
 pub fn union(a: Kind, b: Kind) -> Result<Kind, Refusal>
     ensures { result ≡ union_of a b }
 {
@@ -257,6 +259,7 @@ fn by_union(o: Arith, a: Kind, b: Kind) -> Result<Kind, Refusal>
 }
 
 // Add, Mul and LessThan on kinds; Sub is refused.
+#[tactic(auto, using(crate::proofs::Steps::rules_of))]
 pub fn combine(o: Arith, a: Kind, b: Kind) -> Result<Kind, Refusal>
     ensures { result ≡ arith_of o a b }
 {

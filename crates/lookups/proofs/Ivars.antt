@@ -204,16 +204,20 @@ module _ (l : Limits) (s m : List ℕ) (c : Counts) (k : ℕ) (n : Name) (q : Op
   unfolding push_ivar
   ivar_taken e = record { is = λ r. rw (has-is ∙ e); ok = tt }
 
-  module _ (e : t ≡ false) (hk : k < c.classes) where
-    pub ivar_full : l.ivars ≤ ivars_of m k → Declares l k n s m c m (Err OverLimit)
-    unfolding push_ivar
-    ivar_full h = record { is = λ r. rw (has-is ∙ e, count-is s m c k hk, le-ltb (ivars_of m k) l.ivars h); ok = tt }
+  module _ (e : t ≡ false) (hk : k < c.classes) {j : ℕ} (counted : j ≡ ivars_of m' k) where
+    counted-here : j ≡ ivars_of m k
+    counted-here = counted ∙ ap (λ (x : List ℕ). ivars_of x k) em
 
-    pub ivar_done : {m' : List ℕ} → ProgramReady m c → Small l → ivars_of m k < l.ivars → PutsIvar k (ivars_of m k) n m m' → Declares l k n s m c m' (Ok tt)
+    pub ivar_full : l.ivars ≤ j → Declares l k n s m c m (Err OverLimit)
+    unfolding push_ivar
+    ivar_full h = record { is = λ r. rw (has-is ∙ e, count-is s m c k hk, ← counted-here, le-ltb j l.ivars h); ok = tt }
+
+    pub ivar_done : {m2 : List ℕ} → ProgramReady m c → Small l → j < l.ivars → PutsIvar k j n m m2 → Declares l k n s m c m2 (Ok tt)
     unfolding push_ivar
     ivar_done ready small h p =
-        let few : ivars_of m k < ivars_most = omega (arith, small.ivars) in
+        let few : ivars_of m k < ivars_most = omega (arith, small.ivars, counted-here) in
+        let puts = rw counted-here at p in
         record {
-          is = λ r. rw (has-is ∙ e, count-is s m c k hk, lt-ltb (ivars_of m k) l.ivars h) (ap (λ (v : P.Program). answered (tt, with_program v r)) (ivar_view n ready hk few p s));
-          ok = ivar_ready n ready hk few p;
+          is = λ r. rw (has-is ∙ e, count-is s m c k hk, ← counted-here, lt-ltb j l.ivars h) (ap (λ (v : P.Program). answered (tt, with_program v r)) (ivar_view n ready hk few puts s));
+          ok = ivar_ready n ready hk few puts;
         }

@@ -5,7 +5,7 @@ use mathlib.Core.List.{List, [], ◌∷◌, ◌++◌, append_assoc, append-nil}
 use native.Mathlib.Decide.{ℕ_discrete, dec_lt}
 use native.Mathlib.Omega.{arith}
 use lib.ListN.{length, get_or, set, take, drop, length-set, length-replicate, length-append, length-take, length-drop, replicate-append-replicate, take-append-drop, get_or-append}
-use lib.Seq.{get_or-set_same, get_or-set_other, take_all, take_at, drop_at, get_or-drop, get_or-take, get_or-append-add, length-take-le, ext_get_or}
+use lib.Seq.{get_or-set_same, get_or-set_other, take_at, drop_at, get_or-drop, get_or-take, get_or-append-add, length-take-le, ext_get_or}
 use Rattle.memory.specs.Memory.{zeros, Blank, over, filled}
 
 -- ---- cleared places
@@ -180,6 +180,3 @@ module _ {t d₀ d : List ℕ} {at i : ℕ} (g : Writing t d₀ d at i) where
             ∙ ap (λ (y : List ℕ). get_or y j 0) g.is
             ∙ over_out at (take i t) d₀ j (omega (arith, g.room)) o);
       }
-
-  pub writing_done : length t ≤ i → d ≡ over at t d₀
-  writing_done le = g.is ∙ rw (take_all i t le)

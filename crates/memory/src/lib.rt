@@ -26,7 +26,7 @@ pub const WORKLIST_MOST: usize = 16384;
 // An instruction has at most two operands that are neither call arguments nor join operands.
 pub const USES_MOST: usize = OPERANDS_MOST + 2 * INSTRUCTIONS_MOST;
 
-// Blocks that the tables have room for; as a block's number it stands for none.
+// Blocks that the tables have room for.
 pub const BLOCKS_ROOM: usize = 1024;
 
 // The words of a row of bits, one for each instruction.

@@ -12,6 +12,8 @@ pub struct Lowest {
 }
 
 // Bit i of the row that starts at base.
+// Stays: a row is told by where it starts, since it is a part of memory that a state lends whole.
+#[tactic(auto, unfolding(crate::specs::tables::Bits::bit_at))]
 pub fn test_bit(words: &[usize], base: usize, i: usize) -> bool
     requires { base + i / 64 < length words.now }
     ensures { result ≡ bit_at words.now base i }
@@ -20,6 +22,7 @@ pub fn test_bit(words: &[usize], base: usize, i: usize) -> bool
     (word >> (i % 64)) % 2 != 0
 }
 
+#[tactic(auto, using(crate::proofs::tables::Bit::bit_stored))]
 pub fn set_bit(words: &mut [usize], base: usize, i: usize)
     requires { base + i / 64 < length words.old }
     ensures { words.new ≡ with_bit words.old base i }
@@ -30,6 +33,7 @@ pub fn set_bit(words: &mut [usize], base: usize, i: usize)
 
 // The first set bit from `from` on, among the first n bits of the row.
 // Stays: a search through the row's words would have the first word, cut below `from`, as a case of its own.
+#[tactic(auto, using(crate::proofs::tables::Walk::walks))]
 pub fn next_bit(words: &[usize], base: usize, from: usize, n: usize) -> Option<usize>
     requires { (n ≤ instructions_most) × (base + row_words ≤ length words.now) }
     ensures { Next (bit_at words.now base) n from result }
@@ -51,6 +55,7 @@ pub fn next_bit(words: &[usize], base: usize, from: usize, n: usize) -> Option<u
 }
 
 // Word k of a row of n bits; what stands behind them in memory is left out.
+#[tactic(auto, using(crate::proofs::tables::Word::row_words))]
 pub fn row_word(words: &[usize], base: usize, n: usize, k: usize) -> usize
     requires { (k < row_words) × (base + row_words ≤ length words.now) }
     ensures { RowWord (listed n (bit_at words.now base)) k result }
@@ -68,6 +73,8 @@ pub fn row_word(words: &[usize], base: usize, n: usize, k: usize) -> usize
 }
 
 // The lowest bit of a word that has one.
+// Stays: beside `ids::smallest`, which gives a class of a set of 64 bits: here it is a place in a word of lent memory.
+#[tactic(auto, using(crate::proofs::tables::Words::lowest_bits))]
 pub fn lowest_bit(w: usize) -> Lowest
     requires { 0 < w }
     ensures { LowestBit w result.place result.rest }

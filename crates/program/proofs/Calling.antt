@@ -1,14 +1,16 @@
--- A call that is pushed. Assumes nothing.
-use mathlib.Core.Path.{◌≡◌, ap, ◌∙◌}
-use mathlib.Core.List.{List, ◌∷◌, ◌++◌, map}
-use Prim.Native.Nat.{ℕ, suc, ◌+◌, ◌*◌, ◌≤◌, ◌<◌}
+-- What is pushed: the operands given, and behind them those of another memory. Assumes nothing.
+use mathlib.Core.Path.{◌≡◌, sym, ap, ap₂, ◌∙◌}
+use mathlib.Core.List.{List, [], ◌∷◌, ◌++◌, append-nil}
+use Prim.Native.Nat.{ℕ, ◌+◌, ◌-◌, ◌*◌, ◌/◌, ◌≤◌, ◌<◌}
 use native.Mathlib.Omega.{arith}
-use lib.ListN.{length, length-append}
+use lib.ListN.{length, get_or, take, drop, length-append, length-take, length-drop}
+use Rattle.std.proofs.lemmas.List.{get_or-take, get_or-drop}
 use Rattle.ids.specs.declared.FunId.{FunId}
 use Rattle.rules.specs.Program as P
+use Rattle.program.specs.Tab.{tab}
 use Rattle.program.specs.Layout.{opnds_at, blocks_at}
-use Rattle.program.specs.Rows.{opnds_in, opnd_of, name_in, given}
-use Rattle.program.specs.View.{ProgramReady, limits_of, Puts, ProgramRoom, Commits, ProgramAdds, Asks, ProgramDid, grew, stopped, call_of, more_insns, more_calls, unchanged}
+use Rattle.program.specs.Rows.{opnd_from, opnd_at, opnds_in, given, listed_in}
+use Rattle.program.specs.View.{ProgramReady, limits_of, Puts, ProgramRoom, Commits, Asks, ProgramDid, Grew, grew, stopped, pushing_of, call_of, more_insns, more_calls, unchanged}
 use Rattle.program.specs.declared.Counts.{Counts}
 use Rattle.program.specs.declared.bounds.Limits.{Limits}
 use Rattle.program.specs.declared.Name.{Name}
@@ -16,67 +18,89 @@ use Rattle.program.specs.declared.Opnd.{Opnd}
 use Rattle.program.specs.declared.Op.{Op}
 use Rattle.program.specs.declared.Op.TheVariants.{SendStatic, SendDynamic}
 use Rattle.program.specs.declared.Given.{Given}
-use Rattle.program.specs.declared.Given.TheVariants.{Zero}
-use Rattle.program.specs.declared.Callee.{Callee}
 use Rattle.program.specs.declared.Callee.TheVariants.{Static, Dynamic}
-use Rattle.program.proofs.Areas.{puts_then, opnds-length, given-length}
+use Rattle.program.proofs.Tables.{tab_ext}
+use Rattle.program.proofs.Areas.{puts_then, opnds-length}
 use Rattle.program.proofs.Viewing.{ready-keep, free_opnds, flags-same}
-use Rattle.program.proofs.Pushing.{room_of, ready-puts, adds-is, stop_is, grew-is}
+use Rattle.program.proofs.Pushing.{room_of, ready-puts, adds-is, push-stop, push-grew}
 
--- the operands given, then n that are copied
-module _ {m m1 m2 : List ℕ} {c : Counts} {b : ℕ} (o : Op) (k a n : ℕ) (g : Given) (args : List ℕ) (r : ProgramReady m c) (room : ProgramRoom b o (length (given g) + n) c)
-    (q : k ≡ length (given g)) (p : Puts (opnds_at + 2 * c.opnds) (given g) m m1) (p' : Puts (opnds_at + 2 * c.opnds + 2 * k) (opnds_in args a n) m1 m2) where
-  both : Puts (opnds_at + 2 * c.opnds) (given g ++ opnds_in args a n) m m2
-  both = puts_then p (ap (λ (j : ℕ). opnds_at + 2 * c.opnds + 2 * j) q) p'
+-- the words of n operands, cut out of a memory from word a on
+abbrev cut : List ℕ → ℕ → ℕ → List ℕ
+cut m a n = take (a + 2 * n - a) (drop a m)
 
-  total : length (given g) + n ≡ length (given g ++ opnds_in args a n)
-  total = omega (arith, length-append (given g) (opnds_in args a n), opnds-length args a n)
+module _ (m : List ℕ) (a n : ℕ) (h : a + 2 * n ≤ length m) where
+  cut-half : length (cut m a n) / 2 ≡ n
+  cut-half = simp (length-take, length-drop) (omega arith)
 
-  room_all : ProgramRoom b o (length (given g ++ opnds_in args a n)) c
-  room_all = rw total at room
-
-  pub call-ready : ProgramReady m2 c
-  call-ready = ready-puts o (given g ++ opnds_in args a n) r room_all both
-
-  pub call-adds : {m3 : List ℕ} {c' : Counts} → Commits b o (k + n) m2 c m3 c' → ProgramAdds b o (given g ++ opnds_in args a n) m c m3 c'
-  call-adds w = adds-is o (given g ++ opnds_in args a n) r room_all both (ap (λ (j : ℕ). j + n) q ∙ total) w
-
--- the operands given stand behind those in use
-pub given-ready : {m m1 : List ℕ} {c : Counts} {b : ℕ} (o : Op) (n : ℕ) (g : Given) → ProgramReady m c → ProgramRoom b o (length (given g) + n) c
-    → Puts (opnds_at + 2 * c.opnds) (given g) m m1 → ProgramReady m1 c
-given-ready {c = c} o n g r room p =
-    let fits : opnds_at + 2 * c.opnds + 2 * length (given g) ≤ blocks_at = omega (arith, r.opnds, room.listed, room.opnds, room.insns) in
-    ready-keep r (free_opnds r p.only (omega arith) fits) (flags-same c p.only fits)
-
--- both sorts of calls
-module _ {m : List ℕ} {c : Counts} {l : Limits} {b e : ℕ} (a n : ℕ) (args : List ℕ) (asks : Asks l m c b n e) where
-  arguments : length (map opnd_of (opnds_in args a n)) ≡ n
-  arguments = given-length args a n
-
-  pub static_room : (f : FunId) → ProgramReady m c → b < c.blocks → e ≡ 0 → ProgramRoom b (SendStatic f) (0 + n) c
-  static_room f r h z = room_of (SendStatic f) (0 + n) r h asks z (omega arith) (omega arith)
-
-  pub static_grew : (f : FunId) {m' : List ℕ} {c' : Counts} → e ≡ 0 → ProgramAdds b (SendStatic f) (given Zero ++ opnds_in args a n) m c m' c'
-      → ProgramDid (call_of (limits_of l) b (Static f) (opnds_in args a n)) unchanged c.insns (more_calls (Static f) n c) m c m' (grew c.insns c')
-  static_grew f z w =
-      grew-is (λ s. P.Send (P.Static f.0) (map opnd_of (opnds_in args a n))) (more_insns (SendStatic f) n c) asks (λ s. arguments) z w.is w.ok
-      (w.counts ∙ ap (λ (k : ℕ). more_insns (SendStatic f) k c) (opnds-length args a n))
-
-  pub dynamic_room : (x : Name) → ProgramReady m c → b < c.blocks → e ≡ 0 → ProgramRoom b (SendDynamic x) (1 + n) c
-  dynamic_room x r h z = room_of (SendDynamic x) (1 + n) r h asks z (omega arith) (omega arith)
-
-  pub call_stop : (callee : Callee) → (e ≡ 0 → ⊥) → ProgramDid (call_of (limits_of l) b callee (opnds_in args a n)) unchanged c.insns (more_calls callee n c) m c m (stopped e)
-  call_stop (Static f) h =
-      stop_is (λ s. P.Send (P.Static f.0) (map opnd_of (opnds_in args a n))) (more_insns (SendStatic f) n c) asks (λ s. arguments) m h
-  call_stop (Dynamic v x) h =
-      stop_is (λ s. P.Send (P.Dynamic (opnd_of v) (name_in s x)) (map opnd_of (opnds_in args a n))) (more_insns (SendDynamic x) (1 + n) c) asks (λ s. arguments) m h
-
-  pub dynamic_grew : (v : Opnd) (x : Name) {m' : List ℕ} {c' : Counts} → e ≡ 0 → ProgramAdds b (SendDynamic x) (v ∷ opnds_in args a n) m c m' c'
-      → ProgramDid (call_of (limits_of l) b (Dynamic v x) (opnds_in args a n)) unchanged c.insns (more_calls (Dynamic v x) n c) m c m' (grew c.insns c')
-  dynamic_grew v x z w =
-      grew-is (λ s. P.Send (P.Dynamic (opnd_of v) (name_in s x)) (map opnd_of (opnds_in args a n))) (more_insns (SendDynamic x) (1 + n) c) asks (λ s. arguments) z
-      w.is w.ok
-      (w.counts ∙ ap (λ (k : ℕ). more_insns (SendDynamic x) k c) (count (opnds-length args a n)))
+  opnds-cut : opnds_in (cut m a n) 0 (length (cut m a n) / 2) ≡ opnds_in m a n
+  unfolding opnds_in
+  opnds-cut =
+      rw cut-half
+      (tab_ext (λ j. opnd_at (cut m a n) (0 + 2 * j)) (λ j. opnd_at m (a + 2 * j)) n
+      (λ j l. ap₂ opnd_from (word (0 + 2 * j) (a + 2 * j) (omega arith) (omega arith)) (word (0 + 2 * j + 1) (a + 2 * j + 1) (omega arith) (omega arith))))
     where
-      count : {j : ℕ} → j ≡ n → suc j ≡ 1 + n
-      count e = omega arith
+      word : (k i : ℕ) → k < 2 * n → a + k ≡ i → get_or (cut m a n) k 0 ≡ get_or m i 0
+      word k i l e = get_or-take (a + 2 * n - a) (drop a m) k 0 (omega arith) ∙ get_or-drop a m k 0 ∙ ap (λ (j : ℕ). get_or m j 0) e
+
+-- the operands given, and behind them n of another memory
+module _ {first : ℕ} (g : Given) (n : ℕ) (args : List ℕ) (q : first ≡ length (given g)) where
+  total : first + n ≡ length (given g ++ opnds_in args 0 n)
+  total = omega (arith, length-append (given g) (opnds_in args 0 n), opnds-length args 0 n)
+
+  module _ {m : List ℕ} {c : Counts} {l : Limits} {b k e : ℕ} (o : Op) (asks : Asks l m c b k e) (u : k ≡ listed_in o (first + n)) where
+    counted : more_insns o (length (given g ++ opnds_in args 0 n)) c ≡ more_insns o (length (given g) + n) c
+    counted = ap (λ (j : ℕ). more_insns o j c) (sym total ∙ ap (λ (j : ℕ). j + n) q)
+
+    pub push_stop : (e ≡ 0 → ⊥) → ProgramDid (pushing_of (limits_of l) b o (given g ++ opnds_in args 0 n)) unchanged c.insns (more_insns o (length (given g) + n) c) m c m (stopped e)
+    push_stop h = rw counted at (push-stop o (first + n) (given g ++ opnds_in args 0 n) asks u total h)
+
+    module _ (r : ProgramReady m c) (h : b < c.blocks) (few : length (given g) + n ≤ listed_in o (length (given g) + n) + 2) (z : e ≡ 0) where
+      pub push_room : ProgramRoom b o (first + n) c
+      push_room = room_of o (first + n) r h asks z u (rw q few)
+
+      room_fits : opnds_at + 2 * c.opnds + 2 * first + 2 * n ≤ blocks_at
+      room_fits = omega (arith, r.opnds, push_room.listed, push_room.opnds, push_room.insns)
+
+      module _ {m1 : List ℕ} (p : Puts (opnds_at + 2 * c.opnds) (given g) m m1) where
+        pub given_ready : ProgramReady m1 c
+        given_ready =
+            let fits : opnds_at + 2 * c.opnds + 2 * length (given g) ≤ blocks_at = omega (arith, room_fits) in
+            ready-keep r (free_opnds r p.only (omega arith) fits) (flags-same c p.only fits)
+
+        pub args_fit : opnds_at + 2 * c.opnds + 2 * first + 2 * n ≤ length m1
+        args_fit = omega (arith, room_fits, p.only.len_same, r.len_mem)
+
+        module _ {m2 : List ℕ} (p' : Puts (opnds_at + 2 * c.opnds + 2 * first) (opnds_in args 0 n) m1 m2) where
+          both : Puts (opnds_at + 2 * c.opnds) (given g ++ opnds_in args 0 n) m m2
+          both = puts_then p (ap (λ (j : ℕ). opnds_at + 2 * c.opnds + 2 * j) q) p'
+
+          room_all : ProgramRoom b o (length (given g ++ opnds_in args 0 n)) c
+          room_all = rw total at push_room
+
+          pub args_ready : ProgramReady m2 c
+          args_ready = ready-puts o (given g ++ opnds_in args 0 n) r room_all both
+
+          pub push_grew : {m' : List ℕ} {c' : Counts} → Commits b o (first + n) m2 c m' c'
+              → ProgramDid (pushing_of (limits_of l) b o (given g ++ opnds_in args 0 n)) unchanged c.insns (more_insns o (length (given g) + n) c) m c m' (grew c.insns c')
+          push_grew w = rw counted at (push-grew o (first + n) (given g ++ opnds_in args 0 n) asks u total z (adds-is o (given g ++ opnds_in args 0 n) r room_all both total w))
+
+-- ---- what was pushed, as the two that call it say it
+
+module _ (L : P.Limits) (b : ℕ) {m : List ℕ} {c : Counts} {m' : List ℕ} {r : Grew} where
+  -- with no other memory
+  pub pushed_bare : (o : Op) (g : Given) → ProgramDid (pushing_of L b o (given g ++ opnds_in [] 0 0)) unchanged c.insns (more_insns o (length (given g) + 0) c) m c m' r
+      → ProgramDid (pushing_of L b o (given g)) unchanged c.insns (more_insns o (length (given g)) c) m c m' r
+  unfolding opnds_in tab
+  pushed_bare o g d = let e : length (given g) + 0 ≡ length (given g) = omega arith in rw (append-nil (given g), e) at d
+
+  module _ (args : List ℕ) (a n : ℕ) (h : a + 2 * n ≤ length args) where
+    pub pushed_static : (f : FunId)
+        → ProgramDid (pushing_of L b (SendStatic f) (opnds_in (cut args a n) 0 (length (cut args a n) / 2))) unchanged c.insns (more_insns (SendStatic f) (0 + length (cut args a n) / 2) c) m c m' r
+        → ProgramDid (call_of L b (Static f) (opnds_in args a n)) unchanged c.insns (more_calls (Static f) n c) m c m' r
+    pushed_static f d = let e : 0 + length (cut args a n) / 2 ≡ n = omega (arith, cut-half args a n h) in rw (opnds-cut args a n h, e) at d
+
+    pub pushed_dynamic : (v : Opnd) (x : Name)
+        → ProgramDid (pushing_of L b (SendDynamic x) (v ∷ opnds_in (cut args a n) 0 (length (cut args a n) / 2))) unchanged c.insns
+        (more_insns (SendDynamic x) (1 + length (cut args a n) / 2) c) m c m' r
+        → ProgramDid (call_of L b (Dynamic v x) (opnds_in args a n)) unchanged c.insns (more_calls (Dynamic v x) n c) m c m' r
+    pushed_dynamic v x d = rw (opnds-cut args a n h, cut-half args a n h) at d

@@ -1,25 +1,17 @@
 -- The stored forms: what each way through their readers and writers shows, on plain values. Assumes nothing.
 use mathlib.Core.Bool.{true}
 use mathlib.Core.Path.{◌≡◌, refl, ap}
-use mathlib.Core.List.{List}
-use Prim.Native.Nat.{ℕ, zero, suc, ◌+◌, ◌*◌, ◌%◌, ◌^◌, ◌<◌}
+use Prim.Native.Nat.{ℕ, zero, suc, ◌%◌, ◌^◌, ◌<◌}
 use native.Mathlib.Omega.{arith}
-use lib.ListN.{get_or}
 use borrow.Author.Tests.{eq-eqb, ne_eqb}
 use Rattle.kinds.proofs.Same.{kept}
 use Rattle.kinds.specs.Kinds.{tag_of, payload_of, fits_of, kind_from}
 use Rattle.kinds.specs.declared.Kind.{Kind}
 use Rattle.kinds.specs.declared.Kind.TheVariants as K
-use Rattle.ids.specs.declared.ClassId.{ClassId}
-use Rattle.program.specs.Layout.{insns_at, functions_at, insn_words, function_words}
-use Rattle.program.specs.Rows.{opnd_from, op_from, insn_at, owner_from, fun_at}
+use Rattle.program.specs.Rows.{opnd_from, op_from}
 use Rattle.program.specs.declared.Opnd.{Opnd}
 use Rattle.program.specs.declared.Opnd.TheVariants.{Const, Insn}
-use Rattle.program.specs.declared.Op.{Op}
 use Rattle.program.specs.declared.Op.TheVariants.{Param, GetIvar, SetIvar}
-use Rattle.program.specs.declared.Row.{Row}
-use Rattle.program.specs.declared.Function.{Function}
-use Rattle.std.specs.Prelude.{Option}
 
 -- ---- sorts, read by their tag
 
@@ -82,26 +74,3 @@ words_small k e = omega (arith, small_tag k)
 pub words_const : {o : Opnd} {k : Kind} {t x : ℕ} → o ≡ Const k → t ≡ tag_of k → x ≡ payload_of k → fits_of k ≡ true → opnd_from t x ≡ o
 unfolding opnd_from
 words_const {k = k} e f g h = rw (f, g, ne_eqb (tag_of k) 10 (λ z. omega (arith, small_tag k)), kept k h, e)
-
--- ---- rows
-
-module _ (m : List ℕ) (i : ℕ) where
-  pub insn_is : {o : Op} → o ≡ op_from (get_or m (insns_at + insn_words * i) 0) (get_or m (insns_at + insn_words * i + 2) 0) (get_or m (insns_at + insn_words * i + 3) 0)
-      → ◌≡◌ {A = Row} (record {
-        block = record { 0 = get_or m (insns_at + insn_words * i + 1) 0 % 2 ^ 32 };
-        op = o;
-        first = get_or m (insns_at + insn_words * i + 4) 0;
-        count = get_or m (insns_at + insn_words * i + 5) 0;
-      }) (insn_at m i)
-  unfolding insn_at
-  insn_is e = rw e
-
-  pub fun_is : {o : Option ClassId} → o ≡ owner_from (get_or m (functions_at + function_words * i + 2) 0)
-      → ◌≡◌ {A = Function} (record {
-        name = record { start = get_or m (functions_at + function_words * i) 0; len = get_or m (functions_at + function_words * i + 1) 0 };
-        class = o;
-        entry = record { 0 = get_or m (functions_at + function_words * i + 3) 0 % 2 ^ 32 };
-      })
-      (fun_at m i)
-  unfolding fun_at
-  fun_is e = rw e

@@ -9,3 +9,4 @@ pub mod Pushing
 pub mod Calling
 pub mod Adding
 pub mod Reading
+pub mod Operands

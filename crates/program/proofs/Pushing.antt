@@ -13,43 +13,42 @@ use Rattle.rules.specs.Program as P
 use Rattle.rules.specs.Program.{about, terminated, listed_count}
 use Rattle.rules.specs.Reading.{Parser, with_program, push_insn}
 use Rattle.program.specs.Layout.{opnds_at, blocks_at}
-use Rattle.program.specs.Rows.{opnd_at, opnds_in, opnd_of, given, op_in, listed_in, flag_at}
+use Rattle.program.specs.Rows.{opnd_at, opnds_in, opnd_of, op_in, listed_in, flag_at}
 use Rattle.program.specs.View.{program_view, ProgramReady, limits_of, Puts, ProgramRoom, Commits, ProgramAdds, Asks, ProgramDid, grew, stopped, pushing_of, push_asks, more_insns, unchanged}
 use Rattle.program.specs.declared.Counts.{Counts}
 use Rattle.program.specs.declared.bounds.Limits.{Limits}
 use Rattle.program.specs.declared.Opnd.{Opnd}
 use Rattle.program.specs.declared.Op.{Op}
-use Rattle.program.specs.declared.Given.{Given}
-use Rattle.program.specs.declared.Given.TheVariants.{Zero, One, Two}
 use Rattle.program.proofs.Areas.{puts_none, puts_one, puts_then, opnds-length, opnds-add, opnds_one}
 use Rattle.program.proofs.Viewing.{Keeps, view_keep, ready-keep, free_opnds, flags-same, instructions-length}
 use Rattle.program.proofs.Committing.{listed-is}
 
 -- ---- operands copied
 
-pub record Copying (args : List ℕ) (a n at : ℕ) (m₀ m : List ℕ) (i : ℕ) : Type 0 where
+pub record Copying (args : List ℕ) (n at : ℕ) (m₀ m : List ℕ) (i : ℕ) : Type 0 where
   pub high : i ≤ n
-  pub puts : Puts at (opnds_in args a i) m₀ m
+  pub puts : Puts at (opnds_in args 0 i) m₀ m
   pub len_same : length m ≡ length m₀
 
-pub copy_start : (args : List ℕ) (a n at : ℕ) (m : List ℕ) → Copying args a n at m m 0
+pub copy_start : (args : List ℕ) (n at : ℕ) (m : List ℕ) → Copying args n at m m 0
 unfolding opnds_in Rattle.program.specs.Tab.tab
-copy_start args a n at m = record { high = omega arith; puts = puts_none at m; len_same = refl }
+copy_start args n at m = record { high = omega arith; puts = puts_none at m; len_same = refl }
 
-module _ {args : List ℕ} {a n at : ℕ} {m₀ m : List ℕ} {i : ℕ} (g : Copying args a n at m₀ m i) where
+module _ {args : List ℕ} {n at : ℕ} {m₀ m : List ℕ} {i : ℕ} (g : Copying args n at m₀ m i) where
   pub copy_more : i < n → at + 2 * n ≤ length m₀
-      → Copying args a n at m₀ (set (set m (at + 2 * i) (get_or args (a + 2 * i) 0)) (at + 2 * i + 1) (get_or args (a + 2 * i + 1) 0)) (i + 1)
+      → Copying args n at m₀ (set (set m (at + 2 * i) (get_or args (2 * i) 0)) (at + 2 * i + 1) (get_or args (2 * i + 1) 0)) (i + 1)
   copy_more h long =
       let same = g.len_same in
-      let one = puts_one m (at + 2 * i) (get_or args (a + 2 * i) 0) (get_or args (a + 2 * i + 1) 0) {o = opnd_at args (a + 2 * i)} refl (omega arith) in
-      let all = puts_then g.puts (ap (λ (k : ℕ). at + 2 * k) (sym (opnds-length args a i))) one in
+      let here : 0 + 2 * i ≡ 2 * i = omega arith in
+      let one = puts_one m (at + 2 * i) (get_or args (2 * i) 0) (get_or args (2 * i + 1) 0) {o = opnd_at args (2 * i)} refl (omega arith) in
+      let all = puts_then g.puts (ap (λ (k : ℕ). at + 2 * k) (sym (opnds-length args 0 i))) one in
       record {
         high = omega arith;
-        puts = rw (opnds-add args a i 1, opnds_one args (a + 2 * i)) all;
+        puts = rw (opnds-add args 0 i 1, here, opnds_one args (2 * i)) all;
         len_same = all.only.len_same;
       }
 
-  pub copy_done : n ≤ i → Puts at (opnds_in args a n) m₀ m
+  pub copy_done : n ≤ i → Puts at (opnds_in args 0 n) m₀ m
   copy_done h = let e : i ≡ n = omega (arith, g.high) in rw e at g.puts
 
 -- ---- questions
@@ -164,15 +163,6 @@ module _ {m : List ℕ} {c : Counts} {l : Limits} {b k e : ℕ} (o : Op) (n : �
       let so = l.small.operands in
       record { block = h; insns = omega arith; listed = omega arith; opnds = few }
 
-given-few : (g : Given) → length (given g) ≤ 2
-given-few Zero = omega arith
-given-few (One v) = omega arith
-given-few (Two v w) = omega arith
-
-pub room-given : {m : List ℕ} {c : Counts} {l : Limits} {b k e : ℕ} (o : Op) (n : ℕ) (g : Given) → ProgramReady m c → b < c.blocks → Asks l m c b k e → e ≡ 0
-    → k ≡ listed_in o n → n ≡ length (given g) → ProgramRoom b o (length (given g)) c
-room-given o n g r h asks z q w = room_of o (length (given g)) r h asks z (q ∙ ap (listed_in o) w) (omega (arith, given-few g))
-
 -- operands behind those in use
 module _ {m m1 : List ℕ} {c : Counts} {b : ℕ} (o : Op) (os : List Opnd) (r : ProgramReady m c) (room : ProgramRoom b o (length os) c)
     (p : Puts (opnds_at + 2 * c.opnds) os m m1) where
@@ -231,3 +221,7 @@ module _ {m : List ℕ} {c : Counts} {l : Limits} {b k e : ℕ} (o : Op) (n : �
   pub push-grew : {m' : List ℕ} {c' : Counts} → e ≡ 0 → ProgramAdds b o os m c m' c'
       → ProgramDid (pushing_of (limits_of l) b o os) unchanged c.insns (more_insns o (length os) c) m c m' (grew c.insns c')
   push-grew z a = grew-is (λ s. op_in s o (map opnd_of os)) (more_insns o (length os) c) asks counted z a.is a.ok a.counts
+
+-- ---- the answers to the questions, as the check tries them
+
+pub ruleset asked = (asks_ended, asks_insns, asks_over, asks_listed, asks_none)

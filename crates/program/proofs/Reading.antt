@@ -20,7 +20,6 @@ use Rattle.program.specs.declared.Op.{Op}
 use Rattle.std.specs.Prelude.{Option}
 use Rattle.ids.specs.declared.ClassId.{ClassId}
 use Rattle.program.proofs.Tables.{tab-at}
-use Rattle.program.proofs.Forms.{insn_is, fun_is}
 use Rattle.program.proofs.Viewing.{functions-length}
 
 pub instruction-is : (s m : List ℕ) (c : Counts) (i : ℕ) → i < c.insns → P.instruction (program_view s m c) i ≡ instruction_at s m i
@@ -41,9 +40,9 @@ module _ {m : List ℕ} {c : Counts} (i : ℕ) (r : ProgramReady m c) where
         first = get_or m (insns_at + insn_words * i + 4) 0;
         count = get_or m (insns_at + insn_words * i + 5) 0;
       })
-  unfolding instruction_at
+  unfolding instruction_at insn_at
   insn_read h e =
-      rw (insn_is m i e) (record { row = refl; is = λ s. instruction-is s m c i h; range = r.ranges i h; inside = r.inside i h })
+      rw e (record { row = refl; is = λ s. instruction-is s m c i h; range = r.ranges i h; inside = r.inside i h })
 
   pub fun_read : {o : Option ClassId} → i < c.functions → o ≡ owner_from (get_or m (functions_at + function_words * i + 2) 0)
       → ReadsFun m c i
@@ -52,9 +51,9 @@ module _ {m : List ℕ} {c : Counts} (i : ℕ) (r : ProgramReady m c) where
         class = o;
         entry = record { 0 = get_or m (functions_at + function_words * i + 3) 0 % 2 ^ 32 };
       })
-  unfolding functions_of
+  unfolding functions_of fun_at
   fun_read h e =
-      rw (fun_is m i e)
+      rw e
       (record { row = refl; is = λ s. tab-at (λ f. function_in s (fun_at m f)) c.functions i (record { name = []; class = mathlib.Core.Option.none; entry = 0 }) h })
 
   pub block_read : i < c.blocks → ReadsBlock m c i (get_or m (blocks_at + 2 * i) 0 % 2 ^ 32)

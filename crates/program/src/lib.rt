@@ -8,7 +8,7 @@ pub mod writer;
 ghost use Rattle.std.specs.Prelude.{◌≡◌, [], ◌∷◌, map, ◌+◌, ◌*◌, ◌≤◌, ◌<◌, length};
 ghost use Rattle.rules.specs.Lists.{is_just};
 ghost use Rattle.program.specs.Layout.{opnds_at};
-ghost use Rattle.program.specs.Rows.{opnd_from, opnd_at, opnds_in, opnd_of, nth, op_from, listed_in, ends_block, owner_from, owner_in};
+ghost use Rattle.program.specs.Rows.{opnd_from, opnd_at, opnds_in, opnd_of, nth, name_in, op_from, listed_in, ends_block, owner_from, owner_in};
 ghost use Rattle.program.specs.View.{OwnsFrom, ProgramReady, ReadsInsn, ReadsFun, ReadsBlock, Puts};
 
 pub use bounds::Limits;
@@ -48,10 +48,20 @@ pub const IVARS: usize = CLASSES + CLASS_WORDS * memory::CLASSES_MOST;
 pub const SIZE: usize = IVARS + IVAR_ROW_WORDS * memory::CLASSES_MOST;
 
 // A place in the script.
+// Stays: the tables hold these two words of each name; `Name::of` gives its bytes.
 #[derive(Clone, Copy)]
 pub struct Name {
     pub start: usize,
     pub len: usize,
+}
+
+impl Name {
+    // The bytes of a name.
+    pub fn of<'a>(self, script: &'a [u8]) -> &'a [u8]
+        ensures { result.now ≡ name_in script.now self }
+    {
+        lexer::bytes_at(script, self.start, self.len)
+    }
 }
 
 // A constant, or the result of an instruction.
@@ -79,6 +89,7 @@ pub enum Op {
 }
 
 // An instruction: its operands are a part of the operand table.
+// Stays: the place and the number of its operands in their table, as the row's words have them.
 #[derive(Clone, Copy)]
 pub struct Row {
     pub block: BlockId,
@@ -96,6 +107,7 @@ pub struct Function {
 }
 
 // The operands of an instruction that is no call.
+// Stays: the type says that there are two at most, which a slice would ask for in a clause.
 #[derive(Clone, Copy)]
 pub enum Given {
     Zero,
@@ -129,7 +141,7 @@ pub fn opnd_from(tag: usize, bits: usize) -> Opnd
     ensures { result ≡ opnd_from tag bits }
 {
     if tag == 10 {
-        Opnd::Insn(InsnId((bits % 4294967296) as u32))
+        Opnd::Insn(InsnId(ids::number_in(bits)))
     } else {
         Opnd::Const(kinds::kind_from(tag, bits))
     }
@@ -141,7 +153,7 @@ pub fn opnd_words(o: Opnd) -> (usize, usize)
 {
     match o {
         Opnd::Const(k) => (k.tag(), k.payload()),
-        Opnd::Insn(i) => (10, i.0 as usize),
+        Opnd::Insn(i) => (10, i.index()),
     }
 }
 
@@ -150,25 +162,19 @@ pub fn op_from(tag: usize, x: usize, y: usize) -> Op
     ensures { result ≡ op_from tag x y }
 {
     match tag {
-        0 => Op::Jump(BlockId((x % 4294967296) as u32)),
-        1 => Op::IfTrue(
-            BlockId((x % 4294967296) as u32),
-            BlockId((y % 4294967296) as u32),
-        ),
+        0 => Op::Jump(BlockId(ids::number_in(x))),
+        1 => Op::IfTrue(BlockId(ids::number_in(x)), BlockId(ids::number_in(y))),
         2 => Op::Return,
-        3 => Op::SendStatic(FunId((x % 4294967296) as u32)),
+        3 => Op::SendStatic(FunId(ids::number_in(x))),
         4 => Op::SendDynamic(Name { start: x, len: y }),
         5 => Op::Compute(Arith::Add),
         6 => Op::Compute(Arith::Sub),
         7 => Op::Compute(Arith::Mul),
         8 => Op::Compute(Arith::Less),
-        9 => Op::Phi(
-            BlockId((x % 4294967296) as u32),
-            BlockId((y % 4294967296) as u32),
-        ),
+        9 => Op::Phi(BlockId(ids::number_in(x)), BlockId(ids::number_in(y))),
         10 => Op::Param(x),
-        11 => Op::SelfParam(ClassId((x % 4294967296) as u32)),
-        12 => Op::New(ClassId((x % 4294967296) as u32)),
+        11 => Op::SelfParam(ClassId(ids::number_in(x))),
+        12 => Op::New(ClassId(ids::number_in(x))),
         13 => Op::GetIvar(Name { start: x, len: y }),
         _ => Op::SetIvar(Name { start: x, len: y }),
     }
@@ -179,19 +185,19 @@ fn op_words(op: Op) -> (usize, usize, usize)
     ensures { op_from result.0 result.1 result.2 ≡ op }
 {
     match op {
-        Op::Jump(b) => (0, b.0 as usize, 0),
-        Op::IfTrue(b, e) => (1, b.0 as usize, e.0 as usize),
+        Op::Jump(b) => (0, b.index(), 0),
+        Op::IfTrue(b, e) => (1, b.index(), e.index()),
         Op::Return => (2, 0, 0),
-        Op::SendStatic(f) => (3, f.0 as usize, 0),
+        Op::SendStatic(f) => (3, f.index(), 0),
         Op::SendDynamic(n) => (4, n.start, n.len),
         Op::Compute(Arith::Add) => (5, 0, 0),
         Op::Compute(Arith::Sub) => (6, 0, 0),
         Op::Compute(Arith::Mul) => (7, 0, 0),
         Op::Compute(Arith::Less) => (8, 0, 0),
-        Op::Phi(b, e) => (9, b.0 as usize, e.0 as usize),
+        Op::Phi(b, e) => (9, b.index(), e.index()),
         Op::Param(n) => (10, n, 0),
-        Op::SelfParam(c) => (11, c.0 as usize, 0),
-        Op::New(c) => (12, c.0 as usize, 0),
+        Op::SelfParam(c) => (11, c.index(), 0),
+        Op::New(c) => (12, c.index(), 0),
         Op::GetIvar(n) => (13, n.start, n.len),
         Op::SetIvar(n) => (14, n.start, n.len),
     }
@@ -222,7 +228,7 @@ fn owner_from(x: usize) -> Option<ClassId>
     if x == 0 {
         None
     } else {
-        Some(ClassId(((x - 1) % 4294967296) as u32))
+        Some(ClassId(ids::number_in(x - 1)))
     }
 }
 
@@ -231,7 +237,7 @@ fn owner_word(o: Option<ClassId>) -> usize
     ensures { owner_from result ≡ o }
 {
     match o {
-        Some(c) => c.0 as usize + 1,
+        Some(c) => c.index() + 1,
         None => 0,
     }
 }

@@ -26,17 +26,19 @@ impl<'a> Program<'a> {
     pub fn name(&self, n: Name) -> &'a [u8]
         ensures { result.now ≡ name_in self.now.script.now n }
     {
-        lexer::bytes_at(self.script, n.start, n.len)
+        n.of(self.script)
     }
 
     // An instruction, from its row.
+    // Stays: an instruction's number doesn't hold the program that it belongs to, so that it is below the count is said where it is used;
+    // so is a function's and a block's.
     pub fn insn(&self, i: InsnId) -> Row
         requires { i.0 < self.now.counts.insns }
         ensures { ReadsInsn self.now.words.now self.now.counts i.0 result }
     {
-        let at = INSNS + INSN_WORDS * (i.0 as usize);
+        let at = INSNS + INSN_WORDS * i.index();
         Row {
-            block: BlockId((self.words[at + 1] % 4294967296) as u32),
+            block: BlockId(ids::number_in(self.words[at + 1])),
             op: op_from(self.words[at], self.words[at + 2], self.words[at + 3]),
             first: self.words[at + 4],
             count: self.words[at + 5],
@@ -44,6 +46,7 @@ impl<'a> Program<'a> {
     }
 
     // Operand j of an instruction.
+    #[tactic(auto, using(crate::proofs::Reading::operand_read))]
     pub fn operand(&self, x: Row, j: usize) -> Opnd
         requires { (x.first + x.count ≤ self.now.counts.opnds) × (j < x.count) }
         ensures { opnd_of result ≡ nth (map opnd_of (opnds_in self.now.words.now (opnds_at + 2 * x.first) x.count)) j }
@@ -55,14 +58,14 @@ impl<'a> Program<'a> {
         requires { f.0 < self.now.counts.functions }
         ensures { ReadsFun self.now.words.now self.now.counts f.0 result }
     {
-        let at = FUNCTIONS + FUNCTION_WORDS * (f.0 as usize);
+        let at = FUNCTIONS + FUNCTION_WORDS * f.index();
         Function {
             name: Name {
                 start: self.words[at],
                 len: self.words[at + 1],
             },
             class: owner_from(self.words[at + 2]),
-            entry: BlockId((self.words[at + 3] % 4294967296) as u32),
+            entry: BlockId(ids::number_in(self.words[at + 3])),
         }
     }
 
@@ -70,7 +73,7 @@ impl<'a> Program<'a> {
     pub fn first_function(&self, k: ClassId) -> usize
         ensures { OwnsFrom self.now.words.now self.now.counts.functions k.0 result }
     {
-        let n = k.0 as usize;
+        let n = k.index();
         if n < self.counts.classes {
             self.words[CLASSES + CLASS_WORDS * n + 3]
         } else {
@@ -79,11 +82,12 @@ impl<'a> Program<'a> {
     }
 
     // The function of a block.
+    #[tactic(auto, using(crate::proofs::Reading::block_read))]
     pub fn function_of(&self, b: BlockId) -> FunId
         requires { b.0 < self.now.counts.blocks }
         ensures { ReadsBlock self.now.words.now self.now.counts b.0 result.0 }
     {
-        let at = BLOCKS + 2 * (b.0 as usize);
-        FunId((self.words[at] % 4294967296) as u32)
+        let at = BLOCKS + 2 * b.index();
+        FunId(ids::number_in(self.words[at]))
     }
 }

@@ -1,8 +1,8 @@
 // A program that is written: its tables while a script is read.
-ghost use Rattle.std.specs.Prelude.{◌≡◌, [], ◌∷◌, ◌++◌, ◌+◌, ◌*◌, ◌≤◌, ◌<◌, length, cond, set, OnErr};
+ghost use Rattle.std.specs.Prelude.{◌≡◌, [], ◌∷◌, ◌++◌, ◌+◌, ◌*◌, ◌/◌, ◌≤◌, ◌<◌, length, cond, set, OnErr};
 ghost use Rattle.memory.specs.Layout.{functions_most, instructions_most, blocks_room};
 ghost use Rattle.program.specs.Layout.{blocks_at, program_size};
-ghost use Rattle.program.specs.Rows.{opnds_in, given, ends_block};
+ghost use Rattle.program.specs.Rows.{opnds_in, given, listed_in, ends_block};
 ghost use Rattle.program.specs.View.{
   OwnsFrom,
   ProgramReady,
@@ -56,6 +56,7 @@ impl<'a> Draft<'a> {
     ghost use Rattle.program.specs.Drafts.{DraftKept, DraftStays};
 
     // The program before any reading: the four built-in classes.
+    // Stays: there is no draft yet, whose type would say that the tables fit in the words.
     pub fn no_program(words: &'a mut [usize], limits: Limits) -> Draft<'a>
         requires { program_size ≤ length words.old }
         ensures starts { Starts result.words.now result.counts }
@@ -97,11 +98,13 @@ impl<'a> Draft<'a> {
     // ---- instructions
 
     // Questions 10 and 11 for an instruction of block b with k listed operands.
+    // Stays: a block's number doesn't hold the draft that it belongs to, so that it is below the count is said where it is used.
+    #[tactic(auto, using(crate::proofs::Pushing::asked))]
     fn may_push(&self, b: BlockId, k: usize) -> Result<(), Refusal>
         requires { b.0 < self.now.counts.blocks }
         ensures { Asks self.now.limits self.now.words.now self.now.counts b.0 k (asked result) }
     {
-        let at = BLOCKS + 2 * (b.0 as usize);
+        let at = BLOCKS + 2 * b.index();
         if self.words[at + 1] != 0 {
             return Err(Refusal::BlockEnded);
         }
@@ -118,6 +121,7 @@ impl<'a> Draft<'a> {
     }
 
     // An instruction whose n operands stand right behind those in use.
+    #[tactic(auto, using(crate::proofs::Committing::commit_is))]
     fn commit(&mut self, b: BlockId, op: Op, n: usize)
         requires { ProgramRoom b.0 op n self.old.counts }
         ensures commits { Commits b.0 op n self.old.words.now self.old.counts self.new.words.now self.new.counts }
@@ -136,14 +140,24 @@ impl<'a> Draft<'a> {
         self.counts.listed += listed_in(op, n);
     }
 
-    // An instruction with the operands given.
-    fn add_insn(&mut self, b: BlockId, op: Op, g: Given)
-        requires { ProgramRoom b.0 op (length (given g)) self.old.counts }
-        ensures adds { ProgramAdds b.0 op (given g) self.old.words.now self.old.counts self.new.words.now self.new.counts }
+    // An instruction of block b with the operands given, and behind them those that stand in another memory.
+    fn push(&mut self, b: BlockId, op: Op, g: Given, args: &[usize]) -> Result<InsnId, Refusal>
+        requires b_lt_blocks { b.0 < self.old.counts.blocks }
+        requires few { length (given g) + length args.now / 2 ≤ listed_in op (length (given g) + length args.now / 2) + 2 }
+        ensures did { ProgramDid (pushing_of (limits_of self.old.limits) b.0 op (given g ++ opnds_in args.now 0 (length args.now / 2))) unchanged self.old.counts.insns
+            (more_insns op (length (given g) + length args.now / 2) self.old.counts) self.old.words.now self.old.counts self.new.words.now (insn_of self.new.counts result) }
         ensures kept { DraftKept self.old self.new }
+        ensures stays { OnErr result (DraftStays self.old self.new) }
     {
-        put_given(self.words, OPNDS + 2 * self.counts.opnds, g);
-        self.commit(b, op, count_of(g));
+        let first = count_of(g);
+        let count = first + args.len() / 2;
+        self.may_push(b, listed_in(op, count))?;
+        let i = InsnId(self.counts.insns as u32);
+        let at = OPNDS + 2 * self.counts.opnds;
+        put_given(self.words, at, g);
+        copy_opnds(args, self.words, at + 2 * first);
+        self.commit(b, op, count);
+        Ok(i)
     }
 
     // An instruction that is no call is added to block b.
@@ -154,24 +168,7 @@ impl<'a> Draft<'a> {
         ensures kept { DraftKept self.old self.new }
         ensures stays { OnErr result (DraftStays self.old self.new) }
     {
-        self.may_push(b, listed_in(op, count_of(g)))?;
-        let i = InsnId(self.counts.insns as u32);
-        self.add_insn(b, op, g);
-        Ok(i)
-    }
-
-    // An instruction with the operands given, and behind them n that stand in another memory from word a on.
-    fn add_call(&mut self, b: BlockId, op: Op, g: Given, args: &[usize], a: usize, n: usize)
-        requires program_room { ProgramRoom b.0 op (length (given g) + n) self.old.counts }
-        requires in_bounds { a + 2 * n ≤ length args.now }
-        ensures adds { ProgramAdds b.0 op (given g ++ opnds_in args.now a n) self.old.words.now self.old.counts self.new.words.now self.new.counts }
-        ensures kept { DraftKept self.old self.new }
-    {
-        let at = OPNDS + 2 * self.counts.opnds;
-        let k = count_of(g);
-        put_given(self.words, at, g);
-        copy_opnds(args, a, n, self.words, at + 2 * k);
-        self.commit(b, op, k + n);
+        self.push(b, op, g, &[])
     }
 
     // A call is added to block b; its n arguments stand in another memory from word a on.
@@ -189,17 +186,10 @@ impl<'a> Draft<'a> {
         ensures kept { DraftKept self.old self.new }
         ensures stays { OnErr result (DraftStays self.old self.new) }
     {
-        self.may_push(b, n)?;
-        let i = InsnId(self.counts.insns as u32);
+        let args = &args[a..a + 2 * n];
         match callee {
-            Callee::Static(f) => {
-                self.add_call(b, Op::SendStatic(f), Given::Zero, args, a, n);
-                Ok(i)
-            }
-            Callee::Dynamic(v, name) => {
-                self.add_call(b, Op::SendDynamic(name), Given::One(v), args, a, n);
-                Ok(i)
-            }
+            Callee::Static(f) => self.push(b, Op::SendStatic(f), Given::Zero, args),
+            Callee::Dynamic(v, name) => self.push(b, Op::SendDynamic(name), Given::One(v), args),
         }
     }
 
@@ -284,6 +274,9 @@ impl<'a> Draft<'a> {
 }
 
 // ---- rows
+// Stays: these write into a lent slice, and each asks that the tables fit in it. As methods of Draft they would have to leave the tables
+// ready, which they aren't between two rows of one addition (a block's flag is set before its terminator counts); and `no_program` has no
+// draft yet.
 
 fn count_of(g: Given) -> usize
     ensures { result ≡ length (given g) }
@@ -295,6 +288,7 @@ fn count_of(g: Given) -> usize
     }
 }
 
+#[tactic(auto, using(crate::proofs::Areas::puts_none))]
 fn put_given(words: &mut [usize], at: usize, g: Given)
     requires { at + 4 ≤ length words.old }
     ensures { Puts at (given g) words.old words.new }
@@ -311,15 +305,14 @@ fn put_given(words: &mut [usize], at: usize, g: Given)
     }
 }
 
-// n operands that stand in another memory from word a on.
-fn copy_opnds(args: &[usize], a: usize, n: usize, words: &mut [usize], at: usize)
-    requires n_in_bounds { a + 2 * n ≤ length args.now }
-    requires n_in_bounds_2 { at + 2 * n ≤ length words.old }
-    ensures { Puts at (opnds_in args.now a n) words.old words.new }
+// Operands that stand in another memory.
+fn copy_opnds(args: &[usize], words: &mut [usize], at: usize)
+    requires { at + 2 * (length args.now / 2) ≤ length words.old }
+    ensures { Puts at (opnds_in args.now 0 (length args.now / 2)) words.old words.new }
 {
-    for i in 0..n {
-        words[at + 2 * i] = args[a + 2 * i];
-        words[at + 2 * i + 1] = args[a + 2 * i + 1];
+    for i in 0..args.len() / 2 {
+        words[at + 2 * i] = args[2 * i];
+        words[at + 2 * i + 1] = args[2 * i + 1];
     }
 }
 
@@ -329,10 +322,10 @@ fn put_insn(words: &mut [usize], i: InsnId, x: Row)
     requires i_lt_instructions_most { i.0 < instructions_most }
     ensures { PutsRow i.0 x words.old words.new }
 {
-    let at = INSNS + INSN_WORDS * (i.0 as usize);
+    let at = INSNS + INSN_WORDS * i.index();
     let (tag, a, b) = op_words(x.op);
     words[at] = tag;
-    words[at + 1] = x.block.0 as usize;
+    words[at + 1] = x.block.index();
     words[at + 2] = a;
     words[at + 3] = b;
     words[at + 4] = x.first;
@@ -345,7 +338,7 @@ fn end_block(words: &mut [usize], b: BlockId, op: Op)
     ensures { words.new ≡ cond (ends_block op) (set words.old (blocks_at + 2 * b.0 + 1) 1) words.old }
 {
     if ends_block(op) {
-        words[BLOCKS + 2 * (b.0 as usize) + 1] = 1;
+        words[BLOCKS + 2 * b.index() + 1] = 1;
     }
 }
 
@@ -355,8 +348,8 @@ fn put_block(words: &mut [usize], b: BlockId, f: FunId)
     requires b_lt_blocks_room { b.0 < blocks_room }
     ensures { PutsBlock b.0 f.0 words.old words.new }
 {
-    let at = BLOCKS + 2 * (b.0 as usize);
-    words[at] = f.0 as usize;
+    let at = BLOCKS + 2 * b.index();
+    words[at] = f.index();
     words[at + 1] = 0;
 }
 
@@ -366,11 +359,11 @@ fn put_fun(words: &mut [usize], f: FunId, x: Function)
     requires f_lt_functions_most { f.0 < functions_most }
     ensures { PutsFun f.0 x words.old words.new }
 {
-    let at = FUNCTIONS + FUNCTION_WORDS * (f.0 as usize);
+    let at = FUNCTIONS + FUNCTION_WORDS * f.index();
     words[at] = x.name.start;
     words[at + 1] = x.name.len;
     words[at + 2] = owner_word(x.class);
-    words[at + 3] = x.entry.0 as usize;
+    words[at + 3] = x.entry.index();
 }
 
 fn put_class(words: &mut [usize], k: ClassId, x: Name, first: usize)
@@ -378,7 +371,7 @@ fn put_class(words: &mut [usize], k: ClassId, x: Name, first: usize)
     requires k_bound { k.0 < 64 }
     ensures { PutsClass k.0 x first words.old words.new }
 {
-    let at = CLASSES + CLASS_WORDS * (k.0 as usize);
+    let at = CLASSES + CLASS_WORDS * k.index();
     words[at] = x.start;
     words[at + 1] = x.len;
     words[at + 2] = 0;

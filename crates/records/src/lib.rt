@@ -4,11 +4,13 @@
 ghost use Rattle.std.specs.Prelude.{◌≡◌, ◌<◌, length, get_or, replicate};
 ghost use Rattle.memory.specs.Layout.{instructions_most};
 ghost use Rattle.records.specs.Records.{none, record_at, row_of, Holds};
+ghost use Rattle.records.specs.Accesses.{Accesses};
 
 use ids::BlockId;
-use program::{Program, Row};
+use program::{Op, Program, Row};
 
 // An instruction's record, in plain numbers.
+// Stays: they are the six words of its row in the tables, the place and the number of its operands among them.
 #[derive(Clone, Copy)]
 pub struct Record {
     pub tag: usize,
@@ -17,6 +19,14 @@ pub struct Record {
     pub y: usize,
     pub first: usize,
     pub count: usize,
+}
+
+// What an instruction does to an attribute: it neither reads nor sets one, reads one, or sets one.
+#[derive(Clone, Copy)]
+pub enum Access {
+    Neither,
+    Read,
+    Setting,
 }
 
 impl Record {
@@ -53,10 +63,21 @@ impl Record {
         ensures { result ≡ row_of self }
     {
         Row {
-            block: BlockId((self.block % 4294967296) as u32),
+            block: BlockId(ids::number_in(self.block)),
             op: program::op_from(self.tag, self.x, self.y),
             first: self.first,
             count: self.count,
+        }
+    }
+
+    // What the instruction does to an attribute.
+    pub fn access(self) -> Access
+        ensures { Accesses self.tag result }
+    {
+        match self.row().op {
+            Op::GetIvar(_) => Access::Read,
+            Op::SetIvar(_) => Access::Setting,
+            _ => Access::Neither,
         }
     }
 }

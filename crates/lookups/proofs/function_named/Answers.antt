@@ -7,16 +7,16 @@ use Rattle.lookups.proofs.function_named.Goals as goal
 
 pub returns-in_err-i : goal.returns-in_err-i
 returns-in_err-i c =
-    let found = final_found (is_fun c.bytes_at-wanted.result.now)
+    let found = final_found (is_fun c.name-wanted.result.now)
     (fun_row c.args.program.now.script.now c.args.program.now.words.now) _ c.rev.ensures.source c.find.ensures.ran
     (λ x b q k. search (rules, tests)) in
     ap fun_found c.from_residual.ensures ∙ fun_is_found c.args.program.now.script.now c.args.program.now.words.now c.args.program.now.counts
-    c.bytes_at-wanted.ensures
+    c.name-wanted.ensures
     (found_none _ _ found c.in_err-i.was)
 
 pub overflow_cast-result : goal.overflow_cast-result
 overflow_cast-result c =
-    let found = final_found (is_fun c.bytes_at-wanted.result.now)
+    let found = final_found (is_fun c.name-wanted.result.now)
     (fun_row c.args.program.now.script.now c.args.program.now.words.now) _ c.rev.ensures.source c.find.ensures.ran
     (λ x b q k. search (rules, tests)) in
     let here = found_here _ _ found c.in_ok-i.was in
@@ -24,7 +24,7 @@ overflow_cast-result c =
 
 pub returns : goal.returns
 returns c =
-    let found = final_found (is_fun c.bytes_at-wanted.result.now)
+    let found = final_found (is_fun c.name-wanted.result.now)
     (fun_row c.args.program.now.script.now c.args.program.now.words.now) _ c.rev.ensures.source c.find.ensures.ran
     (λ x b q k. search (rules, tests)) in
-    fun_is_found c.args.program.now.script.now c.args.program.now.words.now c.args.program.now.counts c.bytes_at-wanted.ensures (found_some _ _ found c.in_ok-i.was)
+    fun_is_found c.args.program.now.script.now c.args.program.now.words.now c.args.program.now.counts c.name-wanted.ensures (found_some _ _ found c.in_ok-i.was)

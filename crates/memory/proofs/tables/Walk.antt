@@ -16,7 +16,7 @@ use Rattle.memory.specs.tables.Tables.{listed}
 use Rattle.memory.specs.tables.Bits.{bit_at, after, Next}
 use Rattle.std.specs.Prelude.{Some, None}
 use Rattle.memory.proofs.tables.Listed.{listed-length, listed_at}
-use Rattle.memory.proofs.tables.Bit.{rest, clear-word, found_bit, clear-below}
+use Rattle.memory.proofs.tables.Bit.{rest, clear-word, found_bit, clear-below, zeros-fit, place-fits}
 
 module _ (b : ℕ → 𝔹) (n : ℕ) where
   after-at : (k : ℕ) → k < n → after b n k ≡ cons_if (b k) k (after b n (suc k))
@@ -76,3 +76,7 @@ module _ (m : List ℕ) (base n k i : ℕ) (w : Walked (bit_at m base) n k i) wh
 
     pub walk-past : n ≤ i + count_trailing_zeros 64 (rest m base i) → Next (bit_at m base) n k None
     walk-past le = record { is = reached ∙ after-end (bit_at m base) n (i + count_trailing_zeros 64 (rest m base i)) le; ok = tt }
+
+-- ---- what the check tries at each way through the walk
+
+pub ruleset walks = (walk_start, walk_end, walk-on, walk-found, walk-past, zeros-fit, place-fits)

@@ -68,3 +68,7 @@ module _ (m : List ℕ) (base n k : ℕ) where
 
 pub some_bits : (l : ℕ) → l < 64 → 0 < 1 * 2 ^ l % 2 ^ 64
 some_bits l h = rw (one_shl 64 l h) (pow_pos l)
+
+-- ---- what the check tries at each way through a word
+
+pub ruleset row_words = (row-all, row-some, some_bits)

@@ -17,7 +17,7 @@ use Rattle.ids.proofs.Walk.{Smallest, smallest}
 use Rattle.kinds.specs.Kinds.{bit_of}
 use Rattle.rules.specs.Lists.{places_from, cons_if}
 use Rattle.memory.specs.tables.Bits.{RowWord, LowestBit}
-use Rattle.memory.proofs.tables.Bit.{shr_suc}
+use Rattle.memory.proofs.tables.Bit.{shr_suc, zeros-fit}
 
 -- ---- the lowest bit
 
@@ -85,3 +85,7 @@ module _ (row : List 𝔹) where
   -- word k of the row holds its bits from 64 k on, and the next word's follow
   pub from_row : (k w : ℕ) → RowWord row k w → from (k * 64) ≡ members_from 64 (k * 64) w ++ from (k * 64 + 64)
   from_row k w h = from-word 64 (k * 64) w h.bits
+
+-- ---- what the check tries
+
+pub ruleset lowest_bits = (lowest-is, zeros-fit)

@@ -7,6 +7,3 @@ invariant_of-self c = search row-ready
 
 pub invariant_of-self-2 : goal.invariant_of-self-2
 invariant_of-self-2 c = record { ready = (commit_is _ _ _ c.args.self.now.ready c.requires c.listed_in.ensures c.put_insn.ensures c.end_block.ensures).ok }
-
-pub returns-clause-commits : goal.returns-clause-commits
-returns-clause-commits c = search commit_is
