@@ -3,6 +3,7 @@ use mathlib.Core.Path.{◌≡◌, refl, ap, ◌∙◌}
 use mathlib.Core.List.{List}
 use mathlib.Core.Bool.{Bool}
 use Rattle.std.specs.Prelude.{Result}
+use Rattle.std.specs.Coded.{le_prop}
 use Rattle.refusals.specs.declared.Refusal.{Refusal}
 use Rattle.lexer.specs.declared.Token.{Token}
 use Rattle.lexer.specs.declared.Word.{Word}
@@ -13,12 +14,23 @@ use Rattle.rules.specs.Program as P
 use Rattle.rules.specs.Reading.{Reads}
 use Rattle.program.specs.View.{limits_of}
 use Rattle.cursor.specs.Cursor.{Cursor, In}
+use Rattle.cursor.specs.Room.{ReadingRoom}
 use Rattle.cursor.specs.Promises.{Out, CursorDid, Sees, Idents, Expects, CursorMatches}
 use Rattle.cursor.specs.Parsers.{cursor_of, Reading, ParserKept, AddsKept, placed, ident_in, moved_in, matched_in, ParserIdents, ParserExpects, ParserMatches, ParserDid}
 use Rattle.cursor.specs.declared.Parser.{Parser}
 
+-- the same parser further on, with whatever shows that its memories have their room
+abbrev pub put : (p : Parser) → ℕ → ReadingRoom p.script.now p.scratch.now → Parser
+put p at h = record p { at = at; room = h }
+
+pub placed_with : (p : Parser) (at : ℕ) (h : ReadingRoom p.script.now p.scratch.now) → put p at h ≡ placed at p
+placed_with p at h = let once : IsProp (ReadingRoom p.script.now p.scratch.now) = hlevel le_prop in ap (put p at) (once h p.room)
+
 pub kept_none : (p : Parser) → ParserKept p p
 kept_none p = record { script = refl; limits = refl; words_loan = refl; scratch_loan = refl }
+
+pub adds_none : (p : Parser) → AddsKept p p
+adds_none p = record { kept = kept_none p; scratch = refl }
 
 pub kept_trans : {p p1 p2 : Parser} → ParserKept p p1 → ParserKept p1 p2 → ParserKept p p2
 kept_trans a b =
@@ -29,7 +41,17 @@ kept_trans a b =
       scratch_loan = b.scratch_loan ∙ a.scratch_loan;
     }
 
-pub kept_placed : {p p' : Parser} {at : ℕ} → p' ≡ placed at p → ParserKept p p'
+-- where script, program and scratch memory are the same
+pub kept_same : {p p1 p2 : Parser} → ParserKept p p1 → p2.script ≡ p1.script → p2.program ≡ p1.program → p2.scratch ≡ p1.scratch → ParserKept p p2
+kept_same k a b e =
+    record {
+      script = a ∙ k.script;
+      limits = ap (λ (d : Draft). d.limits) b ∙ k.limits;
+      words_loan = ap (λ (d : Draft). d.words.ghost_name) b ∙ k.words_loan;
+      scratch_loan = ap (λ z. z.ghost_name) e ∙ k.scratch_loan;
+    }
+
+pub kept_placed : {p p' : Parser} {at : ℕ} {h : ReadingRoom p.script.now p.scratch.now} → p' ≡ put p at h → ParserKept p p'
 kept_placed e =
     record {
       script = ap (λ (q : Parser). q.script) e;
@@ -55,13 +77,17 @@ pub after_none : (p : Parser) → After p p p.program.words.now p.scratch.now
 after_none p = record { kept = kept_none p; words = refl; scratch = refl }
 
 module _ {p p1 : Parser} {m w : List ℕ} (a : After p p1 m w) where
-  pub after_placed : {p2 : Parser} {at : ℕ} → p2 ≡ placed at p1 → After p p2 m w
+  pub after_placed : {p2 : Parser} {at : ℕ} {h : ReadingRoom p1.script.now p1.scratch.now} → p2 ≡ put p1 at h → After p p2 m w
   after_placed e =
       record {
         kept = kept_trans a.kept (kept_placed e);
         words = ap (λ (q : Parser). q.program.words.now) e ∙ a.words;
         scratch = ap (λ (q : Parser). q.scratch.now) e ∙ a.scratch;
       }
+
+  pub after_same : {p2 : Parser} → p2.script ≡ p1.script → p2.program ≡ p1.program → p2.scratch ≡ p1.scratch → After p p2 m w
+  after_same e f g =
+      record { kept = kept_same a.kept e f g; words = ap (λ (d : Draft). d.words.now) f ∙ a.words; scratch = ap (λ z. z.now) g ∙ a.scratch }
 
   pub after_kept : {p2 : Parser} → ParserKept p1 p2 → After p p2 p2.program.words.now p2.scratch.now
   after_kept k = record { kept = kept_trans a.kept k; words = refl; scratch = refl }

@@ -3,13 +3,11 @@ use mathlib.Core.Bool.{Bool, true, false}
 use mathlib.Core.Path.{◌≡◌, refl, sym, ap, ◌∙◌}
 use mathlib.Core.List.{List, map}
 use mathlib.Core.Option.{none, some}
-use Prim.Native.Nat.{ℕ, ◌+◌, ◌*◌, ◌≤◌, ◌<◌}
+use Prim.Native.Nat.{ℕ, ◌+◌, ◌*◌}
 use lib.ListN.{length}
-use borrow.Author.Tests.{ne_eqb, lt-ltb, le-ltb}
 use Rattle.ids.specs.declared.InsnId.{InsnId}
 use Rattle.ids.specs.declared.FunId.{FunId}
-use Rattle.kinds.specs.declared.Arith.{Arith}
-use Rattle.kinds.specs.declared.Arith.TheVariants.{Add, Sub, Mul, Less}
+use Rattle.kinds.specs.declared.Kind.{Kind}
 use Rattle.rules.specs.Actions.{answered, refused}
 use Rattle.rules.specs.Lists.{bytes, same}
 use Rattle.rules.specs.Values.{function_in}
@@ -23,7 +21,7 @@ use Rattle.program.specs.declared.Counts.{Counts}
 use Rattle.program.specs.declared.bounds.Limits.{Limits}
 use Rattle.program.specs.declared.Name.{Name}
 use Rattle.program.specs.declared.Opnd.{Opnd}
-use Rattle.program.specs.declared.Opnd.TheVariants.{Insn}
+use Rattle.program.specs.declared.Opnd.TheVariants.{Const, Insn}
 use Rattle.program.specs.declared.Op.{Op}
 use Rattle.program.specs.declared.Op.TheVariants.{GetIvar, SetIvar}
 use Rattle.program.specs.declared.Given.{Given}
@@ -36,12 +34,10 @@ use Rattle.refusals.specs.declared.Refusal.{Refusal}
 use Rattle.refusals.specs.Refusals.{number_of}
 use Rattle.cursor.specs.Layout.{stack_at}
 use Rattle.cursor.specs.Cursor.{parser_of, receiver_of, waiting, count_cur}
-use Rattle.cursor.specs.Steps.{sets_ivar, gets_ivar, calls, reads_attr, weigh, suffix_of}
-use Rattle.cursor.specs.Promises.{Out, done, stop, CursorAdds, called_of, parsed_of}
+use Rattle.cursor.specs.Steps.{sets_ivar, gets_ivar, calls, reads_attr}
+use Rattle.cursor.specs.Promises.{Out, done, stop, CursorAdds, parsed_of}
 use Rattle.cursor.specs.Cursor.{Cursor}
 use Rattle.cursor.specs.outcomes.Parsed.{Parsed}
-use Rattle.cursor.specs.declared.Suffix.{Suffix}
-use Rattle.cursor.specs.declared.Suffix.TheVariants.{Operator, Call, Member, Ends}
 
 -- ---- an instruction is added
 
@@ -176,42 +172,11 @@ module _ (L : P.Limits) (v : P.Opnd) (l : List P.Opnd) (r : Parser) where
   unfolding calls
   calls_no e = rw (← e)
 
-module _ (w m m' : List ℕ) (c : Cursor) (l : Limits) (v : Opnd) (n : ℕ) (q : Maybe FunId) (t : called_of q ≡ constant_of function_in (opnd_of v)) where
-  pub bare_yes : (o : Out P.Opnd) (f : FunId) → q ≡ Maybe.Some f
+module _ (w m m' : List ℕ) (c : Cursor) (l : Limits) (v : Opnd) (n : ℕ) where
+  pub bare_yes : (o : Out P.Opnd) (f : FunId) → v ≡ Const (Kind.Fun f)
       → ((s : List ℕ) → CursorAdds s w (push (limits_of l) (P.Send (callee_in s (Static f)) (waiting w c.args n))) m c m' o)
       → (s : List ℕ) → CursorAdds s w (calls (limits_of l) (opnd_of v) (waiting w c.args n)) m c m' o
-  bare_yes o f e a s = same-adds (a s) (calls-yes (limits_of l) (opnd_of v) (waiting w c.args n) (parser_of s m w c) f.0 (sym (ap called_of e) ∙ t))
+  bare_yes o f e a s = same-adds (a s) (calls-yes (limits_of l) (opnd_of v) (waiting w c.args n) (parser_of s m w c) f.0 (rw e))
 
-  pub bare_no : q ≡ Maybe.None → (s : List ℕ) → CursorAdds s w (calls (limits_of l) (opnd_of v) (waiting w c.args n)) m c m' (parsed_of (Parsed.Refused 8))
-  bare_no e s = record { is = calls_no (limits_of l) (opnd_of v) (waiting w c.args n) (parser_of s m w c) (sym (ap called_of e) ∙ t); ok = tt }
-
--- ---- what stands behind an operand
-
-module _ (k prec : ℕ) (r : Suffix) where
-  pub suffix_1 : k ≡ 60 → r ≡ weigh Less 0 1 prec → r ≡ suffix_of k prec
-  unfolding suffix_of
-  suffix_1 a e = rw a e
-
-  pub suffix_2 : k ≡ 43 → r ≡ weigh Add 1 1 prec → r ≡ suffix_of k prec
-  unfolding suffix_of
-  suffix_2 b e = rw b e
-
-  pub suffix_3 : k ≡ 45 → r ≡ weigh Sub 1 2 prec → r ≡ suffix_of k prec
-  unfolding suffix_of
-  suffix_3 d e = rw d e
-
-  pub suffix_4 : k ≡ 42 → r ≡ weigh Mul 3 3 prec → r ≡ suffix_of k prec
-  unfolding suffix_of
-  suffix_4 f e = rw f e
-
-pub suffix_5 : (k prec : ℕ) → k ≡ 40 → Call ≡ suffix_of k prec
-unfolding suffix_of
-suffix_5 k prec a = rw a
-
-pub suffix_6 : (k prec : ℕ) → k ≡ 46 → Member ≡ suffix_of k prec
-unfolding suffix_of
-suffix_6 k prec a = rw a
-
-pub suffix_7 : (k prec : ℕ) → (k ≡ 60 → ⊥) → (k ≡ 43 → ⊥) → (k ≡ 45 → ⊥) → (k ≡ 42 → ⊥) → (k ≡ 40 → ⊥) → (k ≡ 46 → ⊥) → Ends ≡ suffix_of k prec
-unfolding suffix_of
-suffix_7 k prec a b d e f g = rw (ne_eqb k 60 a, ne_eqb k 43 b, ne_eqb k 45 d, ne_eqb k 42 e, ne_eqb k 40 f, ne_eqb k 46 g)
+  pub bare_no : none ≡ constant_of function_in (opnd_of v) → (s : List ℕ) → CursorAdds s w (calls (limits_of l) (opnd_of v) (waiting w c.args n)) m c m' (parsed_of (Parsed.Refused 8))
+  bare_no h s = record { is = calls_no (limits_of l) (opnd_of v) (waiting w c.args n) (parser_of s m w c) h; ok = tt }

@@ -1,5 +1,4 @@
 pub mod Laws
 pub mod Wording
 pub mod Leaves
-pub mod Tried
 pub mod Kept

@@ -1,4 +1,5 @@
 pub mod Layout
+pub mod Room
 pub mod Cursor
 pub mod outcomes
 pub mod Steps

@@ -1,7 +1,6 @@
 -- What every reader promises: it does as the rules' action does. Assumes nothing.
 use Rattle.std.specs.Prelude.{Bool as 𝔹, true, false, ◌≡◌, List, [], ◌∷◌, ℕ, ◌+◌, ◌*◌, ◌≤◌, ◌<◌, length, get_or}
-use Rattle.std.specs.Prelude.{Option, None, Some, Result}
-use Rattle.std.proofs.Math.Option as M
+use Rattle.std.specs.Prelude.{Result}
 use Rattle.refusals.specs.declared.Refusal.{Refusal}
 use Prim.Native.String.{String}
 use Rattle.rules.specs.Actions.{Answer, answered, refused, ◌>>=◌, ◌>>◌, give, ask, when◌then◌else◌}
@@ -26,7 +25,6 @@ use Rattle.cursor.specs.outcomes.Parsed.{Done, Refused}
 use Rattle.cursor.specs.outcomes.Moved.{Moved}
 use Rattle.cursor.specs.outcomes.Ident.{Ident}
 use Rattle.cursor.specs.outcomes.Matched.{Matched}
-use Rattle.ids.specs.declared.FunId.{FunId}
 
 -- a value and the cursor behind it, or the number of a refusal
 pub data Out (A : Type 0) : Type 0 where
@@ -84,10 +82,6 @@ moved_of (Moved.Refused e) = stop e
 abbrev pub ident_of : List ℕ → Ident → Out P.Name
 ident_of s (Ident.Found c n) = done (name_in s n) c
 ident_of s (Ident.Refused e) = stop e
-
-abbrev pub called_of : Option FunId → M.Option ℕ
-called_of (Some f) = M.some f.0
-called_of None = M.none
 
 -- where the word is another, nothing moves
 abbrev pub matched_of : Cursor → Matched → Out 𝔹

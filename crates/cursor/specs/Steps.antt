@@ -1,13 +1,11 @@
 -- Parts of the rules' actions that the parser has functions for. Assumes nothing.
-use Rattle.std.specs.Prelude.{not, cond, List, ℕ, eqb, ltb}
+use Rattle.std.specs.Prelude.{not, cond, List, ℕ, eqb, ltb, Option, None, Some}
 use Rattle.kinds.specs.declared.Arith.{Arith}
 use Rattle.kinds.specs.declared.Arith.TheVariants.{Add, Sub, Mul, Less}
 use Rattle.rules.specs.Actions.{◌>>=◌, ◌>>◌, give, ask, the, change, needed}
 use Rattle.rules.specs.Values.{function_in}
 use Rattle.rules.specs.Program.{Limits, Name, Opnd, Insn, Static, Send, GetIvar, SetIvar}
 use Rattle.rules.specs.Reading.{Parser, Reads, with_env, the_env, bind, push, named, is_fixed, meaning, constant_of}
-use Rattle.cursor.specs.declared.Suffix.{Suffix}
-use Rattle.cursor.specs.declared.Suffix.TheVariants.{Operator, Call, Member, Ends}
 
 -- question 9
 abbrev pub myself : Reads Opnd
@@ -53,16 +51,14 @@ reads_attr L v n = do
   ask 8 (not (named n "new"))
   push L (GetIvar n v)
 
--- what the kind of the word behind an operand leads to; an operator that binds less tightly than prec ends the expression
-abbrev pub weigh : Arith → ℕ → ℕ → ℕ → Suffix
-weigh o n right prec = cond (ltb n prec) Ends (Operator o right)
+-- the operator that a sign is, and how tightly one on its right side has to bind; none where it binds less tightly than prec itself
+abbrev pub weigh : Arith → ℕ → ℕ → ℕ → Option (Arith × ℕ)
+weigh o n right prec = cond (ltb n prec) None (Some (o, right))
 
-unfoldable pub suffix_of : ℕ → ℕ → Suffix
-suffix_of k prec =
+unfoldable pub operator_of : ℕ → ℕ → Option (Arith × ℕ)
+operator_of k prec =
     cond (eqb k 60) (weigh Less 0 1 prec)
     (cond (eqb k 43) (weigh Add 1 1 prec)
     (cond (eqb k 45) (weigh Sub 1 2 prec)
     (cond (eqb k 42) (weigh Mul 3 3 prec)
-    (cond (eqb k 40) Call
-    (cond (eqb k 46) Member
-    Ends)))))
+    None)))

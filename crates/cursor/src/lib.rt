@@ -7,21 +7,19 @@ ghost use Rattle.std.specs.Prelude.{◌≡◌, List, map, ℕ, ◌+◌, ◌≤�
 ghost use Rattle.kinds.specs.declared.Kind.TheVariants.{Num};
 ghost use Rattle.lexer.specs.declared.Token.TheVariants.{EndOfText};
 ghost use Rattle.rules.specs.Program as P;
-ghost use Rattle.rules.specs.Values.{function_in, class_in};
-ghost use Rattle.rules.specs.Reading.{constant_of, push as push_of};
-ghost use Rattle.program.specs.Rows.{opnd_of, op_in, given, name_in, owner_in};
+ghost use Rattle.rules.specs.Reading.{push as push_of};
+ghost use Rattle.program.specs.Rows.{opnd_of, op_in, given, name_in};
 ghost use Rattle.program.specs.View.{limits_of, callee_in};
 ghost use Rattle.memory.specs.Layout.{operands_most};
-ghost use Rattle.cursor.specs.Layout.{scratch_size};
+ghost use Rattle.cursor.specs.Room.{ReadingRoom};
 ghost use Rattle.cursor.specs.Cursor.{waiting};
-ghost use Rattle.cursor.specs.Steps.{sets_ivar, gets_ivar, calls, reads_attr, suffix_of, weigh as weigh_of};
-ghost use Rattle.cursor.specs.Promises.{Sees, CursorAdds, Stacks, called_of};
-ghost use Rattle.cursor.specs.Parsers.{cursor_of, CanAdd, ParserKept, AddsKept, ParserIdents, ParserExpects, ParserMatches, operand};
+ghost use Rattle.cursor.specs.Steps.{sets_ivar, gets_ivar, calls, reads_attr, operator_of, weigh as weigh_of};
+ghost use Rattle.cursor.specs.Promises.{Sees, CursorAdds, Stacks};
 
-use ids::{BlockId, ClassId, FunId, InsnId};
+use ids::{BlockId, ClassId, InsnId};
 use kinds::{Arith, Kind};
 use lexer::{Token, Word};
-use program::{Callee, Draft, Given, Name, Op, Opnd};
+use program::{Callee, Draft, Given, Name, Op, Opnd, Program};
 use refusals::Refusal;
 
 // Where the stack of call arguments starts in scratch memory.
@@ -42,20 +40,25 @@ pub struct Parser<'a> {
     pub vars: usize,
     pub aside: usize,
     pub args: usize,
+    pub ghost room: { ReadingRoom script.now scratch.now },
 }
 
-// What stands behind an operand.
-#[derive(Clone, Copy)]
-pub enum Suffix {
-    Operator(Arith, usize),
-    Call,
-    Member,
-    Ends,
+impl<'a> Parser<'a> {
+    // The program as far as it is read.
+    pub fn program_so_far(&self) -> Program<'_>
+        ensures script { result.script.now ≡ self.now.script.now }
+        ensures words { result.words.now ≡ self.now.program.words.now }
+        ensures counts { result.counts ≡ self.now.program.counts }
+    {
+        self.program.program(self.script)
+    }
 }
 
 // ---- words: read only when they are looked at
 
 impl<'a> Parser<'a> {
+    ghost use Rattle.cursor.specs.Parsers.{cursor_of, ParserIdents, ParserExpects, ParserMatches};
+
     pub fn peek(&self) -> Result<Word, Refusal>
         ensures { Sees self.now.script.now (cursor_of self.now) result }
     {
@@ -83,6 +86,7 @@ impl<'a> Parser<'a> {
         self.take_name(x)
     }
 
+    // Stays: the end of text is one of the words, for the reason that stands there, and is never asked for.
     fn match_word(&mut self, k: Token) -> Result<bool, Refusal>
         requires { k ≡ EndOfText → ⊥ }
         ensures { ParserMatches k self.old self.new result }
@@ -143,54 +147,33 @@ pub fn number(n: u64) -> Opnd
     Opnd::Const(Kind::Num(n as i64))
 }
 
-// What the sign behind an operand leads to, where operators bind at least as tightly as prec.
-pub fn suffix_of(k: u8, prec: usize) -> Suffix
-    ensures { result ≡ suffix_of k prec }
+// The operator that a sign is, and how tightly one on its right side has to bind; none where it binds less tightly than prec itself.
+#[tactic(auto, unfolding(crate::specs::Steps::operator_of))]
+pub fn operator_of(k: u8, prec: usize) -> Option<(Arith, usize)>
+    ensures { result ≡ operator_of k prec }
 {
     match k {
         b'<' => weigh(Arith::Less, 0, 1, prec),
         b'+' => weigh(Arith::Add, 1, 1, prec),
         b'-' => weigh(Arith::Sub, 1, 2, prec),
         b'*' => weigh(Arith::Mul, 3, 3, prec),
-        b'(' => Suffix::Call,
-        b'.' => Suffix::Member,
-        _ => Suffix::Ends,
+        _ => None,
     }
 }
 
-fn weigh(o: Arith, n: usize, right: usize, prec: usize) -> Suffix
+fn weigh(o: Arith, n: usize, right: usize, prec: usize) -> Option<(Arith, usize)>
     ensures { result ≡ weigh_of o n right prec }
 {
-    if n < prec {
-        Suffix::Ends
-    } else {
-        Suffix::Operator(o, right)
-    }
-}
-
-// The function that an operand names.
-fn fun_named_by(v: Opnd) -> Option<FunId>
-    ensures { called_of result ≡ constant_of function_in (opnd_of v) }
-{
-    match v {
-        Opnd::Const(Kind::Fun(f)) => Some(f),
-        _ => None,
-    }
-}
-
-// The class that an operand names.
-pub fn class_named_by(v: Opnd) -> Option<ClassId>
-    ensures { owner_in result ≡ constant_of class_in (opnd_of v) }
-{
-    match v {
-        Opnd::Const(Kind::Class(k)) => Some(k),
-        _ => None,
-    }
+    if n < prec { None } else { Some((o, right)) }
 }
 
 // ---- additions
 
 impl<'a> Parser<'a> {
+    ghost use Rattle.cursor.specs.Parsers.{cursor_of, CanAdd, ParserKept, AddsKept, operand};
+
+    // Stays: whether an instruction may be added is a fact of a moment; before the first function there is no block.
+
     // An instruction that is no call, in the block that takes instructions; its result as an operand.
     pub fn push(&mut self, op: Op, g: Given) -> Result<Opnd, Refusal>
         requires { CanAdd self.old }
@@ -202,10 +185,12 @@ impl<'a> Parser<'a> {
         Ok(Opnd::Insn(i))
     }
 
+    // Stays: that n more arguments find room ties n to those that wait.
+
     // A call with the n arguments that stand behind those that wait.
     pub fn push_call(&mut self, callee: Callee, n: usize) -> Result<Opnd, Refusal>
         requires can { CanAdd self.old }
-        requires scratch_size_in_bounds { (scratch_size ≤ length self.old.scratch.now) × (self.old.args + n ≤ operands_most) }
+        requires n_bound { self.old.args + n ≤ operands_most }
         ensures kept { AddsKept self.old self.new }
         ensures adds { (s : List ℕ) → CursorAdds s self.old.scratch.now
             (push_of (limits_of self.old.program.limits) (P.Send (callee_in s callee) (waiting self.old.scratch.now self.old.args n)))
@@ -248,7 +233,8 @@ impl<'a> Parser<'a> {
             (reads_attr (limits_of self.old.program.limits) (opnd_of v) (name_in self.old.script.now n))
             self.old.program.words.now (cursor_of self.old) self.new.program.words.now (operand self.new result) }
     {
-        if lexer::spells(self.script, n.start, n.len, b"new") {
+        let name = lexer::bytes_at(self.script, n.start, n.len);
+        if lexer::same_bytes(name, b"new") {
             return Err(Refusal::NotCallable);
         }
         self.push(Op::GetIvar(n), Given::One(v))
@@ -257,20 +243,22 @@ impl<'a> Parser<'a> {
     // A call of the function that v names.
     pub fn bare_call(&mut self, v: Opnd, n: usize) -> Result<Opnd, Refusal>
         requires can { CanAdd self.old }
-        requires scratch_size_in_bounds { (scratch_size ≤ length self.old.scratch.now) × (self.old.args + n ≤ operands_most) }
+        requires n_bound { self.old.args + n ≤ operands_most }
         ensures kept { AddsKept self.old self.new }
         ensures adds { (s : List ℕ) → CursorAdds s self.old.scratch.now
             (calls (limits_of self.old.program.limits) (opnd_of v) (waiting self.old.scratch.now self.old.args n))
             self.old.program.words.now (cursor_of self.old) self.new.program.words.now (operand self.new result) }
     {
-        let f = fun_named_by(v).ok_or(Refusal::NotCallable)?;
-        self.push_call(Callee::Static(f), n)
+        match v {
+            Opnd::Const(Kind::Fun(f)) => self.push_call(Callee::Static(f), n),
+            _ => Err(Refusal::NotCallable),
+        }
     }
 
     // ---- the stack of arguments that wait
 
     pub fn push_arg(&mut self, v: Opnd)
-        requires { (scratch_size ≤ length self.old.scratch.now) × (self.old.args < operands_most) }
+        requires { self.old.args < operands_most }
         ensures kept { ParserKept self.old self.new }
         ensures program { self.new.program ≡ self.old.program }
         ensures stacks { Stacks v (cursor_of self.old) self.old.scratch.now self.new.scratch.now (cursor_of self.new) }

@@ -1,11 +1,10 @@
 // Names for their values, assignments, and sends.
-ghost use Rattle.std.specs.Prelude.{◌≡◌, ℕ, ◌+◌, ◌≤◌, ◌<◌, length, is_some, IfSome};
+ghost use Rattle.std.specs.Prelude.{◌≡◌, ℕ, ◌+◌, ◌≤◌, ◌<◌, is_some, IfSome};
 ghost use Rattle.rules.specs.Program as P;
 ghost use Rattle.rules.specs.Reading.{Reads, is_fixed, fixed, create_instance, send as send_of};
 ghost use Rattle.program.specs.Rows.{opnd_of, name_in};
 ghost use Rattle.memory.specs.Layout.{script_most, operands_most};
 ghost use Rattle.variables.specs.Layout.{bindings_most};
-ghost use Rattle.cursor.specs.Layout.{scratch_size};
 ghost use Rattle.cursor.specs.Cursor.{waiting};
 ghost use Rattle.cursor.specs.Steps.{means};
 ghost use Rattle.cursor.specs.Promises.{Assigns};
@@ -22,13 +21,14 @@ fn fixed_value(script: &[u8], n: Name) -> Option<Opnd>
     ensures fixed { is_some result ≡ is_fixed (name_in script.now n) }
     ensures value { IfSome result (λ v. opnd_of v ≡ fixed (name_in script.now n)) }
 {
-    if lexer::spells(script, n.start, n.len, b"nil") {
+    let name = lexer::bytes_at(script, n.start, n.len);
+    if lexer::same_bytes(name, b"nil") {
         return Some(Opnd::Const(Kind::Nil));
     }
-    if lexer::spells(script, n.start, n.len, b"true") {
+    if lexer::same_bytes(name, b"true") {
         return Some(Opnd::Const(Kind::Truth(true)));
     }
-    if lexer::spells(script, n.start, n.len, b"false") {
+    if lexer::same_bytes(name, b"false") {
         return Some(Opnd::Const(Kind::Truth(false)));
     }
     None
@@ -37,7 +37,7 @@ fn fixed_value(script: &[u8], n: Name) -> Option<Opnd>
 impl<'a> Parser<'a> {
     // The name n is bound to v, unless it is a fixed value's.
     pub fn assign(&mut self, n: Name, v: Opnd) -> Result<Opnd, Refusal>
-        requires scratch_size_in_bounds { (scratch_size ≤ length self.old.scratch.now) × (self.old.vars < bindings_most) }
+        requires vars_bound { self.old.vars < bindings_most }
         requires len_bound { n.start + n.len ≤ script_most }
         ensures kept { ParserKept self.old self.new }
         ensures program { self.new.program ≡ self.old.program }
@@ -46,10 +46,12 @@ impl<'a> Parser<'a> {
         if fixed_value(self.script, n).is_some() {
             return Err(Refusal::NameTaken);
         }
-        phis::set_var(self.scratch, self.vars, n.start, n.len, v);
+        phis::set_var(self.scratch, self.vars, n, v);
         self.vars += 1;
         Ok(v)
     }
+
+    // Stays: `Reading` is a fact of a moment, inside of a function and before any refusal, which no field can say.
 
     // What a name means: a fixed value, else a function, else a class, else a variable.
     pub fn name_value(&self, n: Name) -> Result<Opnd, Refusal>
@@ -59,18 +61,20 @@ impl<'a> Parser<'a> {
         if let Some(v) = fixed_value(self.script, n) {
             return Ok(v);
         }
-        let program = self.program.program(self.script);
+        let program = self.program_so_far();
         if let Some(f) = lookups::function_named(&program, n) {
             return Ok(Opnd::Const(Kind::Fun(f)));
         }
         if let Some(k) = lookups::class_named(&program, self.class, n) {
             return Ok(Opnd::Const(Kind::Class(k)));
         }
-        let found = phis::get_var(self.script, &*self.scratch, self.vars, n.start, n.len);
+        let found = phis::get_var(self.script, &*self.scratch, self.vars, n);
         found.ok_or(Refusal::UnboundName)
     }
 
     // ---- sends
+
+    // Stays: that n more arguments find room ties n to those that wait.
 
     // A New and, where the class has a constructor, the call of it on the new object; without one the arguments are dropped.
     fn create_instance(&mut self, k: ClassId, n: usize) -> Result<Opnd, Refusal>
@@ -81,7 +85,7 @@ impl<'a> Parser<'a> {
             self.old self.new (operand self.new result) }
     {
         let o = self.push(Op::New(k), Given::Zero)?;
-        let program = self.program.program(self.script);
+        let program = self.program_so_far();
         if let Some((_, name)) = lookups::constructor_of(&program, k) {
             self.push_call(Callee::Dynamic(o, name), n)?;
         }
@@ -96,14 +100,15 @@ impl<'a> Parser<'a> {
             (λ L s. send_of L s E (opnd_of v) (name_in s n) (waiting self.old.scratch.now self.old.args k)) 0
             self.old self.new (operand self.new result) }
     {
-        match crate::class_named_by(v) {
-            Some(class) => {
-                if lexer::spells(self.script, n.start, n.len, b"new") {
+        match v {
+            Opnd::Const(Kind::Class(class)) => {
+                let name = lexer::bytes_at(self.script, n.start, n.len);
+                if lexer::same_bytes(name, b"new") {
                     return self.create_instance(class, k);
                 }
                 Err(Refusal::NotCallable)
             }
-            None => self.push_call(Callee::Dynamic(v, n), k),
+            _ => self.push_call(Callee::Dynamic(v, n), k),
         }
     }
 }

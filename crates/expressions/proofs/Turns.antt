@@ -30,14 +30,13 @@ use Rattle.program.specs.declared.Opnd.{Opnd}
 use Rattle.program.specs.declared.Op.TheVariants.{Compute}
 use Rattle.program.specs.declared.Given.TheVariants.{Two}
 use Rattle.cursor.specs.Cursor.{parser_of, waiting, move_cur, stack_cur, In, CursorStep}
-use Rattle.cursor.specs.Steps.{calls, reads_attr, weigh, suffix_of}
+use Rattle.cursor.specs.Steps.{calls, reads_attr}
 use Rattle.cursor.specs.Promises.{Out, CursorDid, CursorAdds, Stacks, Sees, Idents, Expects, CursorMatches, Spelt, parsed_of}
 use Rattle.cursor.specs.Cursor.{Cursor}
 use Rattle.cursor.specs.outcomes.Parsed.{Parsed, Done, Refused}
 use Rattle.cursor.specs.outcomes.Moved.{Moved}
 use Rattle.cursor.specs.outcomes.Ident.{Ident}
 use Rattle.cursor.specs.outcomes.Matched.{Matched}
-use Rattle.cursor.specs.declared.Suffix.{Suffix}
 use Rattle.cursor.proofs.Laws.{step-none, step_less, step_trans, Acted, got, gave, refuses, arrives, ends_as, added_did}
 use Rattle.cursor.proofs.Wording.{is-yes, is_no, spelt_open, spelt_close, spelt_comma, spelt_plus, spelt_minus, spelt_times, spelt_less, spelt_dot, word_read, peek-found, peek-none, glanced}
 use Rattle.memory.specs.Layout.{operands_most}
@@ -48,7 +47,21 @@ use Rattle.expressions.specs.outcomes.Args.{Args}
 use Rattle.expressions.specs.outcomes.Suffixed.{Suffixed}
 use Rattle.expressions.proofs.Loops.{Loops, loops_start, loops_on, loops_end, loops_stop}
 use Rattle.expressions.proofs.Stack.{height_free, waiting-same, stacks_args, stacks_at, stacks_more, stacks_state, stacks_in, stacks_step, step_height, step_from}
-use Rattle.expressions.proofs.Ways.{ident_went, match_went, match_not, match_gave, expect-went, expect_gave, suffix_low, operator-passed, call-passed, member_passed}
+use Rattle.expressions.proofs.Ways.{
+  ident_went,
+  match_went,
+  match_not,
+  match_gave,
+  expect-went,
+  expect_gave,
+  Suffix,
+  weighed as made,
+  suffix_of,
+  suffix_low,
+  operator-passed,
+  call-passed,
+  member_passed,
+}
 
 module _ (L : P.Limits) (s : List ℕ) (E : ℕ → Reads P.Opnd) where
   -- ---- one argument
@@ -369,7 +382,7 @@ module _ (L : P.Limits) (s : List ℕ) (E : ℕ → Reads P.Opnd) where
     weighed false o n right r = refl
 
     table : (a b d e f g : Bool) (r : Parser)
-        → on_suffix (cond a (weigh Less 0 1 prec) (cond b (weigh Add 1 1 prec) (cond d (weigh Sub 1 2 prec) (cond e (weigh Mul 3 3 prec) (cond f Suffix.Call (cond g Suffix.Member Suffix.Ends)))))) r
+        → on_suffix (cond a (made Less 0 1 prec) (cond b (made Add 1 1 prec) (cond d (made Sub 1 2 prec) (cond e (made Mul 3 3 prec) (cond f Suffix.Call (cond g Suffix.Member Suffix.Ends)))))) r
         ≡ on_operator (by_tests a b d e) f g r
     table true b d e f g r = weighed (ltb 0 prec) Less 0 1 r
     table false true d e f g r = weighed (ltb 1 prec) Add 1 1 r
@@ -408,8 +421,8 @@ module _ (L : P.Limits) (s : List ℕ) (E : ℕ → Reads P.Opnd) where
           further = λ c' v' f. let z : ◌≡◌ {A = ℕ} 0 1 = cc in absurd (omega arith);
         }
 
-    pub suffix_other : g ≡ Ok None → In s m w c → SuffixDid (parse_suffix L s E prec (opnd_of v)) v s m w c m w Suffixed.Ends
-    suffix_other e h =
+    pub suffix_none_ahead : g ≡ Ok None → In s m w c → SuffixDid (parse_suffix L s E prec (opnd_of v)) v s m w c m w Suffixed.Ends
+    suffix_none_ahead e h =
         let y = unsigned l.word (sym e ∙ l.is) in
         ends-here h (rw (byte_none y.word.token y.other, suffix_low 0 prec (omega arith)) at (suffix_is prec (opnd_of v) (glanced c l) y.found m w))
 

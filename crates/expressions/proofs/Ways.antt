@@ -1,14 +1,15 @@
 -- The ways through each reader: what the calls on the way gave, and what the rules then say. No code is named here. Assumes nothing.
-use mathlib.Core.Bool.{true, false}
+use mathlib.Core.Bool.{Bool, true, false}
 use mathlib.Core.Path.{◌≡◌, refl, sym, ap, ◌∙◌}
 use mathlib.Core.List.{List}
-use Prim.Native.Nat.{ℕ, suc, ◌+◌, ◌-◌, ◌*◌, ◌≤◌, ◌<◌, ◌^◌}
+use Prim.Native.Nat.{ℕ, suc, ◌+◌, ◌-◌, ◌*◌, ◌≤◌, ◌<◌}
 use Prim.Native.String.{String}
 use native.Mathlib.Omega.{arith}
 use lib.IntN.{pos}
 use lib.ListN.{length}
 use borrow.Author.Tests.{ne_eqb}
 use Rattle.kinds.specs.declared.Arith.{Arith}
+use Rattle.kinds.specs.declared.Arith.TheVariants.{Add, Sub, Mul, Less}
 use Rattle.kinds.specs.declared.Kind.TheVariants.{Num}
 use Rattle.rules.specs.Actions.{answered, refused, loop}
 use Rattle.rules.specs.Program as P
@@ -16,7 +17,7 @@ use Rattle.rules.specs.Words.{decimal}
 use Rattle.rules.specs.Reading.{Reads, pass, expect, expect_ident, match_token, turns, get_self, parse_group, parse_ivar, parse_name, parse_primary, parse_member, parse_suffix, parse_expr}
 use Rattle.lexer.specs.Lexed.{text_of, Glances}
 use Rattle.lexer.specs.Lexed as Lexed
-use Rattle.std.specs.Prelude.{Option as Maybe, Some, Result, Ok, Err}
+use Rattle.std.specs.Prelude.{Option as Maybe, Some, None, Result, Ok, Err, cond, eqb, ltb}
 use Rattle.refusals.specs.declared.Refusal.{Refusal}
 use Rattle.refusals.specs.Refusals.{number_of}
 use Rattle.lexer.specs.declared.Token.{Token}
@@ -28,14 +29,13 @@ use Rattle.program.specs.Rows.{opnd_of, name_in}
 use Rattle.program.specs.declared.Name.{Name}
 use Rattle.program.specs.declared.Opnd.{Opnd}
 use Rattle.cursor.specs.Cursor.{parser_of, move_cur, In, CursorStep}
-use Rattle.cursor.specs.Steps.{sets_ivar, gets_ivar, assigns, means, suffix_of}
+use Rattle.cursor.specs.Steps.{sets_ivar, gets_ivar, assigns, means, weigh, operator_of}
 use Rattle.cursor.specs.Promises.{Out, done, CursorAfter, CursorDid, CursorAdds, BindsIf, Assigns, Sees, Idents, Expects, CursorMatches, Spelt, parsed_of, moved_of, ident_of, matched_of}
 use Rattle.cursor.specs.Cursor.{Cursor}
 use Rattle.cursor.specs.outcomes.Parsed.{Parsed, Done, Refused}
 use Rattle.cursor.specs.outcomes.Moved.{Moved}
 use Rattle.cursor.specs.outcomes.Ident.{Ident}
 use Rattle.cursor.specs.outcomes.Matched.{Matched}
-use Rattle.cursor.specs.declared.Suffix.{Suffix}
 use Rattle.cursor.proofs.Laws.{step-none, step_trans, Acted, got, gave, refuses, arrives, ends_as, in_moved, step-moved, moved-did, added_did}
 use Rattle.cursor.proofs.Wording.{is-yes, is_no, literal_yes, literal_no, spelt_open, spelt_close, spelt_equals, spelt_at, word_read, peek-found, peek-none, pass-found, glanced}
 use Rattle.memory.specs.Layout.{script_most}
@@ -82,6 +82,55 @@ module _ {s m w : List ℕ} {c : Cursor} (h : In s m w c) where
 
   pub ident_gave : {i : Ident} {n : ℕ} → Idents s c i → i ≡ Ident.Refused n → refused n ≡ expect_ident s (parser_of s m w c)
   ident_gave d e = gave (moved-did d.moves h) (ap (ident_of s) e)
+
+-- what a sign behind an operand leads to; an operator that binds less tightly than prec ends the expression
+pub data Suffix : Type 0 where
+  Operator : Arith → ℕ → Suffix
+  Call : Suffix
+  Member : Suffix
+  Ends : Suffix
+
+abbrev pub weighed : Arith → ℕ → ℕ → ℕ → Suffix
+weighed o n right prec = cond (ltb n prec) Suffix.Ends (Suffix.Operator o right)
+
+unfoldable pub suffix_of : ℕ → ℕ → Suffix
+suffix_of k prec =
+    cond (eqb k 60) (weighed Less 0 1 prec)
+    (cond (eqb k 43) (weighed Add 1 1 prec)
+    (cond (eqb k 45) (weighed Sub 1 2 prec)
+    (cond (eqb k 42) (weighed Mul 3 3 prec)
+    (cond (eqb k 40) Suffix.Call
+    (cond (eqb k 46) Suffix.Member
+    Suffix.Ends)))))
+
+pub suffix_open : (k prec : ℕ) → k ≡ 40 → Suffix.Call ≡ suffix_of k prec
+unfolding suffix_of
+suffix_open k prec e = rw e
+
+pub suffix_dot : (k prec : ℕ) → k ≡ 46 → Suffix.Member ≡ suffix_of k prec
+unfolding suffix_of
+suffix_dot k prec e = rw e
+
+abbrev pub operating : Maybe (Arith × ℕ) → Suffix
+operating (Some (o, right)) = Suffix.Operator o right
+operating None = Suffix.Ends
+
+operating-weighed : (t : Bool) (o : Arith) (right : ℕ) → operating (cond t None (Some (o, right))) ≡ cond t Suffix.Ends (Suffix.Operator o right)
+operating-weighed true o right = refl
+operating-weighed false o right = refl
+
+operating-one : (a b d e : Bool) (prec : ℕ)
+    → operating (cond a (weigh Less 0 1 prec) (cond b (weigh Add 1 1 prec) (cond d (weigh Sub 1 2 prec) (cond e (weigh Mul 3 3 prec) None))))
+    ≡ cond a (weighed Less 0 1 prec) (cond b (weighed Add 1 1 prec) (cond d (weighed Sub 1 2 prec) (cond e (weighed Mul 3 3 prec) Suffix.Ends)))
+operating-one true b d e prec = operating-weighed (ltb 0 prec) Less 1
+operating-one false true d e prec = operating-weighed (ltb 1 prec) Add 1
+operating-one false false true e prec = operating-weighed (ltb 1 prec) Sub 2
+operating-one false false false true prec = operating-weighed (ltb 3 prec) Mul 3
+operating-one false false false false prec = refl
+
+pub suffix_other : (k prec : ℕ) → (k ≡ 40 → ⊥) → (k ≡ 46 → ⊥) → operating (operator_of k prec) ≡ suffix_of k prec
+unfolding operator_of suffix_of
+suffix_other k prec a b = rw (ne_eqb k 40 a, ne_eqb k 46 b) (operating-one (eqb k 60) (eqb k 43) (eqb k 45) (eqb k 42) prec)
 
 -- what stands behind an operand begins with a sign
 pub suffix_low : (k prec : ℕ) → k < 10 → suffix_of k prec ≡ Suffix.Ends

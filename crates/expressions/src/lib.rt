@@ -9,11 +9,13 @@ ghost use Rattle.cursor.specs.Promises.{Sees};
 ghost use Rattle.cursor.specs.Parsers.{cursor_of, Reading, ParserDid, operand};
 ghost use Rattle.expressions.specs.Readers.{ParserArg, ParserArgs, ParserSuffix};
 
-use cursor::{Parser, Suffix};
+use cursor::Parser;
 use kinds::Arith;
 use lexer::{Token, Word};
 use program::{Given, Op, Opnd};
 use refusals::Refusal;
+
+// Stays: `Reading` is a fact of a moment, inside of a function and before any refusal, which no field can say.
 
 #[cycle(expression)]
 fn parse_group(p: &mut Parser, depth: usize) -> Result<Opnd, Refusal>
@@ -37,6 +39,8 @@ fn parse_ivar(p: &mut Parser, depth: usize) -> Result<Opnd, Refusal>
     }
     p.get_ivar(n)
 }
+
+// Stays: that x is the next word ties it to the parser's place; without x the word would be read twice.
 
 // From the word x on, which is the next.
 #[cycle(expression)]
@@ -74,6 +78,8 @@ fn parse_primary(p: &mut Parser, x: Word, depth: usize) -> Result<Opnd, Refusal>
     }
     parse_name(p, x, depth)
 }
+
+// Stays: that one more argument can wait is a fact of the moment behind a `(` or a comma.
 
 // One argument, if there is one: whether a comma stands behind it, so that there may be another.
 #[cycle(expression)]
@@ -153,23 +159,25 @@ fn parse_suffix(p: &mut Parser, v: Opnd, prec: usize, depth: usize) -> Result<Op
     let Some((k, next)) = lexer::glance(p.script, p.at)? else {
         return Ok(None);
     };
-    match cursor::suffix_of(k, prec) {
-        Suffix::Operator(o, right) => {
-            p.at = next;
-            let w = parse_right(p, v, o, right, depth)?;
-            Ok(Some(w))
-        }
-        Suffix::Call => {
+    match k {
+        b'(' => {
             p.at = next;
             let w = parse_call(p, v, depth)?;
             Ok(Some(w))
         }
-        Suffix::Member => {
+        b'.' => {
             p.at = next;
             let w = parse_member(p, v, depth)?;
             Ok(Some(w))
         }
-        Suffix::Ends => Ok(None),
+        _ => {
+            let Some((o, right)) = cursor::operator_of(k, prec) else {
+                return Ok(None);
+            };
+            p.at = next;
+            let w = parse_right(p, v, o, right, depth)?;
+            Ok(Some(w))
+        }
     }
 }
 

@@ -5,7 +5,6 @@ use mathlib.Core.List.{List, []}
 use Prim.Native.Nat.{ℕ, ◌+◌, ◌≤◌, ◌<◌}
 use native.Mathlib.Omega.{arith}
 use lib.ListN.{length}
-use Rattle.ids.specs.declared.BlockId.{BlockId}
 use Rattle.ids.specs.declared.FunId.{FunId}
 use Rattle.rules.specs.Actions.{answered, loop}
 use Rattle.rules.specs.Program as P
@@ -31,7 +30,7 @@ use Rattle.cursor.proofs.Laws.{Acted, got, gave, moved-did, added_did, step_tran
 use Rattle.cursor.proofs.Wording.{spelt_end, spelt_open, spelt_close}
 use Rattle.functions.specs.outcomes.OpenedFun.{OpenedFun}
 use Rattle.functions.specs.params.Names.{names_in}
-use Rattle.functions.specs.params.Promises.{receive_cur, ParamsFilled, PushesParams, PushesSelf, Received, Head, Params, Named, Funs, Entered, funned_of}
+use Rattle.functions.specs.params.Promises.{receive_cur, ParamsFilled, PushesParams, PushesSelf, Received, Params, Named, Funs, Entered, funned_of}
 use Rattle.statements.specs.Acts.{stops_at}
 use Rattle.statements.specs.Shape.{EndsBlock}
 use Rattle.functions.specs.Bodies.{clear_cur, head_of, body_of, fun_of, Headed, Heads, Rests, Takes, BodyBegun}
@@ -50,17 +49,6 @@ module _ (l : Limits) {m w : List ℕ} (c : Cursor) (g : ParamsFilled m w (clear
 
     args-same : c1.args ≡ c.args
     args-same = ap (λ (y : Cursor). y.args) selfed_ok.cur
-
-    pub head_filled : ParamsFilled m1 w c1
-    head_filled =
-        let k = selfed_ok.cur in
-        record {
-          tables = selfed_ok.tables;
-          block = omega (arith, g.block, selfed_ok.blocks, ap (λ (y : Cursor). y.block.0) k);
-          scratch = g.scratch;
-          vars = omega (arith, g.vars, ap (λ (y : Cursor). y.vars) k, args-same);
-          short = λ j h. g.short j (omega (arith, args-same));
-        }
 
     module _ {m2 w2 : List ℕ} {y : Moved} (b : PushesParams l m1 w c1 m2 w2 y) where
       params_is : (s : List ℕ) → outcome s m2 w2 (moved_of y) ≡ push_params (View.limits_of l) s 0 (names_in s w c.args) (parser_of s m1 w c1)
@@ -103,24 +91,6 @@ module _ {s m w : List ℕ} {c : Cursor} (g : BodyBegun s m w c) where
     module _ {c1 : Cursor} (o : x ≡ On c1) where
       headed : Headed c m1 w1 w c1
       headed = rw o at a.ok
-
-      pub body_in : In s m1 w1 c1
-      body_in =
-          record {
-            ready = record {
-              script = g.ready.script;
-              inside = omega (arith, g.ready.inside, headed.at);
-              tables = headed.tables;
-              scratch = omega (arith, g.ready.scratch, headed.long);
-              room = record {
-                script = omega (arith, g.ready.room.script, headed.at);
-                aside = omega (arith, headed.aside);
-                law = omega (arith, headed.aside, headed.vars, headed.at, g.ready.args);
-              };
-              args = omega (arith, headed.args);
-            };
-            block = omega (arith, g.block, headed.blocks, ap (λ (b : BlockId). b.0) headed.block);
-          }
 
       module _ {m2 w2 : List ℕ} {p : Parsed}
           (b : CursorDid (parse_statements (View.limits_of l) s (stops_at false) (parse_statement (View.limits_of l) s l.depth)) 0 s m1 w1 c1 m2 w2 (parsed_of p)) where
@@ -254,17 +224,6 @@ module _ (l : Limits) {s m w : List ℕ} {c : Cursor} (g : Rests s m w c) {u : I
           open_went : Acted (R.expect s "(") 1 s m1 w c2 m1 w tt c3
           open_went = got opened (ap moved_of j)
 
-          pub fun_head : Head s w c3
-          fun_head =
-              let h = open_went.here.ready in
-              record {
-                script = h.script;
-                inside = h.inside;
-                scratch = h.scratch;
-                args = open_went.step.args ∙ (ap (λ (z : Cursor). z.args) entered.cur ∙ (ap (λ (z : Cursor). z.args) (ident_on a f).0 ∙ g.args));
-                vars = omega (arith, h.room.law, h.room.script, h.room.aside);
-              }
-
           module _ {w1 : List ℕ} {t : Moved} (p : Params s w c3 w1 t) where
             pub fun_no4 : {e : ℕ} → t ≡ Refused e → Fun l s m w c m1 w1 (OpenedFun.Refused e)
             unfolding fun_of
@@ -293,26 +252,6 @@ module _ (l : Limits) {s m w : List ℕ} {c : Cursor} (g : Rests s m w c) {u : I
 
                 close-args : c5.args ≡ c4.args
                 close-args = ap (λ (y : Cursor). y.args) close-on.0
-
-                pub fun_begun : BodyBegun s m1 w1 c5
-                fun_begun =
-                    let h = open_went.here in
-                    record {
-                      ready = record {
-                        script = h.ready.script;
-                        inside = close-on.1.1 named.inside;
-                        tables = rw (ap (λ (y : Cursor). y.counts) whole_cur) h.ready.tables;
-                        scratch = omega (arith, h.ready.scratch, named.long);
-                        room = record {
-                          script = omega (arith, h.ready.script, close-on.1.1 named.inside);
-                          aside = omega (arith, h.ready.room.aside, ap (λ (y : Cursor). y.aside) whole_cur);
-                          law = omega (arith, h.ready.room.law, ap (λ (y : Cursor). y.aside) whole_cur, ap (λ (y : Cursor). y.vars) whole_cur, named.further, close-on.1.0);
-                        };
-                        args = omega (arith, close-args, named.on, close-on.1.0);
-                      };
-                      block = omega (arith, h.block, ap (λ (y : Cursor). y.block.0) whole_cur, ap (λ (y : Cursor). y.counts.blocks) whole_cur);
-                      lies = λ i o. named.lies i (omega (arith, close-args));
-                    }
 
                 closed_is : answered (tt, parser_of s m1 w1 c5) ≡ R.expect s ")" (parser_of s m1 w1 c4)
                 closed_is = rw z at close-is

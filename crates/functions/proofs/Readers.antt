@@ -1,8 +1,8 @@
 -- The ways through the readers of functions, over a parser. Assumes nothing.
-use mathlib.Core.Path.{◌≡◌, refl, ap, ◌∙◌}
+use mathlib.Core.Path.{◌≡◌, refl, ap}
 use mathlib.Core.Bool.{false}
 use mathlib.Core.List.{List}
-use Prim.Native.Nat.{ℕ, ◌<◌}
+use Prim.Native.Nat.{ℕ}
 use Rattle.std.specs.Prelude.{Result, Ok, Err, None}
 use Rattle.ids.specs.declared.FunId.{FunId}
 use Rattle.refusals.specs.declared.Refusal.{Refusal}
@@ -14,17 +14,17 @@ use Rattle.program.specs.declared.Given.TheVariants.{One}
 use Rattle.program.specs.declared.Name.{Name}
 use Rattle.program.specs.declared.Op.TheVariants.{Return}
 use Rattle.program.specs.declared.Opnd.{Opnd}
-use Rattle.cursor.specs.Cursor.{In}
-use Rattle.cursor.specs.Promises.{Out, Idents, Expects, CursorDid, parsed_of}
-use Rattle.cursor.specs.Parsers.{cursor_of, moved_in, ident_in, parsed_in, operand, Reading, ParserKept, AddsKept, ParserIdents, ParserExpects, ParserDid}
+use Rattle.cursor.specs.Room.{ReadingRoom}
+use Rattle.cursor.specs.Promises.{Out, Expects, CursorDid, parsed_of}
+use Rattle.cursor.specs.Parsers.{cursor_of, moved_in, ident_in, parsed_in, operand, ParserKept, ParserIdents, ParserExpects, ParserDid}
 use Rattle.cursor.specs.declared.Parser.{Parser}
-use Rattle.cursor.proofs.Kept.{After, after_none, after_placed, after_kept, after_adds, after_scratch, expects_of, did_of, reading_of}
+use Rattle.cursor.proofs.Kept.{After, kept_same, after_same, after_none, after_placed, after_kept, after_adds, after_scratch, expects_of, did_of}
 use Rattle.statements.specs.Acts.{stops_at}
 use Rattle.statements.specs.Shape.{EndsBlock, ParserEndsBlock}
 use Rattle.functions.specs.params.Names.{names_in}
-use Rattle.functions.specs.params.Promises.{ParamsFilled, PushesParams, Funs, Head, Params, funned_of}
+use Rattle.functions.specs.params.Promises.{PushesParams, Funs, Params, funned_of}
 use Rattle.functions.specs.params.Parsers.{fun_in, ParserParams, ParserBinds, ParserSelf, ParserEnters}
-use Rattle.functions.specs.Bodies.{body_of, Takes, Taken, KnownIf, BodyBegun, Heads}
+use Rattle.functions.specs.Bodies.{body_of, Takes, Taken, KnownIf, Heads}
 use Rattle.functions.specs.outcomes.OpenedFun.{OpenedFun}
 use Rattle.cursor.specs.outcomes.Moved.{Moved}
 use Rattle.functions.specs.Parsers.{HeadWaits, BodyWaits, Resting, through, ParserHeads, ParserTakes, ParserTaken}
@@ -59,10 +59,10 @@ module _ {p p1 : Parser} {m w : List ℕ} (a : After p p1 m w) where
 
 -- ---- open_body
 
-abbrev cleared : Parser → Parser
-cleared p = record p { vars = 0; aside = bindings_most }
+abbrev cleared : (p : Parser) → ReadingRoom p.script.now p.scratch.now → Parser
+cleared p h = record p { vars = 0; aside = bindings_most; room = h }
 
-module _ (p : Parser) (g : HeadWaits p) {p1 : Parser} {x : Result (Unit {0}) Refusal} (a : ParserSelf (cleared p) p1 x) where
+module _ (p : Parser) {h : ReadingRoom p.script.now p.scratch.now} (g : HeadWaits p) {p1 : Parser} {x : Result (Unit {0}) Refusal} (a : ParserSelf (cleared p h) p1 x) where
   kept1 : ParserKept p p1
   kept1 = let k = a.kept.kept in record { script = k.script; limits = k.limits; words_loan = k.words_loan; scratch_loan = k.scratch_loan }
 
@@ -73,9 +73,6 @@ module _ (p : Parser) (g : HeadWaits p) {p1 : Parser} {x : Result (Unit {0}) Ref
   heads_no f = heads_end a1 (Err _) (L.head_no p.program.limits (cursor_of p) g a.pushes (ap (moved_in p1) f))
 
   module _ (f : x ≡ Ok tt) where
-    pub heads_filled : ParamsFilled p1.program.words.now p1.scratch.now (cursor_of p1)
-    heads_filled = rw a1.scratch (L.head_filled p.program.limits (cursor_of p) g a.pushes (ap (moved_in p1) f))
-
     module _ {p2 : Parser} {y : Result (Unit {0}) Refusal} (b : ParserBinds p1 p2 y) where
       bs : PushesParams p.program.limits p1.program.words.now p.scratch.now (cursor_of p1) p2.program.words.now p2.scratch.now (moved_in p2 y)
       bs = rw (a1.kept.limits, a1.scratch) at b.pushes
@@ -86,10 +83,10 @@ module _ (p : Parser) (g : HeadWaits p) {p1 : Parser} {x : Result (Unit {0}) Ref
       pub heads_no2 : {e : Refusal} → y ≡ Err e → ParserHeads p p2 (Err e)
       heads_no2 i = heads_end a2 (Err _) (L.head_no2 p.program.limits (cursor_of p) g a.pushes (ap (moved_in p1) f) bs (ap (moved_in p2) i))
 
-      pub heads_yes : y ≡ Ok tt → ParserHeads p (record p2 { args = 0 }) (Ok tt)
+      pub heads_yes : {j : ReadingRoom p2.script.now p2.scratch.now} → y ≡ Ok tt → ParserHeads p (record p2 { args = 0; room = j }) (Ok tt)
       heads_yes i =
           record {
-            kept = let k = a2.kept in record { script = k.script; limits = k.limits; words_loan = k.words_loan; scratch_loan = k.scratch_loan };
+            kept = kept_same a2.kept refl refl refl;
             heads = L.head_yes p.program.limits (cursor_of p) g a.pushes (ap (moved_in p1) f) bs (ap (moved_in p2) i) refl;
           }
 
@@ -107,9 +104,6 @@ module _ (p : Parser) (g : BodyWaits p) where
     body_no f = takes_end b1 (L.body_no g a.heads (ap (moved_in p1) f))
 
     module _ (f : x ≡ Ok tt) where
-      pub body_in : Reading p1
-      body_in = reading_of b1 (L.body_in g a.heads (ap (moved_in p1) f))
-
       module _ {p2 : Parser} (o : Result Opnd Refusal)
           (b : ParserDid (λ L s. parse_statements L s (stops_at false) (parse_statement L s p.program.limits.depth)) 0 p1 p2 (operand p2 o)) where
         stated : CursorDid (parse_statements (limits_of p.program.limits) p.script.now (stops_at false) (parse_statement (limits_of p.program.limits) p.script.now p.program.limits.depth)) 0
@@ -123,9 +117,6 @@ module _ (p : Parser) (g : BodyWaits p) where
         body_no2 i = takes_end b2 (L.body_no2 g a.heads (ap (moved_in p1) f) stated (ap (parsed_in p2) i))
 
         module _ {v : Opnd} (i : o ≡ Ok v) where
-          pub body_block : p2.block.0 < p2.program.counts.blocks
-          body_block = (L.body_in2 g a.heads (ap (moved_in p1) f) stated (ap (parsed_in p2) i)).block
-
           module _ {p3 : Parser} {y : Result (Unit {0}) Refusal} (d : ParserEndsBlock Return (One v) p2 p3 y) where
             ends : EndsBlock p.program.limits Return (One v) p2.program.words.now (cursor_of p2) p3.program.words.now (moved_in p3 y)
             ends = rw b2.kept.limits at d.ends
@@ -146,15 +137,10 @@ module _ (p : Parser) (g : BodyWaits p) where
               pub body_no4 : {e : Refusal} → t ≡ Err e → Body p4 (Err e)
               body_no4 k = takes_end b4 (L.body_no4 g a.heads (ap (moved_in p1) f) stated (ap (parsed_in p2) i) ends (ap (moved_in p3) j) shut (ap (moved_in p4) k))
 
-              b5 : After p (record p4 { receiver = None }) p3.program.words.now p2.scratch.now
-              b5 =
-                  record {
-                    kept = let k = b4.kept in record { script = k.script; limits = k.limits; words_loan = k.words_loan; scratch_loan = k.scratch_loan };
-                    words = b4.words;
-                    scratch = b4.scratch;
-                  }
+              b5 : {r : ReadingRoom p4.script.now p4.scratch.now} → After p (record p4 { receiver = None; room = r }) p3.program.words.now p2.scratch.now
+              b5 = after_same b4 refl refl refl
 
-              pub body_yes : t ≡ Ok tt → Body (record p4 { receiver = None }) (Ok tt)
+              pub body_yes : {r : ReadingRoom p4.script.now p4.scratch.now} → t ≡ Ok tt → Body (record p4 { receiver = None; room = r }) (Ok tt)
               body_yes k = takes_end b5 (L.body_yes g a.heads (ap (moved_in p1) f) stated (ap (parsed_in p2) i) ends (ap (moved_in p3) j) shut (ap (moved_in p4) k) refl)
 
 -- ---- parse_fun
@@ -187,9 +173,6 @@ module _ (p : Parser) (g : Resting p) {p1 : Parser} {u : Result Name Refusal} (a
       fun_no3 j = taken_end c3 (Err _) (L.fun_no3 p.program.limits g a.idents (ap (ident_in p1) f) entered (ap (fun_in p2) i) opened (ap (moved_in p3) j)) tt
 
       module _ (j : y ≡ Ok tt) where
-        pub fun_head : Head p3.script.now p3.scratch.now (cursor_of p3)
-        fun_head = rw (c3.kept.script, c3.scratch) (L.fun_head p.program.limits g a.idents (ap (ident_in p1) f) entered (ap (fun_in p2) i) opened (ap (moved_in p3) j))
-
         module _ {p4 : Parser} {t : Result (Unit {0}) Refusal} (q : ParserParams p3 p4 t) where
           named : Params p.script.now p.scratch.now (cursor_of p3) p4.scratch.now (moved_in p4 t)
           named = rw (c3.kept.script, c3.scratch) at q.named
@@ -215,12 +198,6 @@ module _ (p : Parser) (g : Resting p) {p1 : Parser} {u : Result Name Refusal} (a
                 tt
 
             module _ (z : v ≡ Ok tt) where
-              pub fun_begun : BodyWaits p5
-              fun_begun =
-                  rw (c5.kept.script, c5.words, c5.scratch)
-                  (L.fun_begun p.program.limits g a.idents (ap (ident_in p1) f) entered (ap (fun_in p2) i) opened (ap (moved_in p3) j) named (ap (moved_in p4) l) closed
-                  (ap (moved_in p5) z))
-
               module _ {p6 : Parser} (o : Result (Unit {0}) Refusal) (B : ParserTakes (λ L s. body_of L s (names_in s p5.scratch.now p5.args)) 1 p5 p6 (through p6 o)) where
                 bodied : Takes (body_of (limits_of p.program.limits) p.script.now (names_in p.script.now p4.scratch.now p5.args)) 1
                     p.script.now p2.program.words.now p4.scratch.now (cursor_of p5) p6.program.words.now p6.scratch.now (through p6 o)

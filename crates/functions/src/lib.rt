@@ -40,6 +40,8 @@ fn parse_body(p: &mut Parser) -> Result<(), Refusal>
     Ok(())
 }
 
+// Stays: `Resting` is a fact of a moment, between functions and before any refusal, which no field can say.
+
 // Behind `def`; the function is known from its name on.
 pub fn parse_fun(p: &mut Parser) -> Result<FunId, Refusal>
     requires { Resting p.old }

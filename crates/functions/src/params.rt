@@ -1,7 +1,6 @@
 // The heads of functions: their names, receivers and parameters.
-ghost use Rattle.std.specs.Prelude.{◌<◌, ◌≤◌, length};
+ghost use Rattle.std.specs.Prelude.{◌<◌};
 ghost use Rattle.memory.specs.Layout.{operands_most};
-ghost use Rattle.cursor.specs.Layout.{scratch_size};
 ghost use Rattle.cursor.specs.Parsers.{cursor_of, CanAdd};
 ghost use Rattle.functions.specs.params.Promises.{Head, ParamsRoom, ParamsFilled};
 ghost use Rattle.functions.specs.params.Parsers.{ParserPutsName, ParserParams, ParserParam, ParserBinds, ParserSelf, ParserEnters};
@@ -13,13 +12,14 @@ use program::{Given, Name, Op};
 use refusals::Refusal;
 
 // Where the names of parameters wait in scratch memory, two words each.
+// Stays: there is no heap, and the lent words hold numbers alone.
 const STACK: usize = cursor::STACK;
 
 // ---- names
 
 // A name waits behind those that do.
 fn push_name(p: &mut Parser, n: Name)
-    requires { (scratch_size ≤ length p.old.scratch.now) × (p.old.args < operands_most) }
+    requires { p.old.args < operands_most }
     ensures { ParserPutsName n p.old p.new }
 {
     let at = STACK + 2 * p.args;
@@ -51,10 +51,12 @@ fn push_param(p: &mut Parser, k: usize) -> Result<(), Refusal>
     ensures { ParserParam k p.old p.new result }
 {
     let at = STACK + 2 * k;
-    let start = p.scratch[at];
-    let len = p.scratch[at + 1];
+    let name = Name {
+        start: p.scratch[at],
+        len: p.scratch[at + 1],
+    };
     let v = p.push(Op::Param(k), Given::Zero)?;
-    phis::set_var(p.scratch, p.vars, start, len, v);
+    phis::set_var(p.scratch, p.vars, name, v);
     p.vars += 1;
     Ok(())
 }

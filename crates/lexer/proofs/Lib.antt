@@ -2,3 +2,4 @@ pub mod Names
 pub mod Runs
 pub mod Texts
 pub mod Lexes
+pub mod Tried

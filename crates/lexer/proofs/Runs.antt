@@ -1,7 +1,9 @@
 -- Runs of bytes and literals: what their loops keep, on plain values. Assumes nothing.
-use Rattle.std.proofs.Common.{◌≡◌, ℕ, suc, ◌+◌, ◌-◌, ◌*◌, ◌≤◌, ◌<◌, ◌^◌, Bool, true, List, [], ◌∷◌, length, drop, get_or, Some, None, arith, add-one, drop-cons}
-use borrow.Author.Tests.{lt-ltb, le-ltb}
+use Rattle.std.proofs.Common.{◌≡◌, ℕ, suc, ◌+◌, ◌-◌, ◌*◌, ◌≤◌, ◌<◌, ◌^◌, Bool, true, false, refl, List, [], ◌∷◌, length, drop, get_or, Some, None, arith, add-one, drop-cons}
+use borrow.Author.Tests.{lt-ltb, le-ltb, leb-true, leb-false}
+use lib.Dec.{leb}
 use lib.ListN.{drop_of_length-le}
+use Rattle.std.specs.Bool.{then_some}
 use Rattle.rules.specs.Words.{run, decimal}
 use Rattle.lexer.specs.Lexed.{fitting}
 
@@ -20,9 +22,18 @@ pub too_large : {n : ℕ} → 2 ^ 63 ≤ n → None ≡ fitting n
 unfolding fitting
 too_large {n} h = rw (le-ltb n (2 ^ 63) h)
 
-pub fits : {n : ℕ} → n < 2 ^ 63 → Some n ≡ fitting n
+fits : {n : ℕ} → n < 2 ^ 63 → Some n ≡ fitting n
 unfolding fitting
 fits {n} h = rw (lt-ltb n (2 ^ 63) h)
+
+by_bound : (b : Bool) (n : ℕ) → (b ≡ true → n < 2 ^ 63) → (b ≡ false → 2 ^ 63 ≤ n) → then_some b n ≡ fitting n
+by_bound true n below above = fits (below refl)
+by_bound false n below above = too_large (above refl)
+
+pub fits_if : {n d : ℕ} → n ≡ d → then_some (leb n 9223372036854775807) n ≡ fitting d
+fits_if {n} e =
+    rw (← e)
+    (by_bound (leb n 9223372036854775807) n (λ h. let l = leb-true n 9223372036854775807 h in omega arith) (λ h. let l = leb-false n 9223372036854775807 h in omega arith))
 
 -- a literal at its loop's head: what is left writes, behind v, what the whole writes
 pub record Counting (digits : List ℕ) (v i : ℕ) : Type 0 where

@@ -10,13 +10,16 @@ use ids::ClassId;
 use lexer::Token;
 use refusals::Refusal;
 
+// Stays: `Resting` is a fact of a moment, between functions and before any refusal, which no field can say; that the class k is
+// one of the program's ties two values.
+
 // Question 7 for a second method of a name, at the method's end.
 fn parse_method(p: &mut Parser, k: ClassId) -> Result<(), Refusal>
     requires { Resting p.old }
     ensures { ParserTakes (λ L s. parse_method L s k.0) 1 p.old p.new (through p.new result) }
 {
     let f = functions::parse_fun(p)?;
-    let program = p.program.program(p.script);
+    let program = p.program_so_far();
     let x = program.fun(f);
     if lookups::method_named(&program, k, x.name) == Some(f) {
         return Ok(());
@@ -59,6 +62,7 @@ fn parse_member(p: &mut Parser, k: ClassId) -> Result<bool, Refusal>
 }
 
 // The things in a class, and its end.
+// Stays: beside `parse_program`: a class has other words and one more end, and what they share is a `while` with no body.
 fn parse_members(p: &mut Parser, k: ClassId) -> Result<(), Refusal>
     requires rests { Resting p.old }
     requires k_lt_classes { k.0 < p.old.program.counts.classes }
@@ -67,6 +71,8 @@ fn parse_members(p: &mut Parser, k: ClassId) -> Result<(), Refusal>
     while parse_member(p, k)? {}
     Ok(())
 }
+
+// Stays: that no class is open is a fact of a moment.
 
 // Behind `class`; question 7 for a second class of a name, at the class's end.
 pub fn parse_class(p: &mut Parser) -> Result<(), Refusal>
@@ -78,7 +84,7 @@ pub fn parse_class(p: &mut Parser) -> Result<(), Refusal>
     let k = p.program.new_class(n)?;
     p.class = Some(k);
     parse_members(p, k)?;
-    let program = p.program.program(p.script);
+    let program = p.program_so_far();
     if lookups::class_named(&program, p.class, n).is_some() {
         return Err(Refusal::NameTaken);
     }

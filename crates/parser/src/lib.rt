@@ -10,6 +10,7 @@ ghost use Rattle.functions.specs.Parsers.{Resting, through, ParserTakes};
 ghost use Rattle.memory.specs.Layout.{script_most};
 ghost use Rattle.program.specs.Layout.{program_size};
 ghost use Rattle.cursor.specs.Layout.{scratch_size};
+ghost use Rattle.cursor.specs.Room.{ReadingRoom};
 ghost use Rattle.parser.specs.classes.Turning.{ParserTurns};
 ghost use Rattle.program.specs.View.{Starts};
 ghost use Rattle.cursor.specs.Parsers.{cursor_of};
@@ -20,6 +21,8 @@ use ids::BlockId;
 use lexer::Token;
 use program::{Counts, Draft, Limits};
 use refusals::Refusal;
+
+// Stays: `Resting`, and that no class is open, are facts of a moment, which no field can say.
 
 // One thing at top level: whether there was one. At the end of text there is none.
 fn parse_top(p: &mut Parser) -> Result<bool, Refusal>
@@ -53,6 +56,8 @@ fn parse_program(p: &mut Parser) -> Result<(), Refusal>
     Ok(())
 }
 
+// Stays: the C interface lends the script and each memory apart, as plain words, so each length is asked for until a `Parser` holds them.
+
 // Before the first word.
 fn start<'a>(
     script: &'a [u8],
@@ -60,7 +65,8 @@ fn start<'a>(
     scratch: &'a mut [usize],
     limits: Limits,
 ) -> Parser<'a>
-    requires { program_size ≤ length program.old }
+    requires program_size_in_bounds { program_size ≤ length program.old }
+    requires room { ReadingRoom script.now scratch.old }
     ensures words_loan { result.program.words.ghost_name ≡ program.entry.ghost_name }
     ensures scratch_loan { result.scratch.ghost_name ≡ scratch.entry.ghost_name }
     ensures script { result.script.now ≡ script.now }
@@ -77,6 +83,7 @@ fn start<'a>(
         at: 0,
         class: None,
         receiver: None,
+        // Stays: 0 and no `None` before the first block: whatever adds to a block would have to look into it; `CanAdd` says that there is one.
         block: BlockId(0),
         vars: 0,
         aside: variables::BINDINGS_MOST,
@@ -111,15 +118,9 @@ fn read_words<'a>(
     let Parser { program: draft, .. } = p;
     let counts = draft.counts;
     let words = draft.words;
-    match r {
-        Ok(_) => Reading {
-            words,
-            read: Ok(counts),
-        },
-        Err(e) => Reading {
-            words,
-            read: Err(e),
-        },
+    Reading {
+        words,
+        read: r.map(|()| counts),
     }
 }
 

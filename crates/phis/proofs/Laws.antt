@@ -1,14 +1,12 @@
 -- What each way through the functions shows, on plain values. Assumes nothing.
 use mathlib.Core.Bool.{Bool, true, false, cond}
-use mathlib.Core.Path.{◌≡◌, refl, sym, ap, subst, ◌∙◌}
+use mathlib.Core.Path.{◌≡◌, refl, sym, ap, ◌∙◌}
 use mathlib.Core.List.{List, [], ◌∷◌}
 use Prim.Native.Nat.{ℕ, ◌+◌, ◌-◌, ◌%◌, ◌^◌, ◌≤◌, ◌<◌}
 use native.Mathlib.Omega.{arith}
 use lib.Dec.{eqb}
 use lib.ListN.{length}
-use borrow.Author.Tests.{eq-eqb, ne_eqb}
-use Rattle.kinds.specs.Kinds.{kind_from, same_kind}
-use Rattle.kinds.proofs.Same.{same_eq, same_refl}
+use Rattle.kinds.specs.Kinds.{kind_from}
 use Rattle.ids.specs.declared.InsnId.{InsnId}
 use Rattle.std.specs.Prelude.{Ok, Err}
 use Rattle.std.specs.declared.result.Result.{Result}
@@ -31,6 +29,7 @@ use Rattle.variables.specs.declared.Row.{Row}
 use Rattle.variables.specs.declared.Rows.{Rows}
 use Rattle.variables.proofs.Laws.{noted-part, noted-kept, noted-none}
 use Rattle.variables.proofs.Entries.{kept-all, kept_trans, kept-part, vars-kept, vars_split, row_kept, cut}
+use Rattle.program.proofs.Operands.{one_opnd, two_opnds}
 use Rattle.program.specs.Rows as Stored
 use Rattle.program.specs.Rows.{opnd_of}
 use Rattle.program.specs.View.{program_view, ProgramReady, limits_of, ProgramDid, pushing_of, more_insns, insn_of, unchanged}
@@ -83,27 +82,10 @@ grown_trans f g = record { functions = g.functions ∙ f.functions; classes = g.
 abbrev numbered : Answer (ℕ × Parser) → Answer (P.Opnd × Parser)
 numbered a = if_answered a (λ z. answered (P.Insn z.0, z.1))
 
--- the rules' test of two operands
-same_self : (v : Opnd) → same_opnd (opnd_of v) (opnd_of v) ≡ true
-same_self (Const k) = same_refl k
-same_self (Insn i) = eq-eqb i.0 i.0 refl
-
-differ : (v w : Opnd) → (v ≡ w → ⊥) → same_opnd (opnd_of v) (opnd_of w) ≡ false
-differ (Const a) (Const b) n = by (same_kind a b) refl
-  where
-    by : (t : Bool) → same_kind a b ≡ t → t ≡ false
-    by true e = absurd (n (ap Const (same_eq a b e)))
-    by false e = refl
-differ (Const a) (Insn j) n = refl
-differ (Insn i) (Const b) n = refl
-differ (Insn i) (Insn j) n = ne_eqb i.0 j.0 (λ z. n (ap Insn (ap (λ k. record { 0 = k }) z)))
-
 module _ (l : Limits) (q : Blocks) (v w : Opnd) (p : List ℕ) (c : Counts) where
   pub phi-same : ProgramReady p c → v ≡ w → Phis l q v w p c p c (Ok v)
   unfolding R.phi
-  phi-same g e =
-      let s : same_opnd (opnd_of v) (opnd_of w) ≡ true = subst (λ u. same_opnd (opnd_of v) (opnd_of u) ≡ true) e (same_self v) in
-      record { is = λ z r h. rw s; ready = (g, grown_self c) }
+  phi-same g e = record { is = λ z r h. rw (one_opnd v w e); ready = (g, grown_self c) }
 
   in_block : (s : List ℕ) (r : Parser) → r.block ≡ q.at.0
       → push_insn (limits_of l) q.at.0 (P.Phi q.left.0 (opnd_of v) q.right.0 (opnd_of w)) (with_program (program_view s p c) r)
@@ -116,11 +98,11 @@ module _ (l : Limits) (q : Blocks) (v w : Opnd) (p : List ℕ) (c : Counts) wher
 
     pub phi_added : {i : InsnId} → Pushed (Ok i) → Phis l q v w p c p' d (Ok (Insn i))
     unfolding R.phi push
-    phi_added g = record { is = λ s r h. rw (differ v w f) (ap numbered (g.is s r ∙ in_block s r h)); ready = (g.ok.ready, grown_more c d (O.Phi q.left q.right) 2 g.ok.counts) }
+    phi_added g = record { is = λ s r h. rw (two_opnds v w f) (ap numbered (g.is s r ∙ in_block s r h)); ready = (g.ok.ready, grown_more c d (O.Phi q.left q.right) 2 g.ok.counts) }
 
     pub phi-refused : {k : Refusal} → Pushed (Err k) → Phis l q v w p c p' d (Err k)
     unfolding R.phi push
-    phi-refused g = record { is = λ s r h. rw (differ v w f) (ap numbered (g.is s r ∙ in_block s r h)); ready = tt }
+    phi-refused g = record { is = λ s r h. rw (two_opnds v w f) (ap numbered (g.is s r ∙ in_block s r h)); ready = tt }
 
 -- ---- join_one
 

@@ -2,16 +2,15 @@
 #![tactic(auto)]
 
 ghost use Rattle.std.specs.Prelude.{◌≡◌, ◌+◌, ◌≤◌, ◌<◌, length};
-ghost use Rattle.lexer.specs.Names.{name};
 ghost use Rattle.variables.specs.Promises.{opnd_of as stored_of, Lies, BothAside, NotesBoth};
 ghost use Rattle.program.specs.Drafts.{DraftKept};
-ghost use Rattle.program.specs.Rows.{opnd_of};
+ghost use Rattle.program.specs.Rows.{opnd_of, name_in};
 ghost use Rattle.memory.specs.Layout.{script_most};
 ghost use Rattle.variables.specs.Layout.{bindings_most, entries_most, variables_size};
 ghost use Rattle.phis.specs.Joining.{PhisSets, PhisFinds, Phis, One, RowsJoined, Arms, IfEnd};
 
 use ids::BlockId;
-use program::{Draft, Given, Op, Opnd};
+use program::{Draft, Given, Name, Op, Opnd};
 use refusals::Refusal;
 use variables::{Joint, Row, Rows, Scope, Stored};
 
@@ -31,23 +30,24 @@ fn store(o: Opnd) -> Stored
 }
 
 // ---- variables
+// Stays: each clause names the size of scratch memory: a struct over the `&mut` would promise in each contract that it keeps its loan, as `DraftKept` does, a clause for a clause.
 
-// The name of k bytes at a is bound to o, as binding n.
-pub fn set_var(scratch: &mut [usize], n: usize, a: usize, k: usize, o: Opnd)
+// The name is bound to o, as binding n.
+pub fn set_var(scratch: &mut [usize], n: usize, name: Name, o: Opnd)
     requires variables_size_in_bounds { (variables_size ≤ length scratch.old) × (n < bindings_most) }
-    requires a_le_script_most { (a ≤ script_most) × (k ≤ script_most) }
-    ensures { PhisSets n a k o scratch.old scratch.new }
+    requires name_in_bounds { (name.start ≤ script_most) × (name.len ≤ script_most) }
+    ensures { PhisSets n name.start name.len o scratch.old scratch.new }
 {
-    variables::bind(scratch, n, a, k, store(o));
+    variables::bind(scratch, n, name.start, name.len, store(o));
 }
 
-// What the name of k bytes at a is among n bindings.
-pub fn get_var(script: &[u8], scratch: &[usize], n: usize, a: usize, k: usize) -> Option<Opnd>
+// What the name is among n bindings.
+pub fn get_var(script: &[u8], scratch: &[usize], n: usize, name: Name) -> Option<Opnd>
     requires { (variables_size ≤ length scratch.now) × (n ≤ entries_most) }
-    ensures { PhisFinds script.now scratch.now n (name script.now a k) result }
+    ensures { PhisFinds script.now scratch.now n (name_in script.now name) result }
 {
     let scope = Scope { script, scratch };
-    let o = scope.find(n, a, k)?;
+    let o = scope.find(n, lexer::bytes_at(script, name.start, name.len))?;
     Some(load(o))
 }
 
@@ -72,6 +72,8 @@ pub struct Sides {
     pub n: usize,
     pub left: Row,
 }
+
+// Stays: the block that takes instructions is bounded by the draft's blocks in each contract: no type says it without holding both.
 
 // v on the left side and w on the right are joined: two equal operands need no instruction.
 pub fn phi(draft: &mut Draft, q: Blocks, v: Opnd, w: Opnd) -> Result<Opnd, Refusal>

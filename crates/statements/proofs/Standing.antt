@@ -22,12 +22,13 @@ use Rattle.phis.specs.Joining.{Phis}
 use Rattle.phis.specs.declared.Blocks.{Blocks}
 use Rattle.lexer.specs.declared.Token.TheVariants as T
 use Rattle.cursor.specs.Cursor.{Cursor, In}
+use Rattle.cursor.specs.Room.{ReadingRoom}
 use Rattle.cursor.specs.Promises.{Out, CursorDid, Expects}
 use Rattle.cursor.specs.Parsers.{cursor_of, ParserKept, AddsKept, operand, moved_in, parsed_in}
 use Rattle.cursor.specs.outcomes.Moved.{Moved, On}
 use Rattle.cursor.specs.outcomes.Parsed.{Parsed}
 use Rattle.cursor.specs.declared.Parser.{Parser}
-use Rattle.cursor.proofs.Kept.{kept_none, kept_trans, After}
+use Rattle.cursor.proofs.Kept.{kept_trans, After, after_same}
 use Rattle.statements.specs.declared.Branch.{Branch}
 use Rattle.statements.specs.outcomes.Opened.{Opened}
 use Rattle.statements.specs.outcomes.Stops.{Stops}
@@ -44,27 +45,24 @@ pub record StatementsStand (arm : 𝔹) (depth : ℕ) (p q : Parser) (v : Opnd) 
 
 -- ---- where only the program grows
 
-pub adds_none : (p : Parser) → AddsKept p p
-adds_none p = record { kept = kept_none p; scratch = refl }
-
-module _ (p : Parser) (d : Draft) (k : DraftKept p.program d) where
-  pub draft_kept : AddsKept p (record p { program = d })
+module _ (p : Parser) (d : Draft) (k : DraftKept p.program d) {h : ReadingRoom p.script.now p.scratch.now} where
+  pub draft_kept : AddsKept p (record p { program = d; room = h })
   draft_kept = record { kept = record { script = refl; limits = k.limits; words_loan = k.loan; scratch_loan = refl }; scratch = refl }
 
   pub opens_block : (r : Result BlockId Refusal)
       → View.ProgramDid (View.next_block (View.limits_of p.program.limits)) View.unchanged p.program.counts.blocks (View.more_blocks p.program.counts)
       p.program.words.now p.program.counts d.words.now (View.block_of d.counts r)
-      → ParserOpens p (record p { program = d }) r
+      → ParserOpens p (record p { program = d; room = h }) r
   opens_block (Ok b) g = record { kept = draft_kept; opens = new-on p.program.limits _ (cursor_of p) d.counts g refl refl }
   opens_block (Err e) g = record { kept = draft_kept; opens = new_no p.program.limits _ (cursor_of p) d.counts g refl refl }
 
   module _ (b : BlockId) (op : Op) (v : Given) {r : Result InsnId Refusal}
       (g : View.ProgramDid (View.pushing_of (View.limits_of p.program.limits) b.0 op (given v)) View.unchanged p.program.counts.insns
       (View.more_insns op (length (given v)) p.program.counts) p.program.words.now p.program.counts d.words.now (View.insn_of d.counts r)) where
-    pub end_added : {i : InsnId} → r ≡ Ok i → ParserAddsEnd b op v p (record p { program = d }) (Ok tt)
+    pub end_added : {i : InsnId} → r ≡ Ok i → ParserAddsEnd b op v p (record p { program = d; room = h }) (Ok tt)
     end_added e = record { kept = draft_kept; adds = end_on p.program.limits b op v _ (cursor_of p) d.counts g e refl }
 
-    pub end_refused : {e : Refusal} → r ≡ Err e → ParserAddsEnd b op v p (record p { program = d }) (Err e)
+    pub end_refused : {e : Refusal} → r ≡ Err e → ParserAddsEnd b op v p (record p { program = d; room = h }) (Err e)
     end_refused e = record { kept = draft_kept; adds = end_no p.program.limits b op v _ (cursor_of p) d.counts g e refl }
 
 -- a join of two values, at the place p behind `end`
@@ -86,16 +84,11 @@ arms_moved : {l : Limits} {s m w : List ℕ} {c₀ c : Cursor} {q : Branch} {b :
 arms_moved e f d = rw (e, f) d
 
 module _ {p p1 : Parser} {m w : List ℕ} (a : After p p1 m w) where
-  pub after_draft : (d : Draft) → DraftKept p1.program d → After p (record p1 { program = d }) d.words.now w
-  after_draft d k = record { kept = kept_trans a.kept (draft_kept p1 d k).kept; words = refl; scratch = a.scratch }
+  pub after_draft : (d : Draft) {h : ReadingRoom p1.script.now p1.scratch.now} → DraftKept p1.program d → After p (record p1 { program = d; room = h }) d.words.now w
+  after_draft d {h} k = record { kept = kept_trans a.kept (draft_kept p1 d k {h = h}).kept; words = refl; scratch = a.scratch }
 
-  pub after_block : (b : BlockId) → After p (record p1 { block = b }) m w
-  after_block b =
-      record {
-        kept = record { script = a.kept.script; limits = a.kept.limits; words_loan = a.kept.words_loan; scratch_loan = a.kept.scratch_loan };
-        words = a.words;
-        scratch = a.scratch;
-      }
+  pub after_block : (b : BlockId) {h : ReadingRoom p1.script.now p1.scratch.now} → After p (record p1 { block = b; room = h }) m w
+  after_block b {h} = after_same a refl refl refl
 
   pub opens_of : {p2 : Parser} {r : Result BlockId Refusal} → ParserOpens p1 p2 r → Opens p.program.limits m (cursor_of p1) p2.program.words.now (opened_in p2 r)
   opens_of d = rw (a.kept.limits, a.words) at d.opens

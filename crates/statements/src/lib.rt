@@ -66,12 +66,14 @@ pub fn end_block(p: &mut Parser, op: Op, g: Given) -> Result<(), Refusal>
     ensures { ParserEndsBlock op g p.old p.new result }
 {
     let b = p.block;
-    let program = p.program.program(p.script);
+    let program = p.program_so_far();
     if lookups::is_terminated(&program, b) {
         return Ok(());
     }
     add_end(p, b, op, g)
 }
+
+// Stays: `Reading` is a fact of a moment, inside of a function and before any refusal, which no field can say.
 
 // Behind `return`.
 fn parse_return(p: &mut Parser, depth: usize) -> Result<Opnd, Refusal>
@@ -85,6 +87,8 @@ fn parse_return(p: &mut Parser, depth: usize) -> Result<Opnd, Refusal>
 }
 
 // ---- the end of an `if`, whose condition was read up to c₀
+
+// Stays: `InArm` is a fact of the moments between an `if` and its `end`, about the parser and the branch together.
 
 // What the then arm bound is set aside; the else arm's first block is opened, and the choice is added.
 fn open_else(p: &mut Parser, q: Branch) -> Result<BlockId, Refusal>
@@ -250,6 +254,7 @@ fn parse_if(p: &mut Parser, depth: usize) -> Result<Opnd, Refusal>
     ensures { ParserDid (λ L s. parse_if L s (parse_expr L s depth) (parse_statement L s depth)) 1 p.old p.new (operand p.new result) }
 {
     let cond = expressions::parse_expr(p, 0, depth)?;
+    // Stays: the one place that makes a `Before`; a `From` would hold these very lines.
     let before = Before {
         block: p.block,
         vars: p.vars,
@@ -269,6 +274,8 @@ fn parse_if(p: &mut Parser, depth: usize) -> Result<Opnd, Refusal>
     };
     parse_else(p, q, depth)
 }
+
+// Stays: that x is the next word ties it to the parser's place; without x the word would be read twice.
 
 // From the word x on, which is the next.
 #[cycle(statement)]

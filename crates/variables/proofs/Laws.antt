@@ -22,6 +22,9 @@ use Rattle.lexer.proofs.Texts.{same_eq}
 use Rattle.memory.specs.Layout.{script_most}
 use Rattle.variables.specs.Layout.{bindings_most, entries_most, variables_size, tag_room}
 use Rattle.variables.specs.Scopes.{Above, Sorted, over, env_of, join_rows}
+use Rattle.std.specs.Ordering.{nat_cmp}
+use Rattle.std.specs.Cmp.Lexicographic.{slice_cmp}
+use Rattle.lexer.proofs.Names.{precedes-is, same-is}
 use Rattle.variables.proofs.scopes.Order as Order
 use Rattle.variables.proofs.scopes.Order.{impossible, same_self, below_differ, below-same, stands}
 use Rattle.variables.proofs.scopes.Sorted.{above_trans, lookup-here, lookup-on}
@@ -53,7 +56,7 @@ use Rattle.variables.specs.Promises.{
   VariablesTurned,
   latest,
 }
-use Rattle.variables.specs.Promises.{VariablesBlank, Noted, Fills, Since, Notes, Full, VariablePasses, NotesRow, NotesBoth, VariableJoins}
+use Rattle.variables.specs.Promises.{VariablesBlank, Noted, Fills, Since, Notes, Full, NotesRow, NotesBoth, VariableJoins}
 use Rattle.variables.specs.declared.Rows.{Rows}
 use Rattle.variables.specs.declared.operands.Stored.{Stored}
 use Rattle.variables.proofs.Entries.{put-length, put_this, kept-all, kept_trans, kept-part, kept_put, made_kept, row_move, row_kept, row_split, row_first, cut}
@@ -67,34 +70,19 @@ retagged w t h =
     let b : length_in (w / tag_room * tag_room + t) ≡ length_in w = omega arith in
     record { name = λ s. rw (a, b); tag = omega arith }
 
-pub named-is : (s : List ℕ) {r : Bool} (w a k : ℕ) {x y : ℕ} → x ≡ start_in w → y ≡ length_in w → r ≡ same (name s x y) (name s a k) → r ≡ same (name_in s w) (name s a k)
+pub named-is : (s : List ℕ) (w : ℕ) {a k : ℕ} {x : Name} → a ≡ start_in w → k ≡ length_in w → x ≡ name s a k → x ≡ name_in s w
 unfolding name_in
-named-is s w a k p q h = rw (← p, ← q) h
+named-is s w p q h = rw (← p, ← q) h
 
-module _ (s : List ℕ) (v w : ℕ) {a b x y : ℕ} (p : a ≡ start_in v) (q : b ≡ length_in v) (p' : x ≡ start_in w) (q' : y ≡ length_in w)
-    {r : Bool} (e : r ≡ precedes (name s a b) (name s x y)) where
-  before-is : r ≡ precedes (name_in s v) (name_in s w)
-  unfolding name_in
-  before-is = rw (← p, ← q, ← p', ← q') e
-
-  pub order_less : r ≡ true → precedes (name_in s v) (name_in s w) ≡ true
-  order_less f = sym before-is ∙ f
-
-  module _ {t : Bool} (u : t ≡ same (name_in s v) (name s x y)) where
-    same-is : t ≡ same (name_in s v) (name_in s w)
-    unfolding name_in
-    same-is = rw (← p', ← q') u
-
-    pub order_equal : t ≡ true → name_in s v ≡ name_in s w
-    order_equal f = same_eq (name_in s v) (name_in s w) (sym same-is ∙ f)
-
-    pub order_greater : r ≡ false → t ≡ false → precedes (name_in s w) (name_in s v) ≡ true
-    order_greater f g = by (stands (name_in s v) (name_in s w))
-      where
-        by : Order.OrderStands (name_in s v) (name_in s w) → precedes (name_in s w) (name_in s v) ≡ true
-        by (Order.before c d h i) = impossible c (sym before-is ∙ f)
-        by (Order.equal c d h) = impossible h (sym same-is ∙ g)
-        by (Order.behind c d h i) = d
+pub order-is : (v w : Name) (r : Ordering) → r ≡ slice_cmp nat_cmp v w → Stands v w r
+order-is v w Less e = sym (precedes-is v w Less e)
+order-is v w Equal e = same_eq v w (sym (same-is v w Equal e))
+order-is v w Greater e = by (stands v w)
+  where
+    by : Order.OrderStands v w → precedes w v ≡ true
+    by (Order.before c d h i) = impossible c (sym (precedes-is v w Greater e))
+    by (Order.equal c d h) = impossible h (sym (same-is v w Greater e))
+    by (Order.behind c d h i) = d
 
 -- ---- bindings
 
@@ -156,18 +144,20 @@ module _ {s m : List ℕ} {n : ℕ} {k : Name} {i : ℕ} (g : Finding s m n k i)
   unfolding made
   find_none h = record { is = (let e : i ≡ 0 = omega arith in rw e at g.same) ∙ sym (lookup-env k (made s m 0 n)) }
 
-  pub find_hit : {r : Bool} {o : Stored} → 0 < i → r ≡ same (name_in s (get_or m (i - 1) 0)) k → r ≡ true → IsAt m (i - 1) o → VariableFinds s m n k (Some o)
+  pub find_hit : {x : Name} {r : Bool} {o : Stored} → 0 < i → x ≡ name_in s (get_or m (i - 1) 0) → r ≡ same x k → r ≡ true → IsAt m (i - 1) o → VariableFinds s m n k (Some o)
   unfolding entry
-  find_hit {r} {o} h e f u =
+  find_hit {x} {r} {o} h p q f u =
       let b = binding_in s (entry m (i - 1)) in
+      let e : r ≡ same b.0 k = rw p at q in
       record {
         is = rw (u.tag, u.bits) (sym (lookup-here k b (made s m 0 (i - 1)) (same_eq b.0 k (sym e ∙ f))) ∙ (ap (lookup k) (sym (made-last h)) ∙ (g.same ∙ sym (lookup-env k (made s m 0 n)))));
       }
 
-  pub find_more : {r : Bool} → 0 < i → r ≡ same (name_in s (get_or m (i - 1) 0)) k → r ≡ false → Finding s m n k (i - 1)
+  pub find_more : {x : Name} {r : Bool} → 0 < i → x ≡ name_in s (get_or m (i - 1) 0) → r ≡ same x k → r ≡ false → Finding s m n k (i - 1)
   unfolding entry
-  find_more h e f =
+  find_more {x} {r} h p q f =
       let b = binding_in s (entry m (i - 1)) in
+      let e : r ≡ same b.0 k = rw p at q in
       record { high = omega (arith, g.high); same = sym (lookup-on k b (made s m 0 (i - 1)) (sym e ∙ f)) ∙ (ap (lookup k) (sym (made-last h)) ∙ g.same) }
 
 -- ---- value
@@ -188,10 +178,8 @@ module _ (s m : List ℕ) (n w : ℕ) where
   value-either p (Some o) g = value_found g
   value-either p None g = value-nil p g
 
-  pub value_is : {a k : ℕ} {r : Option Stored} {o : Stored} (p : 1 < tag_room) → a ≡ start_in w → k ≡ length_in w → VariableFinds s m n (name s a k) r
-      → o ≡ unwrap_or r (nil-stored p) → Values s m n w o
-  unfolding name_in
-  value_is {r = r} p e f g h = rw h (value-either p r (rw (e, f) at g))
+  pub value_is : {x : Name} {r : Option Stored} {o : Stored} (p : 1 < tag_room) → x ≡ name_in s w → VariableFinds s m n x r → o ≡ unwrap_or r (nil-stored p) → Values s m n w o
+  value_is {r = r} p e g h = rw h (value-either p r (rw e at g))
 
 -- ---- names of a row
 
@@ -247,18 +235,18 @@ module _ {s m : List ℕ} {lo n w a b : ℕ} (g : Seeking s m lo n w a b) where
   pub seek_none : b ≤ a → Belongs s m lo n w a
   seek_none h = let e : b ≡ a = omega (arith, g.low) in record { inside = omega (arith, g.high); below = rw e at g.below; above = g.above }
 
-  module _ {j : ℕ} (h : (a ≤ j) × (j < b)) {r : Ordering} (e : Stands (name_in s w) (name_in s (get_or m (lo + j) 0)) r) where
+  module _ {j : ℕ} (h : (a ≤ j) × (j < b)) {x : Name} {r : Ordering} (p : x ≡ name_in s w) (q : Stands x (name_in s (get_or m (lo + j) 0)) r) where
     pub seek_down : Sorted (row s m lo n) → r ≡ Less → Seeking s m lo n w a j
     seek_down t f = record {
       low = h.0;
       high = omega (arith, g.high);
-      below = above-row s m w (lo + j) (n - j) (sorted_from s m lo n j (omega (arith, g.high)) t) (omega (arith, g.high)) (rw f at e);
+      below = above-row s m w (lo + j) (n - j) (sorted_from s m lo n j (omega (arith, g.high)) t) (omega (arith, g.high)) (rw p at (rw f at q));
       above = g.above;
     }
 
     pub seek_at : r ≡ Equal → VariableStands s m lo n w j
     unfolding entry
-    seek_at f = record { inside = omega (arith, g.high); is = sym (rw f at e) }
+    seek_at f = record { inside = omega (arith, g.high); is = sym (rw p at (rw f at q)) }
 
     pub seek_up : r ≡ Greater → Seeking s m lo n w (j + 1) b
     unfolding entry
@@ -266,7 +254,7 @@ module _ {s m : List ℕ} {lo n w a b : ℕ} (g : Seeking s m lo n w a b) where
       low = omega arith;
       high = g.high;
       below = g.below;
-      above = λ z. let d : (j + 1) - 1 ≡ j = omega arith in rw d (rw f at e);
+      above = λ z. let d : (j + 1) - 1 ≡ j = omega arith in rw d (rw p at (rw f at q));
     }
 
 -- ---- lift: both columns are copied up by one
@@ -631,7 +619,7 @@ module _ {s m : List ℕ} {n p : ℕ} {g : List ℕ} (f : Noted s m n p 1 g) (h 
   value_none b z = value-nil s m n (entry m p).word b (find_none noted-latest.finding (omega arith))
 
   pub value-noted : {o : Stored} → (i ≡ 0 → ⊥) → IsAt m (i - 1) o → Values s m n (entry m p).word o
-  value-noted z u = value_found s m n (entry m p).word (find_hit noted-latest.finding (omega arith) refl (noted-latest.same (omega arith)) u)
+  value-noted z u = value_found s m n (entry m p).word (find_hit noted-latest.finding (omega arith) refl refl (noted-latest.same (omega arith)) u)
 
 pub value_looked : {s : List ℕ} {n : ℕ} {o : Stored} (m : List ℕ) (p : ℕ) → Values s m n (get_or m p 0) o → Values s m n (entry m p).word o
 unfolding entry
@@ -649,11 +637,14 @@ module _ (s m : List ℕ) (lo n hi k : ℕ) (sorted : Sorted (row s m lo n) × S
   turn_left-only p q = (omega arith, rw q tt)
 
   module _ (p : n ≡ 0 → ⊥) (q : k ≡ 0 → ⊥) where
-    pub turn_both : (r : Ordering) → Stands (name_in s (get_or m lo 0)) (name_in s (get_or m hi 0)) r → VariablesTurned s m lo n hi k (Some r)
+    pub turn_both : {x : Name} (r : Ordering) → x ≡ name_in s (get_or m lo 0) → Stands x (name_in s (get_or m hi 0)) r → VariablesTurned s m lo n hi k (Some r)
     unfolding entry
-    turn_both Less e = (omega arith, above-row s m (get_or m lo 0) hi k sorted.1 (omega arith) e)
-    turn_both Equal e = (omega arith, (omega arith, e))
-    turn_both Greater e = (omega arith, above-row s m (get_or m hi 0) lo n sorted.0 (omega arith) e)
+    turn_both r z e = by r (rw z at e)
+      where
+        by : (r : Ordering) → Stands (name_in s (get_or m lo 0)) (name_in s (get_or m hi 0)) r → VariablesTurned s m lo n hi k (Some r)
+        by Less e = (omega arith, above-row s m (get_or m lo 0) hi k sorted.1 (omega arith) e)
+        by Equal e = (omega arith, (omega arith, e))
+        by Greater e = (omega arith, above-row s m (get_or m hi 0) lo n sorted.0 (omega arith) e)
 
 -- ---- next_join
 

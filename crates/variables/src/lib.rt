@@ -54,6 +54,7 @@ const LENGTH_ROOM: usize = 2 * memory::SCRIPT_MOST;
 const TAG_ROOM: usize = 16;
 
 // A row set aside: its entries begin at lo, their names rising.
+// Stays: bindings are written while a row is known, so it is no slice of their memory.
 #[derive(Clone, Copy)]
 pub struct Row {
     pub lo: usize,
@@ -73,6 +74,7 @@ pub struct Joint {
     pub word: usize,
     pub left: Stored,
     pub right: Stored,
+    // Stays: numbers and no truths, since the rows go on by them.
     pub lefts: usize,
     pub rights: usize,
 }
@@ -121,7 +123,7 @@ fn retag(w: usize, t: usize) -> usize
 }
 
 // ---- bindings
-// Stays: each writer's clause names the size of scratch memory: a struct over the `&mut` would have to name the loan in each contract besides.
+// Stays: each writer's clause names the size of scratch memory: a struct over the `&mut` would promise in each contract that it keeps its loan, a clause for a clause.
 
 // Entry i is set.
 fn put(scratch: &mut [usize], i: usize, w: usize, x: usize)
@@ -133,6 +135,7 @@ fn put(scratch: &mut [usize], i: usize, w: usize, x: usize)
 }
 
 // The name of k bytes at a is bound to o, as binding n.
+// Stays: a name's place and its length, as they go into one word: `Name` is of the program's tables, which this crate doesn't need.
 pub fn bind(scratch: &mut [usize], n: usize, a: usize, k: usize, o: Stored)
     requires variables_size_in_bounds { (variables_size ≤ length scratch.old) × (n < bindings_most) }
     requires a_le_script_most { (a ≤ script_most) × (k ≤ script_most) }
@@ -225,26 +228,18 @@ fn pass(g: &[u16], row: Row, u: usize) -> usize
 impl Scope<'_> {
     // ---- names
 
-    // Whether the name of w is that of k bytes at a.
-    fn named(&self, w: usize, a: usize, k: usize) -> bool
-        ensures { result ≡ same_of (name_in self.now.script.now w) (name self.now.script.now a k) }
+    // The name of w.
+    fn name(&self, w: usize) -> &[u8]
+        ensures { result.now ≡ name_in self.now.script.now w }
     {
-        lexer::same_name(self.script, start(w), len(w), a, k)
+        lexer::bytes_at(self.script, start(w), len(w))
     }
 
-    // How the names of v and w stand to each other.
-    fn order(&self, v: usize, w: usize) -> Ordering
-        ensures { Stands (name_in self.now.script.now v) (name_in self.now.script.now w) result }
+    // How the name v stands to that of w: byte by byte, since the slices' own order looks at groups of bytes first, and names mostly differ in the first two.
+    fn order(&self, v: &[u8], w: usize) -> Ordering
+        ensures { Stands v.now (name_in self.now.script.now w) result }
     {
-        let a = start(w);
-        let k = len(w);
-        if lexer::precedes_name(self.script, start(v), len(v), a, k) {
-            Ordering::Less
-        } else if self.named(v, a, k) {
-            Ordering::Equal
-        } else {
-            Ordering::Greater
-        }
+        v.iter().cmp(self.name(w).iter())
     }
 
     // ---- bindings
@@ -259,13 +254,13 @@ impl Scope<'_> {
         }
     }
 
-    // The latest of n bindings that has the name of k bytes at a.
-    pub fn find(&self, n: usize, a: usize, k: usize) -> Option<Stored>
+    // The latest of n bindings that has the name.
+    pub fn find(&self, n: usize, name: &[u8]) -> Option<Stored>
         requires { n ≤ entries_most }
-        ensures { VariableFinds self.now.script.now self.now.scratch.now n (name self.now.script.now a k) result }
+        ensures { VariableFinds self.now.script.now self.now.scratch.now n name.now result }
     {
         for i in (0..n).rev() {
-            if self.named(self.scratch[i], a, k) {
+            if lexer::same_bytes(self.name(self.scratch[i]), name) {
                 return Some(self.operand(i));
             }
         }
@@ -277,7 +272,7 @@ impl Scope<'_> {
         requires { n ≤ entries_most }
         ensures { Values self.now.script.now self.now.scratch.now n w result }
     {
-        self.find(n, start(w), len(w)).unwrap_or(Stored::NIL)
+        self.find(n, self.name(w)).unwrap_or(Stored::NIL)
     }
 
     // ---- rows
@@ -288,11 +283,12 @@ impl Scope<'_> {
         requires lies { Lies self.now.script.now self.now.scratch.now row }
         ensures { Sought self.now.script.now self.now.scratch.now row.lo row.len w result }
     {
+        let name = self.name(w);
         let mut a = 0;
         let mut b = row.len;
         while a < b {
             let j = probe(a, b, row.len);
-            match self.order(w, self.scratch[row.lo + j]) {
+            match self.order(name, self.scratch[row.lo + j]) {
                 Ordering::Less => {
                     b = j;
                 }
@@ -380,7 +376,10 @@ impl Scope<'_> {
             (0, 0) => None,
             (0, _) => Some(Ordering::Greater),
             (_, 0) => Some(Ordering::Less),
-            _ => Some(self.order(self.scratch[rows.left.lo], self.scratch[rows.right.lo])),
+            _ => {
+                let first = self.name(self.scratch[rows.left.lo]);
+                Some(self.order(first, self.scratch[rows.right.lo]))
+            }
         }
     }
 

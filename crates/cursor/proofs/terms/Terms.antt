@@ -5,7 +5,6 @@ use mathlib.Core.Path.{◌≡◌, refl, sym, ap, ◌∙◌}
 use mathlib.Core.List.{List, map}
 use Prim.Native.Nat.{ℕ, ◌+◌, ◌≤◌}
 use native.Mathlib.Omega.{arith}
-use lib.ListN.{length}
 use Rattle.ids.specs.declared.ClassId.{ClassId}
 use Rattle.ids.specs.declared.FunId.{FunId}
 use Rattle.kinds.specs.declared.Kind.{Kind}
@@ -29,8 +28,6 @@ use Rattle.std.specs.declared.option.Option.{Option as Maybe}
 use Rattle.lookups.specs.Look.{fun_found, constructor_found, Constructs, LookKnown}
 use Rattle.phis.specs.Joining.{PhisSets, PhisFinds, var_of}
 use Rattle.memory.specs.Layout.{operands_most}
-use Rattle.variables.specs.Layout.{entries_most}
-use Rattle.cursor.specs.Layout.{stack_at}
 use Rattle.cursor.specs.Cursor.{Cursor, parser_of, waiting, bind_cur, In, Open}
 use Rattle.cursor.specs.Steps.{assigns, means}
 use Rattle.cursor.specs.Promises.{Out, done, CursorDid, CursorAdds, Assigns, parsed_of}
@@ -214,23 +211,23 @@ send-stopped : (L : P.Limits) (s : List ℕ) (E : ℕ → Reads P.Opnd) (v : P.O
     → refused 8 ≡ send_by L s E v n l (some c) r
 send-stopped L s E v n l c r e = rw e
 
-module _ (L : P.Limits) (s : List ℕ) (m w : List ℕ) (c : Cursor) (v : Opnd) (n : Name) (k : ℕ) {o : Maybe ClassId} (t : owner_in o ≡ constant_of class_in (opnd_of v)) where
-  pub send_dynamic : {m1 : List ℕ} {u : Out P.Opnd} → In s m w c → o ≡ Maybe.None
+module _ (L : P.Limits) (s : List ℕ) (m w : List ℕ) (c : Cursor) (v : Opnd) (n : Name) (k : ℕ) where
+  pub send_dynamic : {m1 : List ℕ} {u : Out P.Opnd} → In s m w c → none ≡ constant_of class_in (opnd_of v)
       → ((z : List ℕ) → CursorAdds z w (push L (P.Send (callee_in z (Dynamic v n)) (waiting w c.args k))) m c m1 u)
       → (E : ℕ → Reads P.Opnd) → CursorDid (send L s E (opnd_of v) (name_in s n) (waiting w c.args k)) 0 s m w c m1 w u
   send_dynamic h e a E =
-      ends_as (step-none c w) (omega arith) (added_did (a s) h) (send-is L s E (opnd_of v) (name_in s n) (waiting w c.args k) (parser_of s m w c) (sym (ap owner_in e) ∙ t))
+      ends_as (step-none c w) (omega arith) (added_did (a s) h) (send-is L s E (opnd_of v) (name_in s n) (waiting w c.args k) (parser_of s m w c) e)
 
-  module _ {x : ClassId} (e : o ≡ Maybe.Some x) {b : Bool} (q : b ≡ same (name s n.start n.len) (bytes "new")) where
+  module _ {x : ClassId} (e : some x.0 ≡ constant_of class_in (opnd_of v)) {b : Bool} (q : b ≡ same (name s n.start n.len) (bytes "new")) where
     pub send-other : {m' : List ℕ} → b ≡ false → (E : ℕ → Reads P.Opnd) → CursorDid (send L s E (opnd_of v) (name_in s n) (waiting w c.args k)) 0 s m w c m' w (parsed_of (Refused 8))
     send-other f E =
         refuses
         (send-stopped L s E (opnd_of v) (name_in s n) (waiting w c.args k) x.0 (parser_of s m w c) (sym q ∙ f)
-        ∙ send-is L s E (opnd_of v) (name_in s n) (waiting w c.args k) (parser_of s m w c) (sym (ap owner_in e) ∙ t))
+        ∙ send-is L s E (opnd_of v) (name_in s n) (waiting w c.args k) (parser_of s m w c) e)
 
     pub send-new : {m1 w1 : List ℕ} {u : Out P.Opnd} → b ≡ true → ((E : ℕ → Reads P.Opnd) → CursorDid (create_instance L s E x.0 (waiting w c.args k)) 0 s m w c m1 w1 u)
         → (E : ℕ → Reads P.Opnd) → CursorDid (send L s E (opnd_of v) (name_in s n) (waiting w c.args k)) 0 s m w c m1 w1 u
     send-new f a E =
         ends_as (step-none c w) (omega arith) (a E)
         (send-made L s E (opnd_of v) (name_in s n) (waiting w c.args k) x.0 (parser_of s m w c) (sym q ∙ f)
-        ∙ send-is L s E (opnd_of v) (name_in s n) (waiting w c.args k) (parser_of s m w c) (sym (ap owner_in e) ∙ t))
+        ∙ send-is L s E (opnd_of v) (name_in s n) (waiting w c.args k) (parser_of s m w c) e)

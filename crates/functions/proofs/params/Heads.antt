@@ -1,21 +1,18 @@
 -- One turn of the reader of names, over a parser. Assumes nothing.
 use mathlib.Core.Bool.{Bool, true, false}
-use mathlib.Core.Path.{◌≡◌, refl, sym, ap, ◌∙◌}
-use mathlib.Core.List.{List}
-use Prim.Native.Nat.{ℕ}
+use mathlib.Core.Path.{◌≡◌, ap, ◌∙◌}
 use Rattle.std.specs.Prelude.{Result, Ok, Err}
 use Rattle.refusals.specs.declared.Refusal.{Refusal}
 use Rattle.lexer.specs.declared.Token.TheVariants as T
 use Rattle.lexer.specs.declared.Word.{Word}
 use Rattle.program.specs.declared.Name.{Name}
-use Rattle.program.specs.declared.writer.Draft.{Draft}
 use Rattle.cursor.specs.Promises.{Sees, Idents, CursorMatches}
 use Rattle.cursor.specs.Parsers.{cursor_of, placed, ident_in, matched_in, ParserKept, ParserIdents, ParserMatches}
 use Rattle.cursor.specs.declared.Parser.{Parser}
 use Rattle.cursor.proofs.Kept.{kept_trans, kept_placed, after_none, after_kept, sees_of, idents_of, matches_of}
-use Rattle.functions.specs.params.Promises.{Head, PutsName}
+use Rattle.functions.specs.params.Promises.{PutsName}
 use Rattle.functions.specs.params.Parsers.{ParserPutsName, ParserParams}
-use Rattle.functions.proofs.params.Laws.{Naming, naming_start, naming_none, naming_close, naming_bad, naming_stop, naming_last, naming_on}
+use Rattle.functions.proofs.params.Laws.{Naming, naming_none, naming_close, naming_bad, naming_stop, naming_last, naming_on}
 
 -- what stands at each turn
 pub record NamesStand (p₀ p : Parser) : Type 0 where

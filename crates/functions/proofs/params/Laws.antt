@@ -5,8 +5,7 @@ use mathlib.Core.Option.{some}
 use Prim.Native.Nat.{ℕ, zero, suc, ◌+◌, ◌-◌, ◌*◌, ◌≤◌, ◌<◌}
 use native.Mathlib.Numerals.{add-one}
 use native.Mathlib.Omega.{arith}
-use lib.ListN.{length, get_or, set, length-set}
-use lib.Seq.{get_or-set_same, get_or-set_other}
+use lib.ListN.{length, get_or}
 use Rattle.ids.specs.declared.BlockId.{BlockId}
 use Rattle.ids.specs.declared.ClassId.{ClassId}
 use Rattle.ids.specs.declared.FunId.{FunId}
@@ -16,7 +15,7 @@ use Rattle.rules.specs.Program as P
 use Rattle.rules.specs.Reading.{Parser, with_env, with_self, bind, push, parse_param, turns, push_params, push_self}
 use Rattle.variables.specs.Scopes.{env_of}
 use Rattle.variables.specs.Memory.{entry, vars}
-use Rattle.variables.proofs.Entries.{made_move, kept-all, kept_trans, kept-part}
+use Rattle.variables.proofs.Entries.{made_move, kept_trans, kept-part}
 use Rattle.phis.specs.Joining.{PhisSets}
 use Rattle.lexer.specs.declared.Token.TheVariants as T
 use Rattle.lexer.specs.declared.Word.{Word}
@@ -27,9 +26,7 @@ use Rattle.program.specs.declared.bounds.Limits.{Limits}
 use Rattle.program.specs.declared.Name.{Name}
 use Rattle.program.specs.declared.Op.TheVariants as Op
 use Rattle.program.specs.declared.Opnd.{Opnd}
-use Rattle.program.specs.declared.Opnd.TheVariants.{Insn}
 use Rattle.std.specs.declared.option.Option.{Option as Maybe}
-use Rattle.std.specs.declared.option.Option.TheVariants as Maybe
 use Rattle.std.specs.Prelude.{Result, Ok, Err}
 use Rattle.refusals.specs.declared.Refusal.{Refusal}
 use Rattle.refusals.specs.Refusals.{number_of}
@@ -46,11 +43,11 @@ use Rattle.cursor.specs.Parsers.{AddsKept}
 use Rattle.cursor.specs.declared.Parser.{Parser as Reader}
 use Rattle.program.specs.Drafts.{DraftKept}
 use Rattle.memory.specs.Layout.{operands_most}
-use Rattle.variables.specs.Layout.{bindings_most, entries_most}
+use Rattle.variables.specs.Layout.{entries_most}
 use Rattle.cursor.specs.Layout.{stack_at, scratch_size}
 use Rattle.functions.specs.outcomes.OpenedFun.{OpenedFun}
 use Rattle.functions.specs.params.Names.{name_at, names_from, names_in, Lie, param_of}
-use Rattle.functions.specs.params.Promises.{receive_cur, enter_cur, PutsName, Head, Params, ParamsRoom, Bound, PushesParam, ParamsFilled, PushesParams}
+use Rattle.functions.specs.params.Promises.{receive_cur, enter_cur, PutsName, Head, Params, Bound, PushesParam, ParamsFilled, PushesParams}
 use Rattle.functions.specs.params.Promises.{PushesSelf, Funs}
 
 -- only the program changes, and parts of the parser that are no memory

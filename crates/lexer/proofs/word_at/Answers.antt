@@ -2,6 +2,7 @@
 use Rattle.std.proofs.Common.{◌≡◌, ◌+◌, drop, sym, ◌∙◌, rules, arith}
 use Rattle.rules.specs.Words.{in_word, digit, run}
 use Rattle.lexer.proofs.Lexes.{word_end, word-letter, word-digit, word_over, word-sign, word_none}
+use Rattle.lexer.proofs.Tried.{failed, there, missing}
 use Rattle.lexer.proofs.word_at.Goals as goal
 
 pub returns-in_default : goal.returns-in_default
@@ -23,21 +24,22 @@ overflow_sub-len-then-is_ascii_digit c =
     let ends : c.behind-next-then-is_ascii_digit.result ≡ c.skip_blank-start.result + run digit (drop c.skip_blank-start.result c.args.script.now) = search rules in
     omega arith
 
-pub returns-in-Some-literal : goal.returns-in-Some-literal
-returns-in-Some-literal c =
+pub returns-then-is_ascii_digit : goal.returns-then-is_ascii_digit
+returns-then-is_ascii_digit c =
     let ends : c.behind-next-then-is_ascii_digit.result ≡ c.skip_blank-start.result + run digit (drop c.skip_blank-start.result c.args.script.now) = search rules in
     word-digit _ _ _ c.skip_blank-start.ensures c.in-Some.ensures.lookup.3.0 (c.in-Some.ensures.lookup.3.1 0)
     (sym c.is_ascii_alphabetic.ensures.value ∙ c.if-is_ascii_alphabetic.false)
     (sym c.is_ascii_digit.ensures.value ∙ c.if-is_ascii_digit.true) ends c.bytes_at-then-is_ascii_digit.ensures c.literal.ensures
-    c.in-Some-literal.is
+    (there _ _ c.in_ok-value.ensures.value)
 
-pub returns-in-None : goal.returns-in-None
-returns-in-None c =
+pub returns-in_err-value : goal.returns-in_err-value
+returns-in_err-value c =
     let ends : c.behind-next-then-is_ascii_digit.result ≡ c.skip_blank-start.result + run digit (drop c.skip_blank-start.result c.args.script.now) = search rules in
-    word_over _ _ _ c.skip_blank-start.ensures c.in-Some.ensures.lookup.3.0 (c.in-Some.ensures.lookup.3.1 0)
+    rw (failed _ c.from_residual.ensures.1, (missing _ c.in_err-value.ensures.value).1)
+    (word_over _ _ _ c.skip_blank-start.ensures c.in-Some.ensures.lookup.3.0 (c.in-Some.ensures.lookup.3.1 0)
     (sym c.is_ascii_alphabetic.ensures.value ∙ c.if-is_ascii_alphabetic.false)
     (sym c.is_ascii_digit.ensures.value ∙ c.if-is_ascii_digit.true) ends c.bytes_at-then-is_ascii_digit.ensures c.literal.ensures
-    c.in-None.is
+    (missing _ c.in_err-value.ensures.value).0)
 
 pub returns-then-is_sign : goal.returns-then-is_sign
 returns-then-is_sign c =

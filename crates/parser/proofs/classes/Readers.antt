@@ -14,7 +14,6 @@ use Rattle.rules.specs.Actions.{Turn, loop}
 use Rattle.rules.specs.Program as P
 use Rattle.rules.specs.Program.{method_named}
 use Rattle.rules.specs.Reading.{Reads, turns, parse_method, parse_attr, parse_class_member, parse_class}
-use Rattle.lexer.specs.declared.Token.{Token}
 use Rattle.lexer.specs.declared.Token.TheVariants as K
 use Rattle.lexer.specs.declared.Word.{Word}
 use Rattle.lookups.specs.Look.{fun_found, Declares, LookKnown}
@@ -28,17 +27,17 @@ use Rattle.program.specs.declared.writer.Draft.{Draft}
 use Rattle.cursor.specs.Cursor.{Cursor, count_cur}
 use Rattle.cursor.specs.Promises.{Sees, Idents, moved_of}
 use Rattle.cursor.specs.outcomes.Moved.{Moved}
-use Rattle.cursor.specs.Parsers.{cursor_of, placed, moved_in, ident_in, ParserKept, ParserIdents, ParserExpects}
+use Rattle.cursor.specs.Parsers.{cursor_of, moved_in, ident_in, ParserKept, ParserIdents, ParserExpects}
+use Rattle.cursor.specs.Room.{ReadingRoom}
 use Rattle.cursor.specs.declared.Parser.{Parser}
-use Rattle.cursor.proofs.Kept.{kept_none, kept_trans, kept_placed, After, after_none, after_placed, after_kept, idents_of}
+use Rattle.cursor.proofs.Kept.{put, after_same, kept_none, kept_trans, kept_placed, After, after_none, after_placed, after_kept, idents_of}
 use Rattle.functions.specs.params.Parsers.{fun_in}
-use Rattle.functions.specs.Bodies.{Rests, Takes}
+use Rattle.functions.specs.Bodies.{Takes}
 use Rattle.functions.proofs.Readers as F
 use Rattle.functions.specs.Parsers.{Resting, through, ParserTakes, ParserTaken}
 use Rattle.functions.proofs.Readers.{takes_end, takes_of}
 use Rattle.parser.specs.classes.Turning.{Turns, turned_in, ParserTurns}
 use Rattle.parser.proofs.classes.Loops.{Going, going_start, going_no, going_ends, going_less, going_on}
-use Rattle.parser.proofs.classes.Loops as T
 use Rattle.parser.proofs.classes.Members as M
 use Rattle.parser.proofs.classes.Classes as C
 
@@ -97,7 +96,7 @@ module _ (p : Parser) (k : ClassId) (g : Resting p) {p1 : Parser} {x : Result (U
       attr_class = M.attr_class p.program.limits k g a.expects (ap (moved_in p1) f) colon (ap (ident_in p2) i)
 
       module _ {d : Draft} (h : DraftKept p2.program d) (cs : d.counts ≡ p2.program.counts) where
-        a3 : After p (record p2 { program = d }) d.words.now p.scratch.now
+        a3 : {j : ReadingRoom p2.script.now p2.scratch.now} → After p (record p2 { program = d; room = j }) d.words.now p.scratch.now
         a3 =
             record {
               kept = let k = a2.kept in record { script = k.script; limits = h.limits ∙ k.limits; words_loan = h.loan ∙ k.words_loan; scratch_loan = k.scratch_loan };
@@ -113,8 +112,9 @@ module _ (p : Parser) (k : ClassId) (g : Resting p) {p1 : Parser} {x : Result (U
             (M.attr_yes p.program.limits k g a.expects (ap (moved_in p1) f) colon (ap (ident_in p2) i) e refl)
         ended (Err z) e = M.attr_no3 p.program.limits k g a.expects (ap (moved_in p1) f) colon (ap (ident_in p2) i) e refl
 
-        pub attr_end : (y : Result (Unit {0}) Refusal) → Declares p2.program.limits k.0 n p2.script.now p2.program.words.now p2.program.counts d.words.now y
-            → Attr (record p2 { program = d }) y
+        pub attr_end : {j : ReadingRoom p2.script.now p2.scratch.now} (y : Result (Unit {0}) Refusal)
+            → Declares p2.program.limits k.0 n p2.script.now p2.program.words.now p2.program.counts d.words.now y
+            → Attr (record p2 { program = d; room = j }) y
         attr_end y e = takes_end a3 (ended y (rw (a2.kept.limits, a2.kept.script, a2.words) at e))
 
 -- ---- parse_member
@@ -135,18 +135,15 @@ module _ (p : Parser) (k : ClassId) (g : Resting p) {r : Result Word Refusal} (v
   pub member_none : {e : Refusal} → r ≡ Err e → Member p (Err e)
   member_none f = record { kept = kept_none p; turns = M.member_none p.program.limits k g v f }
 
-  module _ {x : Word} (f : r ≡ Ok x) where
-    q : Parser
-    q = placed x.next p
-
-    pub member_over : x.token ≡ K.EndOfText → Member (placed x.next p) (Ok false)
+  module _ {x : Word} {h : ReadingRoom p.script.now p.scratch.now} (f : r ≡ Ok x) where
+    pub member_over : x.token ≡ K.EndOfText → Member (put p x.next h) (Ok false)
     member_over z = record { kept = kept_placed refl; turns = M.member_over p.program.limits k g v f refl z }
 
-    pub member_ends : x.token ≡ K.End → Member (placed x.next p) (Ok false)
+    pub member_ends : x.token ≡ K.End → Member (put p x.next h) (Ok false)
     member_ends z = record { kept = kept_placed refl; turns = M.member_ends p.program.limits k g v f refl (λ e. end_apart (sym z ∙ e)) z }
 
     module _ (z : x.token ≡ K.Def) {p1 : Parser} (y : Result (Unit {0}) Refusal)
-        (b : ParserTakes (λ L s. parse_method L s k.0) 1 (placed x.next p) p1 (through p1 y)) where
+        (b : ParserTakes (λ L s. parse_method L s k.0) 1 (put p x.next h) p1 (through p1 y)) where
       n0 : x.token ≡ K.EndOfText → ⊥
       n0 e = def_apart.0 (sym z ∙ e)
 
@@ -160,7 +157,7 @@ module _ (p : Parser) (k : ClassId) (g : Resting p) {r : Result Word Refusal} (v
       member_def i = record { kept = kept_trans (kept_placed refl) b.kept; turns = M.member_def p.program.limits k g v f refl n0 n5 z {y = moved_in p1 y} b.takes (ap (moved_in p1) i) }
 
     module _ (z : x.token ≡ K.AttrAccessor) {p1 : Parser} (y : Result (Unit {0}) Refusal)
-        (b : ParserTakes (λ L s. parse_attr L s k.0) 1 (placed x.next p) p1 (through p1 y)) where
+        (b : ParserTakes (λ L s. parse_attr L s k.0) 1 (put p x.next h) p1 (through p1 y)) where
       m0 : x.token ≡ K.EndOfText → ⊥
       m0 e = attr_apart.0 (sym z ∙ e)
 
@@ -177,7 +174,7 @@ module _ (p : Parser) (k : ClassId) (g : Resting p) {r : Result Word Refusal} (v
       member_attr i = record { kept = kept_trans (kept_placed refl) b.kept; turns = M.member_attr p.program.limits k g v f refl m0 m5 m3 z {y = moved_in p1 y} b.takes (ap (moved_in p1) i) }
 
     pub member_other : (x.token ≡ K.EndOfText → ⊥) → (x.token ≡ K.End → ⊥) → (x.token ≡ K.Def → ⊥) → (x.token ≡ K.AttrAccessor → ⊥)
-        → Member (placed x.next p) (Err Q.UnexpectedWord)
+        → Member (put p x.next h) (Err Q.UnexpectedWord)
     member_other n0 n5 n3 n9 = record { kept = kept_placed refl; turns = M.member_other p.program.limits k g v f refl n0 n5 n3 n9 }
 
 -- ---- loops over things
@@ -236,23 +233,18 @@ module _ (p : Parser) (g : Resting p) {p1 : Parser} {u : Result Name Refusal} (a
         p.program.words.now p1.program.counts d.words.now (View.class_of d.counts x)
     opened = rw ((F.c1 p g a).kept.limits, (F.c1 p g a).words) at b
 
-    kept2 : ParserKept p (record p1 { program = d })
+    kept2 : {j : ReadingRoom p1.script.now p1.scratch.now} → ParserKept p (record p1 { program = d; room = j })
     kept2 = let k = (F.c1 p g a).kept in record { script = k.script; limits = h.limits ∙ k.limits; words_loan = h.loan ∙ k.words_loan; scratch_loan = k.scratch_loan }
 
-    b2 : After p (record p1 { program = d }) d.words.now p.scratch.now
+    b2 : {j : ReadingRoom p1.script.now p1.scratch.now} → After p (record p1 { program = d; room = j }) d.words.now p.scratch.now
     b2 = record { kept = kept2; words = refl; scratch = (F.c1 p g a).scratch }
 
-    pub class_no2 : {e : Refusal} → x ≡ Err e → Class (record p1 { program = d }) (Err e)
+    pub class_no2 : {j : ReadingRoom p1.script.now p1.scratch.now} {e : Refusal} → x ≡ Err e → Class (record p1 { program = d; room = j }) (Err e)
     class_no2 i = takes_end b2 (C.class_no2 p.program.limits g a.idents (ap (ident_in p1) f) d.counts x opened i)
 
     module _ {k : ClassId} (i : x ≡ Ok k) where
-      b3 : After p (record p1 { program = d; class = Some k }) d.words.now p.scratch.now
-      b3 =
-          record {
-            kept = record { script = kept2.script; limits = kept2.limits; words_loan = kept2.words_loan; scratch_loan = kept2.scratch_loan };
-            words = refl;
-            scratch = (F.c1 p g a).scratch;
-          }
+      b3 : {j : ReadingRoom p1.script.now p1.scratch.now} → After p (record p1 { program = d; class = Some k; room = j }) d.words.now p.scratch.now
+      b3 = after_same (b2 {j = p1.room}) refl refl refl
 
       pub class_rests : Resting (record p1 { program = d; class = Some k })
       class_rests = rw ((F.c1 p g a).kept.script, (F.c1 p g a).scratch) (C.class_rests p.program.limits g a.idents (ap (ident_in p1) f) d.counts x opened i refl refl)
@@ -260,8 +252,8 @@ module _ (p : Parser) (g : Resting p) {p1 : Parser} {u : Result Name Refusal} (a
       pub class-there : k.0 < d.counts.classes
       class-there = C.class-there p.program.limits g a.idents (ap (ident_in p1) f) d.counts x opened i refl refl
 
-      module _ {p2 : Parser} (y : Result (Unit {0}) Refusal)
-          (t : ParserTakes (λ L s. loop (parse_class_member L s k.0) (turns s) tt) 0 (record p1 { program = d; class = Some k }) p2 (through p2 y)) where
+      module _ {p2 : Parser} (y : Result (Unit {0}) Refusal) {j : ReadingRoom p1.script.now p1.scratch.now}
+          (t : ParserTakes (λ L s. loop (parse_class_member L s k.0) (turns s) tt) 0 (record p1 { program = d; class = Some k; room = j }) p2 (through p2 y)) where
         members : Takes (loop (parse_class_member (limits_of p.program.limits) p.script.now k.0) (turns p.script.now) tt) 0 p.script.now d.words.now p.scratch.now
             (cursor_of (record p1 { program = d; class = Some k })) p2.program.words.now p2.scratch.now (moved_of (moved_in p2 y))
         members = takes_of b3 t
@@ -281,15 +273,10 @@ module _ (p : Parser) (g : Resting p) {p1 : Parser} {u : Result Name Refusal} (a
               takes_end b4
               (C.class_twice p.program.limits g a.idents (ap (ident_in p1) f) d.counts x opened i refl refl {y = moved_in p2 y} members (ap (moved_in p2) z) o known s)
 
-          b5 : After p (record p2 { class = None }) p2.program.words.now p2.scratch.now
-          b5 =
-              record {
-                kept = let k = b4.kept in record { script = k.script; limits = k.limits; words_loan = k.words_loan; scratch_loan = k.scratch_loan };
-                words = refl;
-                scratch = refl;
-              }
+          b5 : {i : ReadingRoom p2.script.now p2.scratch.now} → After p (record p2 { class = None; room = i }) p2.program.words.now p2.scratch.now
+          b5 = after_same b4 refl refl refl
 
-          pub class_single : is_some o ≡ false → p.class ≡ None → Class (record p2 { class = None }) (Ok tt)
+          pub class_single : {i : ReadingRoom p2.script.now p2.scratch.now} → is_some o ≡ false → p.class ≡ None → Class (record p2 { class = None; room = i }) (Ok tt)
           class_single s outside =
               takes_end b5
               (C.class_single p.program.limits g a.idents (ap (ident_in p1) f) d.counts x opened i refl refl {y = moved_in p2 y} members (ap (moved_in p2) z) o known s

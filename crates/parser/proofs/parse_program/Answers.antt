@@ -1,7 +1,7 @@
 -- `parser::parse_program` meets its contract. Assumes nothing.
 use mathlib.Core.Path.{ap, ◌∙◌}
 use Rattle.std.specs.Prelude.{Ok}
-use Rattle.std.proofs.lemmas.Result.{err_from_is_err_and}
+use Rattle.lexer.proofs.Tried.{failed}
 use Rattle.parser.proofs.classes.Readers.{stands_start, stands_rests, stands_outside, stands_no, stands_end, stands_less, stands_on}
 use Rattle.parser.proofs.parse_program.Goals as goal
 
@@ -16,8 +16,7 @@ parse_top-requires-clause-class_value c = stands_outside c.loop.invariant c.requ
 
 pub returns-in_err-parse_top : goal.returns-in_err-parse_top
 returns-in_err-parse_top c =
-    let p = err_from_is_err_and c.from_residual.result c.from_residual.ensures.1 in
-    rw (p.1, p.2) (stands_no c.loop.invariant _ c.parse_top.ensures c.in_err-parse_top.was)
+    rw (failed _ c.from_residual.ensures.1) (stands_no c.loop.invariant _ c.parse_top.ensures c.in_err-parse_top.was)
 
 pub loop-smaller : goal.loop-smaller
 loop-smaller c = stands_less c.loop.invariant _ c.parse_top.ensures (c.in_ok-parse_top.was ∙ ap Ok c.if-branch.true)

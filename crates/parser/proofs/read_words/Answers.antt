@@ -1,5 +1,6 @@
 -- `parser::read_words` meets its contract. Assumes nothing.
-use Rattle.parser.proofs.Readers.{read_rests, read_outside, read_no, read_yes}
+use Rattle.std.proofs.Common.{rules}
+use Rattle.parser.proofs.Readers.{read_rests, read_outside, read_all}
 use Rattle.parser.proofs.read_words.Goals as goal
 
 pub parse_program-r-requires-clause-rests : goal.parse_program-r-requires-clause-rests
@@ -12,12 +13,8 @@ parse_program-r-requires-clause-class_value c =
     let e = c.start-p.ensures in
     read_outside c.start-p.result c.args.limits _ e.script e.limits c.requires.script_in_limits c.requires.script_le_script_most e.starts e.cursor
 
-pub returns-in-Ok-clause-reads : goal.returns-in-Ok-clause-reads
-returns-in-Ok-clause-reads c =
+pub returns-clause-reads : goal.returns-clause-reads
+returns-clause-reads c =
     let e = c.start-p.ensures in
-    read_yes c.start-p.result c.args.limits _ e.script e.limits c.requires.script_in_limits c.requires.script_le_script_most e.starts e.cursor _ c.parse_program-r.ensures c.in-Ok.is
-
-pub returns-in-Err-clause-reads : goal.returns-in-Err-clause-reads
-returns-in-Err-clause-reads c =
-    let e = c.start-p.ensures in
-    read_no c.start-p.result c.args.limits _ e.script e.limits c.requires.script_in_limits c.requires.script_le_script_most e.starts e.cursor _ c.parse_program-r.ensures c.in-Err.is
+    read_all c.start-p.result c.args.limits _ e.script e.limits c.requires.script_in_limits c.requires.script_le_script_most e.starts e.cursor _ c.parse_program-r.ensures
+    c.map.result c.map.ensures.cases (λ x r q. search rules)

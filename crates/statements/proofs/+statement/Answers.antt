@@ -3,9 +3,9 @@ use mathlib.Core.Path.{◌≡◌, refl, ap, ◌∙◌}
 use native.Mathlib.Omega.{arith}
 use Rattle.std.specs.Prelude.{Ok}
 use Rattle.std.proofs.Common.{rules}
-use Rattle.std.proofs.lemmas.Result.{err_from_is_err_and}
 use Rattle.lexer.specs.declared.Token.TheVariants as T
 use Rattle.cursor.specs.Parsers.{cursor_of, parsed_in, moved_in, matched_if, matched_in}
+use Rattle.lexer.proofs.Tried.{failed}
 use Rattle.cursor.proofs.Kept.{kept_none, after_none, after_placed, after_kept, after_adds, did_of, reading_of, finish}
 use Rattle.statements.specs.Shape.{opened_in, stops_if, stops_in}
 use Rattle.statements.proofs.Paths.{place_aside}
@@ -22,8 +22,7 @@ parse_block-parse_statements-requires t c =
 pub parse_block-returns-in_err-v : goal.parse_block-returns-in_err-v
 parse_block-returns-in_err-v t c =
     let a1 = after_kept (after_none c.args.p.now) c.parse_statements.ensures.kept in
-    let x = err_from_is_err_and c.from_residual.result c.from_residual.ensures.1 in
-    rw (x.1, x.2)
+    rw (failed _ c.from_residual.ensures.1)
     (finish a1 (block_no c.args.p.now.program.limits c.args.depth
     {p = parsed_in c.parse_statements.new.p c.parse_statements.result} c.parse_statements.ensures.did c.args.join
     (ap (parsed_in c.parse_statements.new.p) c.in_err-v.was)))
@@ -31,8 +30,7 @@ parse_block-returns-in_err-v t c =
 pub parse_block-returns-in_err-end_block : goal.parse_block-returns-in_err-end_block
 parse_block-returns-in_err-end_block t c =
     let a1 = after_kept (after_none c.args.p.now) c.parse_statements.ensures.kept in
-    let x = err_from_is_err_and c.from_residual-in_err-end_block.result c.from_residual-in_err-end_block.ensures.1 in
-    rw (x.1, x.2)
+    rw (failed _ c.from_residual-in_err-end_block.ensures.1)
     (finish (after_adds a1 c.end_block.ensures.kept)
     (block_no2 c.args.p.now.program.limits c.args.depth
     {p = parsed_in c.parse_statements.new.p c.parse_statements.result} c.parse_statements.ensures.did
@@ -51,8 +49,7 @@ parse_block-returns t c =
 pub parse_else-returns-in_err-match_token-clause-did : goal.parse_else-returns-in_err-match_token-clause-did
 parse_else-returns-in_err-match_token-clause-did t c = λ c₀ a.
     let a1 = after_placed (after_none c.args.p.now) c.match_token.ensures.same in
-    let x = err_from_is_err_and c.from_residual.result c.from_residual.ensures.1 in
-    rw (x.1, x.2) (finish_from a1 (else_none c.args.p.now.program.limits c.args.depth c.args.q c.requires.reading a c.match_token.ensures.matches
+    rw (failed _ c.from_residual.ensures.1) (finish_from a1 (else_none c.args.p.now.program.limits c.args.depth c.args.q c.requires.reading a c.match_token.ensures.matches
     (ap (matched_in c.match_token.new.self) c.in_err-match_token.was)))
 
 pub parse_else-returns-in_err-b-clause-did : goal.parse_else-returns-in_err-b-clause-did
@@ -61,8 +58,9 @@ parse_else-returns-in_err-b-clause-did t c = λ c₀ a.
     let a2 = after_kept a1 c.open_else.ensures.kept in
     let e = ap (matched_in c.match_token.new.self) c.in_ok-match_token.was ∙ ap (matched_if c.match_token.new.self) c.if-branch.true in
     let g = else_of a1 (c.open_else.ensures.opens c₀ (else_arm c.args.p.now.program.limits c.args.depth c.args.q c.requires.reading a c.match_token.ensures.matches e)) in
-    let x = err_from_is_err_and c.from_residual-in_err-b.result c.from_residual-in_err-b.ensures.1 in
-    rw (x.1, x.2) (finish_from a2 (else_no c.args.p.now.program.limits c.args.depth c.args.q c.requires.reading a c.match_token.ensures.matches e g (ap (opened_in c.open_else.new.p) c.in_err-b.was)))
+    rw (failed _ c.from_residual-in_err-b.ensures.1) (finish_from a2 (else_no c.args.p.now.program.limits c.args.depth c.args.q c.requires.reading a
+    c.match_token.ensures.matches e g
+    (ap (opened_in c.open_else.new.p) c.in_err-b.was)))
 
 pub parse_else-parse_block-requires : goal.parse_else-parse_block-requires
 parse_else-parse_block-requires t c =
@@ -83,8 +81,7 @@ parse_else-returns-in_err-y-clause-did t c = λ c₀ a.
     let g = else_of a1 (c.open_else.ensures.opens c₀ (else_arm c.args.p.now.program.limits c.args.depth c.args.q c.requires.reading a c.match_token.ensures.matches e)) in
     let i = ap (opened_in c.open_else.new.p) c.in_ok-b.was in
     let u = did_of a2 c.parse_block.ensures in
-    let x = err_from_is_err_and c.from_residual-in_err-y.result c.from_residual-in_err-y.ensures.1 in
-    rw (x.1, x.2) (finish_from a3 (else_no2 c.args.p.now.program.limits c.args.depth c.args.q c.requires.reading a c.match_token.ensures.matches e g i
+    rw (failed _ c.from_residual-in_err-y.ensures.1) (finish_from a3 (else_no2 c.args.p.now.program.limits c.args.depth c.args.q c.requires.reading a c.match_token.ensures.matches e g i
     {p = parsed_in c.parse_block.new.p c.parse_block.result} u (ap (parsed_in c.parse_block.new.p) c.in_err-y.was)))
 
 pub parse_else-finish_else-requires-clause-within : goal.parse_else-finish_else-requires-clause-within
@@ -162,8 +159,7 @@ parse_else-returns-clause-did t c = λ c₀ a.
 pub parse_if-returns-in_err-cond : goal.parse_if-returns-in_err-cond
 parse_if-returns-in_err-cond t c =
     let a1 = after_kept (after_none c.args.p.now) c.parse_expr.ensures.kept in
-    let x = err_from_is_err_and c.from_residual.result c.from_residual.ensures.1 in
-    rw (x.1, x.2) (finish a1 (if_no c.args.p.now.program.limits c.args.depth
+    rw (failed _ c.from_residual.ensures.1) (finish a1 (if_no c.args.p.now.program.limits c.args.depth
     {p = parsed_in c.parse_expr.new.p c.parse_expr.result} c.parse_expr.ensures.did (ap (parsed_in c.parse_expr.new.p) c.in_err-cond.was)))
 
 pub parse_if-returns-in_err-first : goal.parse_if-returns-in_err-first
@@ -172,8 +168,7 @@ parse_if-returns-in_err-first t c =
     let a2 = after_adds a1 c.new_block.ensures.kept in
     let e = ap (parsed_in c.parse_expr.new.p) c.in_ok-cond.was in
     let b = opens_of a1 c.new_block.ensures in
-    let x = err_from_is_err_and c.from_residual-in_err-first.result c.from_residual-in_err-first.ensures.1 in
-    rw (x.1, x.2) (finish a2 (if_no2 c.args.p.now.program.limits c.args.depth
+    rw (failed _ c.from_residual-in_err-first.ensures.1) (finish a2 (if_no2 c.args.p.now.program.limits c.args.depth
     {p = parsed_in c.parse_expr.new.p c.parse_expr.result} c.parse_expr.ensures.did e b (ap (opened_in c.new_block.new.p) c.in_err-first.was)))
 
 pub parse_if-returns-in_err-join : goal.parse_if-returns-in_err-join
@@ -185,8 +180,7 @@ parse_if-returns-in_err-join t c =
     let b = opens_of a1 c.new_block.ensures in
     let f = ap (opened_in c.new_block.new.p) c.in_ok-first.was in
     let g = opens_of a2 c.new_block-2.ensures in
-    let x = err_from_is_err_and c.from_residual-in_err-join.result c.from_residual-in_err-join.ensures.1 in
-    rw (x.1, x.2) (finish a3 (if_no3 c.args.p.now.program.limits c.args.depth
+    rw (failed _ c.from_residual-in_err-join.ensures.1) (finish a3 (if_no3 c.args.p.now.program.limits c.args.depth
     {p = parsed_in c.parse_expr.new.p c.parse_expr.result} c.parse_expr.ensures.did e b f g
     (ap (opened_in c.new_block-2.new.p) c.in_err-join.was)))
 
@@ -195,13 +189,16 @@ parse_if-parse_block-requires t c =
     let a1 = after_kept (after_none c.args.p.now) c.parse_expr.ensures.kept in
     let a2 = after_adds a1 c.new_block.ensures.kept in
     let a3 = after_adds a2 c.new_block-2.ensures.kept in
-    let a4 = after_block a3 c.in_ok-first.first in
     let e = ap (parsed_in c.parse_expr.new.p) c.in_ok-cond.was in
     let b = opens_of a1 c.new_block.ensures in
     let f = ap (opened_in c.new_block.new.p) c.in_ok-first.was in
     let g = opens_of a2 c.new_block-2.ensures in
-    let i = ap (opened_in c.new_block-2.new.p) c.in_ok-join.was in
-    (omega (arith, c.decreases), reading_of a4 (if_in3 c.args.p.now.program.limits c.args.depth {p = parsed_in c.parse_expr.new.p c.parse_expr.result} c.parse_expr.ensures.did e b f g i refl))
+    let i = ap (opened_in c.new_block-2.new.p) c.in_ok-join.was in (
+      omega (arith, c.decreases),
+      reading_of (after_block a3 c.in_ok-first.first {h = c.new_block-2.new.p.room})
+          (if_in3 c.args.p.now.program.limits c.args.depth
+          {p = parsed_in c.parse_expr.new.p c.parse_expr.result} c.parse_expr.ensures.did e b f g i refl),
+    )
 
 pub parse_if-returns-in_err-value : goal.parse_if-returns-in_err-value
 parse_if-returns-in_err-value t c =
@@ -216,8 +213,7 @@ parse_if-returns-in_err-value t c =
     let g = opens_of a2 c.new_block-2.ensures in
     let i = ap (opened_in c.new_block-2.new.p) c.in_ok-join.was in
     let u = did_of a4 c.parse_block.ensures in
-    let x = err_from_is_err_and c.from_residual-in_err-value.result c.from_residual-in_err-value.ensures.1 in
-    rw (x.1, x.2) (finish a5 (if_no4 c.args.p.now.program.limits c.args.depth
+    rw (failed _ c.from_residual-in_err-value.ensures.1) (finish a5 (if_no4 c.args.p.now.program.limits c.args.depth
     {p = parsed_in c.parse_expr.new.p c.parse_expr.result} c.parse_expr.ensures.did e b f g i refl
     {o = parsed_in c.parse_block.new.p c.parse_block.result} u (ap (parsed_in c.parse_block.new.p) c.in_err-value.was)))
 
@@ -308,8 +304,7 @@ parse_statements-loop-x-init t c =
 pub parse_statements-returns-in_err-x : goal.parse_statements-returns-in_err-x
 parse_statements-returns-in_err-x t c =
     let a = after_kept (after_none c.args.p.now) c.loop-x.invariant.kept in
-    let x = err_from_is_err_and c.from_residual.result c.from_residual.ensures.1 in
-    rw (x.1, x.2) (finish a (going_none c.loop-x.invariant.going (halts_of a c.word_ahead.ensures) (ap stops_in c.in_err-x.was)))
+    rw (failed _ c.from_residual.ensures.1) (finish a (going_none c.loop-x.invariant.going (halts_of a c.word_ahead.ensures) (ap stops_in c.in_err-x.was)))
 
 pub parse_statements-parse_statement-requires : goal.parse_statements-parse_statement-requires
 parse_statements-parse_statement-requires t c =
@@ -320,8 +315,7 @@ pub parse_statements-returns-in_err-v : goal.parse_statements-returns-in_err-v
 parse_statements-returns-in_err-v t c =
     let a = after_kept (after_none c.args.p.now) c.loop-x.invariant.kept in
     let a1 = after_kept a c.parse_statement.ensures.kept in
-    let x = err_from_is_err_and c.from_residual-in_err-v.result c.from_residual-in_err-v.ensures.1 in
-    rw (x.1, x.2) (finish a1 (going_no c.loop-x.invariant.going (halts_of a c.word_ahead.ensures)
+    rw (failed _ c.from_residual-in_err-v.ensures.1) (finish a1 (going_no c.loop-x.invariant.going (halts_of a c.word_ahead.ensures)
     (ap stops_in c.in_ok-x.was ∙ ap stops_if c.in-Some.is) {p = parsed_in c.parse_statement.new.p c.parse_statement.result}
     (did_of a c.parse_statement.ensures) (ap (parsed_in c.parse_statement.new.p) c.in_err-v.was)))
 

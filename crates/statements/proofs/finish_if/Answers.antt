@@ -1,7 +1,7 @@
 -- `statements::finish_if` meets its contract. Assumes nothing.
 use mathlib.Core.Path.{ap}
-use Rattle.std.proofs.lemmas.Result.{err_from_is_err_and}
 use Rattle.cursor.specs.Parsers.{moved_in}
+use Rattle.lexer.proofs.Tried.{failed}
 use Rattle.cursor.proofs.Kept.{after_none, after_kept, after_adds, did_of, reading_of}
 use Rattle.statements.proofs.Paths.{place_block, place_aside, bare_no, bare_in, bare_inside, bare_join, bare_sorted, bare_no2, bare_in2, bare_yes}
 use Rattle.statements.proofs.Standing.{joins_of, finish_from}
@@ -10,8 +10,7 @@ use Rattle.statements.proofs.finish_if.Goals as goal
 pub returns-in_err-add_end-clause-did : goal.returns-in_err-add_end-clause-did
 returns-in_err-add_end-clause-did c = λ c₀ a.
     let a1 = after_adds (after_none c.args.p.now) c.add_end.ensures.kept in
-    let x = err_from_is_err_and c.from_residual.result c.from_residual.ensures.1 in
-    rw (x.1, x.2)
+    rw (failed _ c.from_residual.ensures.1)
     (finish_from a1 (bare_no c.args.p.now.program.limits c.args.q c.requires.reading a c.add_end.ensures.adds (ap (moved_in c.add_end.new.p) c.in_err-add_end.was)))
 
 pub join_vars-requires-clause-reading : goal.join_vars-requires-clause-reading
@@ -45,8 +44,7 @@ returns-in_err-join_vars-clause-did c = λ c₀ a.
     let a1 = after_adds (after_none c.args.p.now) c.add_end.ensures.kept in
     let went = ap (moved_in c.add_end.new.p) c.in_ok-add_end.was in
     let i = bare_inside c.args.p.now.program.limits c.args.q c.requires.reading a c.add_end.ensures.adds went in
-    let x = err_from_is_err_and c.from_residual-in_err-join_vars.result c.from_residual-in_err-join_vars.ensures.1 in
-    rw (x.1, x.2)
+    rw (failed _ c.from_residual-in_err-join_vars.ensures.1)
     (finish_from (after_kept a1 c.join_vars.ensures.kept)
     (bare_no2 c.args.p.now.program.limits c.args.q c.requires.reading a c.add_end.ensures.adds went
     (joins_of a1 (c.join_vars.ensures.joins c₀ a.place i)) (ap (moved_in c.join_vars.new.p) c.in_err-join_vars.was)))

@@ -1,7 +1,7 @@
 -- `statements::join_value` meets its contract. Assumes nothing.
 use mathlib.Core.Path.{ap}
-use Rattle.std.proofs.lemmas.Result.{err_from_is_err_and}
 use Rattle.cursor.specs.Parsers.{moved_in}
+use Rattle.lexer.proofs.Tried.{failed}
 use Rattle.cursor.proofs.Kept.{after_none, after_placed, finish}
 use Rattle.statements.proofs.Paths.{value_no, value_in_lem}
 use Rattle.statements.proofs.Standing.{value_ends, after_draft}
@@ -9,8 +9,7 @@ use Rattle.statements.proofs.join_value.Goals as goal
 
 pub returns-in_err-expect : goal.returns-in_err-expect
 returns-in_err-expect c =
-    let x = err_from_is_err_and c.from_residual.result c.from_residual.ensures.1 in
-    rw (x.1, x.2)
+    rw (failed _ c.from_residual.ensures.1)
     (finish (after_placed (after_none c.args.p.now) c.expect.ensures.same)
     (value_no c.args.p.now.program.limits c.args.left c.args.v c.args.right c.args.x c.requires c.expect.ensures.expects (ap (moved_in c.expect.new.self) c.in_err-expect.was)))
 

@@ -1,17 +1,16 @@
 -- `statements::join_vars` meets its contract. Assumes nothing.
 use mathlib.Core.Path.{refl, ap}
-use Rattle.std.proofs.lemmas.Result.{err_from_is_err_and}
 use Rattle.cursor.specs.Cursor.{count_cur}
 use Rattle.cursor.specs.Parsers.{cursor_of}
 use Rattle.statements.specs.declared.Before.{Before}
 use Rattle.statements.specs.Shape.{block_cur, vars_cur}
+use Rattle.lexer.proofs.Tried.{failed}
 use Rattle.statements.proofs.Paths.{place_vars, place_aside, vars_no, vars-on}
 use Rattle.statements.proofs.join_vars.Goals as goal
 
 pub returns-in_err-p-clause-joins : goal.returns-in_err-p-clause-joins
 returns-in_err-p-clause-joins c = λ c₀ e i.
-    let x = err_from_is_err_and c.from_residual.result c.from_residual.ensures.1 in
-    rw (x.1, x.2)
+    rw (failed _ c.from_residual.ensures.1)
     (record {
       joins =
           vars_no c.requires.reading i c.args.p.now.program.limits c.args.q c.requires.at_lt_blocks

@@ -2,8 +2,8 @@
 use mathlib.Core.Path.{ap}
 use Prim.Native.Nat.{◌+◌}
 use native.Mathlib.Omega.{arith}
-use Rattle.std.proofs.lemmas.Result.{err_from_is_err_and}
 use Rattle.cursor.specs.Parsers.{cursor_of, moved_in}
+use Rattle.lexer.proofs.Tried.{failed}
 use Rattle.cursor.proofs.Kept.{after_none, after_adds}
 use Rattle.statements.specs.declared.Before.{Before}
 use Rattle.statements.specs.Shape.{block_cur, vars_cur, opened_in}
@@ -14,16 +14,14 @@ use Rattle.statements.proofs.open_else.Goals as goal
 pub returns-in_err-b-clause-opens : goal.returns-in_err-b-clause-opens
 returns-in_err-b-clause-opens c = λ c₀ a.
     let a1 = after_adds (after_none c.args.p.now) c.new_block.ensures.kept in
-    let x = err_from_is_err_and c.from_residual.result c.from_residual.ensures.1 in
-    rw (x.1, x.2)
+    rw (failed _ c.from_residual.ensures.1)
     (finish_opens a1 (open_no c.args.p.now.program.limits c.args.q c.requires.reading a c.new_block.ensures.opens (ap (opened_in c.new_block.new.p) c.in_err-b.was)))
 
 pub returns-in_err-add_end-clause-opens : goal.returns-in_err-add_end-clause-opens
 returns-in_err-add_end-clause-opens c = λ c₀ a.
     let a1 = after_adds (after_none c.args.p.now) c.new_block.ensures.kept in
     let a2 = after_adds a1 c.add_end.ensures.kept in
-    let x = err_from_is_err_and c.from_residual-in_err-add_end.result c.from_residual-in_err-add_end.ensures.1 in
-    rw (x.1, x.2)
+    rw (failed _ c.from_residual-in_err-add_end.ensures.1)
     (finish_opens a2
     (open_no2 c.args.p.now.program.limits c.args.q c.requires.reading a c.new_block.ensures.opens (ap (opened_in c.new_block.new.p) c.in_ok-b.was)
     (adds_of a1 c.add_end.ensures) (ap (moved_in c.add_end.new.p) c.in_err-add_end.was)))

@@ -1,7 +1,7 @@
 -- `statements::parse_return` meets its contract. Assumes nothing.
 use mathlib.Core.Path.{ap}
-use Rattle.std.proofs.lemmas.Result.{err_from_is_err_and}
 use Rattle.cursor.specs.Parsers.{parsed_in, moved_in}
+use Rattle.lexer.proofs.Tried.{failed}
 use Rattle.cursor.proofs.Kept.{after_none, after_kept, after_adds, finish}
 use Rattle.statements.proofs.Paths.{return_no, expr_in, return_no2, return_yes}
 use Rattle.statements.proofs.Standing.{adds_of}
@@ -9,8 +9,7 @@ use Rattle.statements.proofs.parse_return.Goals as goal
 
 pub returns-in_err-v : goal.returns-in_err-v
 returns-in_err-v c =
-    let x = err_from_is_err_and c.from_residual.result c.from_residual.ensures.1 in
-    rw (x.1, x.2)
+    rw (failed _ c.from_residual.ensures.1)
     (finish (after_kept (after_none c.args.p.now) c.parse_expr.ensures.kept)
     (return_no c.args.p.now.program.limits _ c.args.depth {p = parsed_in c.parse_expr.new.p c.parse_expr.result} c.parse_expr.ensures.did (ap (parsed_in c.parse_expr.new.p) c.in_err-v.was)))
 
@@ -21,8 +20,7 @@ add_end-requires c =
 pub returns-in_err-add_end : goal.returns-in_err-add_end
 returns-in_err-add_end c =
     let a1 = after_kept (after_none c.args.p.now) c.parse_expr.ensures.kept in
-    let x = err_from_is_err_and c.from_residual-in_err-add_end.result c.from_residual-in_err-add_end.ensures.1 in
-    rw (x.1, x.2)
+    rw (failed _ c.from_residual-in_err-add_end.ensures.1)
     (finish (after_adds a1 c.add_end.ensures.kept)
     (return_no2 c.args.p.now.program.limits _ c.args.depth {p = parsed_in c.parse_expr.new.p c.parse_expr.result} c.parse_expr.ensures.did (ap (parsed_in c.parse_expr.new.p) c.in_ok-v.was)
     (adds_of a1 c.add_end.ensures) (ap (moved_in c.add_end.new.p) c.in_err-add_end.was)))

@@ -1,16 +1,15 @@
 -- `statements::word_ahead` meets its contract. Assumes nothing.
 use mathlib.Core.Path.{◌≡◌, refl}
 use Rattle.std.proofs.Common.{rules}
-use Rattle.std.proofs.lemmas.Result.{err_from_is_err_and}
 use Rattle.lexer.specs.declared.Token.TheVariants as T
+use Rattle.lexer.proofs.Tried.{failed}
 use Rattle.statements.proofs.Paths.{halts-none, halts_end, halts_else, halts-not, halts-on}
 use Rattle.statements.proofs.word_ahead.Goals as goal
 use Rattle.statements.proofs.word_ahead.Goals.{else-arm-via-then-arm+else-eq-2, else-arm-via-else-arm}
 
 pub returns-in_err-x : goal.returns-in_err-x
 returns-in_err-x c =
-    let x = err_from_is_err_and c.from_residual.result c.from_residual.ensures.1 in
-    rw (x.1, x.2) (halts-none c.peek.ensures c.args.arm c.in_err-x.was)
+    rw (failed _ c.from_residual.ensures.1) (halts-none c.peek.ensures c.args.arm c.in_err-x.was)
 
 pub returns-then-eq : goal.returns-then-eq
 returns-then-eq c =

@@ -15,7 +15,7 @@ returns-in-Some c =
 
 pub returns-in-Some-function_named : goal.returns-in-Some-function_named
 returns-in-Some-function_named c =
-    let e = c.program-program.ensures in
+    let e = c.program_so_far-program.ensures in
     record {
       kept = kept_none _;
       did = value_fun _ _ _ _ c.args.n c.requires c.in_default.ensures.fixed refl (rw (e.script, e.words, e.counts) at c.in-Some-function_named.ensures) refl;
@@ -23,7 +23,7 @@ returns-in-Some-function_named c =
 
 pub returns-in-Some-class_named : goal.returns-in-Some-class_named
 returns-in-Some-class_named c =
-    let e = c.program-program.ensures in
+    let e = c.program_so_far-program.ensures in
     record {
       kept = kept_none _;
       did =
@@ -33,7 +33,7 @@ returns-in-Some-class_named c =
 
 pub returns : goal.returns
 returns c =
-    let e = c.program-program.ensures in
+    let e = c.program_so_far-program.ensures in
     let p = c.args.self.now in
     record {
       kept = kept_none _;

@@ -1,25 +1,35 @@
 -- `cursor::Parser::send` meets its contract. Assumes nothing.
+use mathlib.Core.Path.{◌≡◌}
+use mathlib.Core.Option.{Option, none, some}
+use Prim.Native.Nat.{ℕ}
+use Rattle.std.proofs.Common.{rules}
+use Rattle.rules.specs.Values.{class_in}
+use Rattle.rules.specs.Reading.{constant_of}
+use Rattle.program.specs.Rows.{opnd_of}
 use Rattle.cursor.proofs.Kept.{kept_none, passed}
 use Rattle.cursor.proofs.terms.Terms.{send-new, send-other, send_dynamic}
 use Rattle.cursor.proofs.Parser.send.Goals as goal
 
-pub returns-then-spells : goal.returns-then-spells
-returns-then-spells c = λ E.
+pub returns-then-same_bytes : goal.returns-then-same_bytes
+returns-then-same_bytes c = λ E.
+    let e : ◌≡◌ {A = Option ℕ} (some c.in-Const-Class.class.0) (constant_of class_in (opnd_of c.args.v)) = search rules in
     record {
       kept = (c.create_instance.ensures E).kept;
       did =
-          send-new _ _ _ _ _ c.args.v c.args.n c.args.k c.class_named_by.ensures c.in-Some.is c.spells.ensures c.if-spells.true
+          send-new _ _ _ _ _ c.args.v c.args.n c.args.k e (rw c.bytes_at-name.ensures at c.same_bytes.ensures) c.if-same_bytes.true
           (λ F. (c.create_instance.ensures F).did) E;
     }
 
-pub returns-else-spells : goal.returns-else-spells
-returns-else-spells c = λ E.
+pub returns-else-same_bytes : goal.returns-else-same_bytes
+returns-else-same_bytes c = λ E.
+    let e : ◌≡◌ {A = Option ℕ} (some c.in-Const-Class.class.0) (constant_of class_in (opnd_of c.args.v)) = search rules in
     record {
       kept = kept_none _;
-      did = send-other _ _ _ _ _ c.args.v c.args.n c.args.k c.class_named_by.ensures c.in-Some.is c.spells.ensures c.if-spells.false E;
+      did = send-other _ _ _ _ _ c.args.v c.args.n c.args.k e (rw c.bytes_at-name.ensures at c.same_bytes.ensures) c.if-same_bytes.false E;
     }
 
-pub returns-in-None : goal.returns-in-None
-returns-in-None c = λ E.
+pub returns-in_default : goal.returns-in_default
+returns-in_default c = λ E.
+    let e : ◌≡◌ {A = Option ℕ} none (constant_of class_in (opnd_of c.args.v)) = search rules in
     passed c.push_call.ensures.kept.kept c.push_call.ensures.kept.scratch
-    (send_dynamic _ _ _ _ _ c.args.v c.args.n c.args.k c.class_named_by.ensures c.requires.reading c.in-None.is c.push_call.ensures.adds E)
+    (send_dynamic _ _ _ _ _ c.args.v c.args.n c.args.k c.requires.reading e c.push_call.ensures.adds E)

@@ -1,9 +1,8 @@
 -- `functions::params::parse_params` meets its contract. Assumes nothing.
-use mathlib.Core.Path.{refl, ap, ◌∙◌, ◌≡◌}
+use mathlib.Core.Path.{refl, ap, ◌∙◌}
 use Rattle.std.specs.Prelude.{Ok}
 use Rattle.std.proofs.Common.{rules}
-use Rattle.std.proofs.lemmas.Result.{err_from_is_err_and}
-use Rattle.lexer.specs.declared.Token.TheVariants as T
+use Rattle.lexer.proofs.Tried.{failed}
 use Rattle.cursor.proofs.Kept.{kept_none}
 use Rattle.functions.proofs.params.Laws.{naming_start}
 use Rattle.functions.proofs.params.Heads.{names_none, names_close, names_bad, names_stop, names_last, names_on}
@@ -14,18 +13,15 @@ loop-p-init c = record { naming = naming_start _ _ _ c.requires; kept = kept_non
 
 pub returns-in_err-peek : goal.returns-in_err-peek
 returns-in_err-peek c =
-    let p = err_from_is_err_and c.from_residual.result c.from_residual.ensures.1 in
-    rw (p.1, p.2) (names_none c.loop-p.invariant c.peek.ensures c.in_err-peek.was)
+    rw (failed _ c.from_residual.ensures.1) (names_none c.loop-p.invariant c.peek.ensures c.in_err-peek.was)
 
 pub returns-in_err-n : goal.returns-in_err-n
 returns-in_err-n c =
-    let p = err_from_is_err_and c.from_residual-in_err-n.result c.from_residual-in_err-n.ensures.1 in
-    rw (p.1, p.2) (names_bad c.loop-p.invariant c.peek.ensures c.in_ok-peek.was (search rules) c.expect_ident.ensures c.in_err-n.was)
+    rw (failed _ c.from_residual-in_err-n.ensures.1) (names_bad c.loop-p.invariant c.peek.ensures c.in_ok-peek.was (search rules) c.expect_ident.ensures c.in_err-n.was)
 
 pub returns-in_err-match_token : goal.returns-in_err-match_token
 returns-in_err-match_token c =
-    let p = err_from_is_err_and c.from_residual-in_err-match_token.result c.from_residual-in_err-match_token.ensures.1 in
-    rw (p.1, p.2)
+    rw (failed _ c.from_residual-in_err-match_token.ensures.1)
     (names_stop c.loop-p.invariant c.peek.ensures c.in_ok-peek.was (search rules) c.expect_ident.ensures c.in_ok-n.was c.push_name.ensures c.match_token.ensures
     c.in_err-match_token.was)
 

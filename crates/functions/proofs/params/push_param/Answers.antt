@@ -1,16 +1,14 @@
 -- `functions::params::push_param` meets its contract. Assumes nothing.
-use mathlib.Core.Path.{refl, ap, ◌∙◌}
+use mathlib.Core.Path.{refl, ap}
 use native.Mathlib.Omega.{arith}
-use Rattle.std.proofs.lemmas.Result.{err_from_is_err_and}
 use Rattle.cursor.specs.Parsers.{parsed_in}
-use Rattle.cursor.proofs.Kept.{kept_trans}
+use Rattle.lexer.proofs.Tried.{failed}
 use Rattle.functions.proofs.params.Laws.{param_no, param_yes, param-vars}
 use Rattle.functions.proofs.params.push_param.Goals as goal
 
 pub returns-in_err-v : goal.returns-in_err-v
 returns-in_err-v c =
-    let p = err_from_is_err_and c.from_residual.result c.from_residual.ensures.1 in
-    rw (p.1, p.2)
+    rw (failed _ c.from_residual.ensures.1)
     (record {
       kept = c.push.ensures.kept.kept;
       pushes = rw c.push.ensures.kept.scratch (param_no c.args.p.now.program.limits c.args.k

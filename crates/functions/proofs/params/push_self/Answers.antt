@@ -1,14 +1,13 @@
 -- `functions::params::push_self` meets its contract. Assumes nothing.
 use mathlib.Core.Path.{refl}
-use Rattle.std.proofs.lemmas.Result.{err_from_is_err_and}
+use Rattle.lexer.proofs.Tried.{failed}
 use Rattle.functions.proofs.params.Laws.{adds-kept, self-none, self_no, self-yes}
 use Rattle.cursor.proofs.Kept.{kept_none}
 use Rattle.functions.proofs.params.push_self.Goals as goal
 
 pub returns-in_err-i : goal.returns-in_err-i
 returns-in_err-i c =
-    let p = err_from_is_err_and c.from_residual.result c.from_residual.ensures.1 in
-    rw (p.1, p.2)
+    rw (failed _ c.from_residual.ensures.1)
     (record { kept = adds-kept _ _ c.in_err-i.ensures.kept refl refl refl; pushes = self_no c.args.p.now.program.limits c.in-Some.is c.push_insn.new.self.counts _ c.in_err-i.ensures.did refl })
 
 pub returns-in_ok-i : goal.returns-in_ok-i

@@ -1,22 +1,20 @@
 -- `parser::classes::parse_attr` meets its contract. Assumes nothing.
-use Rattle.std.proofs.lemmas.Result.{err_from_is_err_and}
+use Rattle.lexer.proofs.Tried.{failed}
 use Rattle.parser.proofs.classes.Readers.{attr_no, attr_no2, attr_class, attr_end}
 use Rattle.parser.proofs.classes.parse_attr.Goals as goal
 
 pub returns-in_err-expect : goal.returns-in_err-expect
 returns-in_err-expect c =
-    let p = err_from_is_err_and c.from_residual.result c.from_residual.ensures.1 in
-    rw (p.1, p.2) (attr_no _ c.args.k c.requires.rests c.expect.ensures c.in_err-expect.was)
+    rw (failed _ c.from_residual.ensures.1) (attr_no c.args.p.now c.args.k c.requires.rests c.expect.ensures c.in_err-expect.was)
 
 pub returns-in_err-n : goal.returns-in_err-n
 returns-in_err-n c =
-    let p = err_from_is_err_and c.from_residual-in_err-n.result c.from_residual-in_err-n.ensures.1 in
-    rw (p.1, p.2) (attr_no2 _ c.args.k c.requires.rests c.expect.ensures c.in_ok-expect.was c.expect_ident.ensures c.in_err-n.was)
+    rw (failed _ c.from_residual-in_err-n.ensures.1) (attr_no2 c.args.p.now c.args.k c.requires.rests c.expect.ensures c.in_ok-expect.was c.expect_ident.ensures c.in_err-n.was)
 
 pub push_ivar-requires : goal.push_ivar-requires
-push_ivar-requires c = attr_class _ c.args.k c.requires.rests c.expect.ensures c.in_ok-expect.was c.expect_ident.ensures c.in_ok-n.was c.requires.k_lt_classes
+push_ivar-requires c = attr_class c.args.p.now c.args.k c.requires.rests c.expect.ensures c.in_ok-expect.was c.expect_ident.ensures c.in_ok-n.was c.requires.k_lt_classes
 
 pub returns : goal.returns
 returns c =
-    attr_end _ c.args.k c.requires.rests c.expect.ensures c.in_ok-expect.was c.expect_ident.ensures c.in_ok-n.was c.push_ivar.ensures.kept c.push_ivar.ensures.counts _
+    attr_end c.args.p.now c.args.k c.requires.rests c.expect.ensures c.in_ok-expect.was c.expect_ident.ensures c.in_ok-n.was c.push_ivar.ensures.kept c.push_ivar.ensures.counts _
     c.push_ivar.ensures.declares

@@ -1,12 +1,11 @@
 -- `parser::classes::parse_member` meets its contract. Assumes nothing.
-use Rattle.std.proofs.lemmas.Result.{err_from_is_err_and}
+use Rattle.lexer.proofs.Tried.{failed}
 use Rattle.parser.proofs.classes.Readers.{member_none, member_over, member_ends, member_def_no, member_def, member_attr_no, member_attr, member_other}
 use Rattle.parser.proofs.classes.parse_member.Goals as goal
 
 pub returns-in_err-x : goal.returns-in_err-x
 returns-in_err-x c =
-    let p = err_from_is_err_and c.from_residual.result c.from_residual.ensures.1 in
-    rw (p.1, p.2) (member_none _ c.args.k c.requires.rests c.peek.ensures c.in_err-x.was)
+    rw (failed _ c.from_residual.ensures.1) (member_none c.args.p.now c.args.k c.requires.rests c.peek.ensures c.in_err-x.was)
 
 pub returns-in-EndOfText : goal.returns-in-EndOfText
 returns-in-EndOfText c = member_over c.args.p.now c.args.k c.requires.rests c.peek.ensures c.in_ok-x.was c.in-EndOfText.is
@@ -16,23 +15,21 @@ returns-in-End c = member_ends c.args.p.now c.args.k c.requires.rests c.peek.ens
 
 pub returns-in_err-parse_method-in-Def : goal.returns-in_err-parse_method-in-Def
 returns-in_err-parse_method-in-Def c =
-    let p = err_from_is_err_and c.from_residual-in_err-parse_method-in-Def.result c.from_residual-in_err-parse_method-in-Def.ensures.1 in
-    rw (p.1, p.2)
-    (member_def_no _ c.args.k c.requires.rests c.peek.ensures c.in_ok-x.was c.in-Def.is _ c.parse_method.ensures c.in_err-parse_method-in-Def.was)
+    rw (failed _ c.from_residual-in_err-parse_method-in-Def.ensures.1)
+    (member_def_no c.args.p.now c.args.k c.requires.rests c.peek.ensures c.in_ok-x.was c.in-Def.is _ c.parse_method.ensures c.in_err-parse_method-in-Def.was)
 
 pub returns-in_ok-parse_method-in-Def : goal.returns-in_ok-parse_method-in-Def
 returns-in_ok-parse_method-in-Def c =
-    member_def _ c.args.k c.requires.rests c.peek.ensures c.in_ok-x.was c.in-Def.is _ c.parse_method.ensures c.in_ok-parse_method-in-Def.was
+    member_def c.args.p.now c.args.k c.requires.rests c.peek.ensures c.in_ok-x.was c.in-Def.is _ c.parse_method.ensures c.in_ok-parse_method-in-Def.was
 
 pub returns-in_err-parse_attr-in-AttrAccessor : goal.returns-in_err-parse_attr-in-AttrAccessor
 returns-in_err-parse_attr-in-AttrAccessor c =
-    let p = err_from_is_err_and c.from_residual-in_err-parse_attr-in-AttrAccessor.result c.from_residual-in_err-parse_attr-in-AttrAccessor.ensures.1 in
-    rw (p.1, p.2)
-    (member_attr_no _ c.args.k c.requires.rests c.peek.ensures c.in_ok-x.was c.in-AttrAccessor.is _ c.parse_attr.ensures c.in_err-parse_attr-in-AttrAccessor.was)
+    rw (failed _ c.from_residual-in_err-parse_attr-in-AttrAccessor.ensures.1)
+    (member_attr_no c.args.p.now c.args.k c.requires.rests c.peek.ensures c.in_ok-x.was c.in-AttrAccessor.is _ c.parse_attr.ensures c.in_err-parse_attr-in-AttrAccessor.was)
 
 pub returns-in_ok-parse_attr-in-AttrAccessor : goal.returns-in_ok-parse_attr-in-AttrAccessor
 returns-in_ok-parse_attr-in-AttrAccessor c =
-    member_attr _ c.args.k c.requires.rests c.peek.ensures c.in_ok-x.was c.in-AttrAccessor.is _ c.parse_attr.ensures c.in_ok-parse_attr-in-AttrAccessor.was
+    member_attr c.args.p.now c.args.k c.requires.rests c.peek.ensures c.in_ok-x.was c.in-AttrAccessor.is _ c.parse_attr.ensures c.in_ok-parse_attr-in-AttrAccessor.was
 
 pub returns-in_default : goal.returns-in_default
 returns-in_default c =

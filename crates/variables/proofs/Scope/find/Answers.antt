@@ -2,8 +2,8 @@
 use Rattle.variables.proofs.Laws.{find_none, find_hit, find_more}
 use Rattle.variables.proofs.Scope.find.Goals as goal
 
-pub returns-then-named : goal.returns-then-named
-returns-then-named c = search find_hit
+pub returns-then-same_bytes : goal.returns-then-same_bytes
+returns-then-same_bytes c = search find_hit
 
 pub loop-i-preserved : goal.loop-i-preserved
 loop-i-preserved c = search find_more

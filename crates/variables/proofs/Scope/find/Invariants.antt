@@ -1,7 +1,6 @@
 -- What the loop of `variables::Scope::find` keeps.
 use Rattle.variables.proofs.Laws.{Finding}
-use Rattle.lexer.specs.Names.{name}
 use Rattle.variables.proofs.Scope.find.Given as goal
 
 abbrev pub invariant-loop-i : goal.invariant-loop-i
-invariant-loop-i l = Finding l.self.script.now l.self.scratch.now l.n (name l.self.script.now l.a l.k) l.i
+invariant-loop-i l = Finding l.self.script.now l.self.scratch.now l.n l.name l.i
