@@ -21,7 +21,7 @@ use Rattle.program.specs.declared.Counts.{Counts}
 use Rattle.program.specs.declared.Row.{Row}
 use Rattle.memory.specs.Layout.{instructions_most, blocks_room}
 use Rattle.chains.specs.Layout.{sort_words, chains_size}
-use Rattle.chains.specs.Chains.{is_param, is_return, key_of, is_key, belongs, place_of, pick, ChainsChained, at, self, ChainsOnly, ChainsFilled, ChainsHeld, Chains}
+use Rattle.chains.specs.Chains.{is_param, is_return, key_of, is_key, belongs, place_of, pick, ChainsChained, at, self, ChainsOnly, ChainsFilled, ChainsHeld}
 use Rattle.chains.proofs.Lists.{pick_down, pick_end, chained_below, chained_end, chained_more, chained_same}
 
 -- ---- keys
@@ -75,18 +75,6 @@ chain_start m n sort v w f =
     }
 
 module _ {m : List ℕ} {n sort : ℕ} {w₀ w : List ℕ} {i : ℕ} (z : Chaining m n sort w₀ w i) where
-  pub chain_done : {v : List ℕ} → ChainsFilled (sort_words * sort) blocks_room n v w₀ → i ≤ 0 → Chains m n sort v w
-  chain_done y h =
-      let e : i ≡ 0 = omega arith in
-      let f : n - 0 ≡ n = omega arith in
-      record {
-        only = record {
-          len_same = z.only.len_same ∙ y.only.len_same;
-          others = λ k g. z.only.others k g ∙ y.only.others k (λ p q. g p (omega arith));
-        };
-        held = λ b l. rw f at ((rw e at z.held) b l);
-      }
-
   module _ (h : 0 < i) where
     picked : (o : Option ℕ) → o ≡ key_of m sort (i - 1) → (b : ℕ)
         → pick (belongs m sort b) (i - 1) (n - (i - 1)) ≡ cons_if (is_key o b) (i - 1) (pick (belongs m sort b) i (n - i))

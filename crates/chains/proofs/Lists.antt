@@ -101,14 +101,6 @@ module _ (item link : ℕ → ℕ) (n : ℕ) where
   chained_low k h [] d g = omega arith
   chained_low k h (x ∷ l) d g = d.0
 
-  pub chained_high : (k h : ℕ) (l : List ℕ) → ChainsChained item link n k h l → h ≤ n
-  unfolding ChainsChained
-  chained_high k h [] d = omega arith
-  chained_high k h (x ∷ l) d = omega (arith, d.1)
-
-  pub chained_next : (k h : ℕ) (l : List ℕ) → ChainsChained item link n k h l → h < n → link h ≤ n
-  chained_next k h l d g = let s = chained_some k h l d g in chained_high (suc h) (link h) s.rest s.onward
-
 -- the cells from k on stay
 pub chained_same : (item link item' link' : ℕ → ℕ) (n a k h : ℕ) (l : List ℕ) → a ≤ k
     → ((i : ℕ) → a ≤ i → i < n → (item' i ≡ item i) × (link' i ≡ link i)) → ChainsChained item link n k h l → ChainsChained item' link' n k h l

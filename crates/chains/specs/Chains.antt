@@ -91,10 +91,6 @@ Chained w n h = ChainsChained self (link_in w) n h h (cells_from (link_in w) n (
 abbrev pub at : List ℕ → ℕ → ℕ → ℕ
 at w a i = get_or w (a + i) 0
 
--- the word at a place fits an InsnId
-abbrev pub FitsId : List ℕ → ℕ → Type 0
-FitsId w a = get_or w a 0 < 4294967296
-
 -- only the n words from a on may have changed
 pub record ChainsOnly (a n : ℕ) (w w' : List ℕ) : Type 0 where
   pub len_same : length w' ≡ length w

@@ -8,21 +8,9 @@ use Rattle.program.specs.Layout.{program_size}
 abbrev pub sort_words : ℕ
 sort_words = blocks_room + instructions_most
 
--- each sort's heads and links; the code's heads start at 0
-abbrev pub code_links_at : ℕ
-code_links_at = blocks_room
-
-abbrev pub params_at : ℕ
-params_at = sort_words
-
-abbrev pub param_links_at : ℕ
-param_links_at = params_at + blocks_room
-
+-- where the Returns stand; the code stands at 0, the Params at sort_words
 abbrev pub returns_at : ℕ
 returns_at = 2 * sort_words
-
-abbrev pub return_links_at : ℕ
-return_links_at = returns_at + blocks_room
 
 -- the words of all chains
 abbrev pub chains_size : ℕ

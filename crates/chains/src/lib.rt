@@ -4,13 +4,13 @@
 pub mod cells;
 pub mod view;
 
-ghost use Rattle.std.specs.Prelude.{◌≡◌, ℕ, ◌+◌, ◌*◌, ◌≤◌, ◌<◌, length, get_or};
-ghost use Rattle.memory.specs.Layout.{instructions_most, blocks_room};
-ghost use Rattle.chains.specs.Layout.{sort_words, code_links_at, params_at, param_links_at, returns_at, return_links_at, chains_size};
-ghost use Rattle.chains.specs.Chains.{is_param, is_return, key_of, place_of, FitsId, ChainsFilled, Copied, Chains, Index, Carried};
+ghost use Rattle.std.specs.Prelude.{◌≡◌, ◌+◌, ◌≤◌, ◌<◌, length};
+ghost use Rattle.memory.specs.Layout.{instructions_most};
+ghost use Rattle.chains.specs.Layout.{chains_size};
+ghost use Rattle.chains.specs.Chains.{is_param, is_return, key_of, place_of, ChainsFilled, Copied, Chains, Index, Carried};
 
 pub use cells::Chain;
-use ids::{BlockId, FunId, InsnId};
+use ids::InsnId;
 use program::{Counts, Op, Program};
 pub use view::Indexed;
 
@@ -33,6 +33,7 @@ pub enum Sort {
 }
 
 impl Sort {
+    // Stays: the cast is proved once here; at each use it would be proved again.
     fn place(self) -> usize
         ensures { result ≡ place_of self }
     {
@@ -54,16 +55,18 @@ fn is_return(op: Op) -> bool
 
 // The chain of a sort that an instruction belongs to: its block, its block if it is a Param, its function if it is a Return.
 fn key_of(program: &Program, sort: Sort, i: InsnId) -> Option<usize>
+    // Stays: an id's bound is its program's count; no type of the id alone can say it.
     requires { i.0 < program.now.counts.insns }
     ensures { result ≡ key_of program.now.words.now (place_of sort) i.0 }
 {
     let row = program.insn(i);
     match sort {
-        Sort::Code => Some(row.block.0 as usize),
-        Sort::Params => is_param(row.op).then_some(row.block.0 as usize),
+        Sort::Code => Some(row.block.index()),
+        Sort::Params => is_param(row.op).then_some(row.block.index()),
         Sort::Returns => {
+            // Stays: `then` was tried in three forms, and its closure's contract says nothing of the function that it gives.
             if is_return(row.op) {
-                Some(program.function_of(row.block).0 as usize)
+                Some(program.function_of(row.block).index())
             } else {
                 None
             }
@@ -72,6 +75,8 @@ fn key_of(program: &Program, sort: Sort, i: InsnId) -> Option<usize>
 }
 
 // n words from a place on.
+// Stays: a place and a number, since contracts and laws of three crates speak of a memory by its places; with the library's `fill` in place the proof didn't
+// close.
 pub fn fill(scratch: &mut [usize], at: usize, n: usize, v: usize)
     requires { at + n ≤ length scratch.old }
     ensures { ChainsFilled at n v scratch.old scratch.new }
@@ -81,6 +86,7 @@ pub fn fill(scratch: &mut [usize], at: usize, n: usize, v: usize)
 
 // The chains of a sort, from the last instruction down: each instruction goes in front.
 fn chain(program: &Program, scratch: &mut [usize], sort: Sort)
+    // Stays: the memory is lent; a struct that says how long it is would be made for this one call, and taken apart behind it.
     requires { chains_size ≤ length scratch.old }
     ensures { Chains program.now.words.now program.now.counts.insns (place_of sort) scratch.old scratch.new }
 {
@@ -107,6 +113,7 @@ pub fn build_index(program: &Program, scratch: &mut [usize])
 }
 
 // n words from a place on go to another memory, to a part of it that starts at `base`.
+// Stays: it stands once for the three sorts, whose words keep their place; two slices and `copy_from_slice` would be named three times.
 fn copy(scratch: &[usize], t: &mut [usize], base: usize, at: usize, n: usize)
     requires { (at + n ≤ length scratch.now) × (base + (at + n) ≤ length t.old) }
     ensures { Copied base at n scratch.now t.old t.new }
@@ -124,70 +131,4 @@ pub fn copy_index(scratch: &[usize], counts: Counts, t: &mut [usize], base: usiz
     copy(scratch, t, base, 0, n);
     copy(scratch, t, base, SORT, n);
     copy(scratch, t, base, SORT + SORT, n);
-}
-
-// The first instruction of the chain of number k, and the one after an instruction. Where there is none it is the number of instructions: an InsnId that is
-// not below the count, and so stands for no instruction.
-fn first(chains: &[usize], sort: Sort, k: usize) -> InsnId
-    requires room { (chains_size ≤ length chains.now) × (k < blocks_room) }
-    requires fits_id { FitsId chains.now (sort_words * place_of sort + k) }
-    ensures { result.0 ≡ get_or chains.now (sort_words * place_of sort + k) 0 }
-{
-    InsnId(chains[SORT * sort.place() + k] as u32)
-}
-
-fn next(chains: &[usize], sort: Sort, i: InsnId) -> InsnId
-    requires room { (chains_size ≤ length chains.now) × (i.0 < instructions_most) }
-    requires fits_id { FitsId chains.now (sort_words * place_of sort + blocks_room + i.0) }
-    ensures { result.0 ≡ get_or chains.now (sort_words * place_of sort + blocks_room + i.0) 0 }
-{
-    InsnId(chains[SORT * sort.place() + HEADS + i.0 as usize] as u32)
-}
-
-pub fn first_insn(scratch: &[usize], b: BlockId) -> InsnId
-    requires chains_size_in_bounds { (chains_size ≤ length scratch.now) × (b.0 < blocks_room) }
-    requires fits_id { FitsId scratch.now b.0 }
-    ensures { result.0 ≡ get_or scratch.now b.0 0 }
-{
-    first(scratch, Sort::Code, b.0 as usize)
-}
-
-pub fn next_insn(scratch: &[usize], i: InsnId) -> InsnId
-    requires chains_size_in_bounds { (chains_size ≤ length scratch.now) × (i.0 < instructions_most) }
-    requires fits_id { FitsId scratch.now (code_links_at + i.0) }
-    ensures { result.0 ≡ get_or scratch.now (code_links_at + i.0) 0 }
-{
-    next(scratch, Sort::Code, i)
-}
-
-pub fn first_param(scratch: &[usize], b: BlockId) -> InsnId
-    requires chains_size_in_bounds { (chains_size ≤ length scratch.now) × (b.0 < blocks_room) }
-    requires fits_id { FitsId scratch.now (params_at + b.0) }
-    ensures { result.0 ≡ get_or scratch.now (params_at + b.0) 0 }
-{
-    first(scratch, Sort::Params, b.0 as usize)
-}
-
-pub fn next_param(scratch: &[usize], i: InsnId) -> InsnId
-    requires chains_size_in_bounds { (chains_size ≤ length scratch.now) × (i.0 < instructions_most) }
-    requires fits_id { FitsId scratch.now (param_links_at + i.0) }
-    ensures { result.0 ≡ get_or scratch.now (param_links_at + i.0) 0 }
-{
-    next(scratch, Sort::Params, i)
-}
-
-pub fn first_return(scratch: &[usize], f: FunId) -> InsnId
-    requires chains_size_in_bounds { (chains_size ≤ length scratch.now) × (f.0 < blocks_room) }
-    requires fits_id { FitsId scratch.now (returns_at + f.0) }
-    ensures { result.0 ≡ get_or scratch.now (returns_at + f.0) 0 }
-{
-    first(scratch, Sort::Returns, f.0 as usize)
-}
-
-pub fn next_return(scratch: &[usize], i: InsnId) -> InsnId
-    requires chains_size_in_bounds { (chains_size ≤ length scratch.now) × (i.0 < instructions_most) }
-    requires fits_id { FitsId scratch.now (return_links_at + i.0) }
-    ensures { result.0 ≡ get_or scratch.now (return_links_at + i.0) 0 }
-{
-    next(scratch, Sort::Returns, i)
 }

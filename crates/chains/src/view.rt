@@ -3,7 +3,7 @@ ghost use Rattle.chains.specs.Chains.{Index};
 ghost use Rattle.chains.specs.Once.{Index-prop};
 
 use crate::{Chain, Sort};
-use ids::BlockId;
+use ids::{BlockId, FunId};
 use program::Program;
 
 #[derive(Clone, Copy)]
@@ -16,7 +16,9 @@ pub struct Indexed<'a> {
 impl<'a> Indexed<'a> {
     ghost use Rattle.std.specs.Prelude.{◌≡◌, List, ℕ, ◌<◌};
     ghost use Rattle.rules.specs.Program.{code};
+    ghost use Rattle.memory.specs.Layout.{blocks_room};
     ghost use Rattle.program.specs.View.{program_view};
+    ghost use Rattle.chains.specs.Chains.{returns_of};
     ghost use Rattle.chains.specs.Left.{left};
 
     // The instructions of block b.
@@ -27,7 +29,21 @@ impl<'a> Indexed<'a> {
         Chain::new(
             self.chains,
             Sort::Code,
-            b.0 as usize,
+            b.index(),
+            self.program.counts.insns,
+        )
+    }
+
+    // Stays: beside `code`, since both are one call of `Chain::new`, by an id of another sort and with another list as their promise.
+    // The Returns of function f.
+    pub fn returns(&self, f: FunId) -> Chain<'a>
+        requires { f.0 < blocks_room }
+        ensures { (s : List ℕ) → left result ≡ returns_of (program_view s self.now.program.words.now self.now.program.counts) f.0 }
+    {
+        Chain::new(
+            self.chains,
+            Sort::Returns,
+            f.index(),
             self.program.counts.insns,
         )
     }

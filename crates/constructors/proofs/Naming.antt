@@ -10,7 +10,6 @@ use borrow.Author.Tests.{eq-eqb, ne_eqb, lt-ltb, le-ltb}
 use lib.Bits.{bit_or, shifted_even}
 use lib.Pow.{pow_pos, pow-lt, pow-add, shl-shr}
 use lib.Dec.{eqb, ltb}
-use lib.ListN.{length}
 use Rattle.std.specs.Prelude as R
 use Rattle.lexer.specs.Names.{name}
 use Rattle.rules.specs.Lists.{any, same, has, first, places_from, places}
@@ -18,12 +17,11 @@ use Rattle.rules.specs.Program as P
 use Rattle.rules.specs.Program.{ivar_named}
 use Rattle.program.specs.Tab.{tab}
 use Rattle.program.specs.Rows.{name_in, ivars_of, class_at}
-use Rattle.program.specs.View.{program_view, ProgramReady, classes_of}
+use Rattle.program.specs.View.{program_view, classes_of}
 use Rattle.program.specs.declared.Counts.{Counts}
 use Rattle.program.specs.declared.Name.{Name}
 use Rattle.program.proofs.Tables.{tab-at, tab-more}
 use Rattle.program.proofs.Committing.{any_snoc}
-use Rattle.program.specs.Layout.{ivars_at, ivar_row_words}
 use Rattle.constructors.specs.Flows.{holds, ivar_in, NamedIs}
 use Rattle.constructors.proofs.Meeting.{holds_or, holds-none}
 
@@ -153,9 +151,3 @@ module _ {s m : List ℕ} {k bits a : ℕ} {n : Name} (c : Counts) (z : Naming s
 
   pub name_some : (bits ≡ 0 → ⊥) → NamedIs s m c k n (R.Some bits)
   name_some f = record { places = here; declared = asked ∙ ap not (ne_eqb bits 0 f) }
-
--- ---- rooms
-
-module _ {m : List ℕ} {c : Counts} {k : ℕ} (ok : ProgramReady m c) (h : k < c.classes) where
-  pub ivar_room : (a : ℕ) → a < ivars_of m k → (ivars_at + ivar_row_words * k + 2 * a + 1 < length m) × (a < 64)
-  ivar_room a g = (omega (arith, ok.classes, ok.len_mem, ok.ivars k h), omega (arith, ok.ivars k h))

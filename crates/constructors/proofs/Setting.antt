@@ -9,13 +9,12 @@ use borrow.Author.Tests.{lt-ltb}
 use lib.Bits.{bit_and, bit_or}
 use lib.ListN.{length, get_or, set, length-set}
 use lib.Seq.{get_or-set_same, get_or-set_other}
-use lib.Dec.{eqb}
 use Rattle.std.specs.Prelude as R
 use Rattle.refusals.specs.declared.Refusal.{Refusal}
-use Rattle.rules.specs.Lists.{any, all, same, has, to_list, concat, cons_if}
+use Rattle.rules.specs.Lists.{any, all, same, has, to_list, concat}
 use Rattle.rules.specs.Program as P
 use Rattle.rules.specs.Program.{Program, about, op_of, code, ivar_named, returned_by}
-use Rattle.rules.specs.Constructors.{end_of, sets_of, set_before, flow, initialized, declared, reverse_post_order}
+use Rattle.rules.specs.Constructors.{end_of, sets_of, set_before, flow, initialized, declared}
 use Rattle.program.specs.Rows.{insn_at, instruction_at, op_in, opnd_of, opnds_in, name_in, ivars_of}
 use Rattle.program.specs.View.{program_view}
 use Rattle.program.specs.declared.Counts.{Counts}
@@ -24,13 +23,12 @@ use Rattle.program.specs.declared.Row.{Row}
 use Rattle.program.specs.declared.Op.{Op}
 use Rattle.program.specs.declared.Op.TheVariants as O
 use Rattle.program.proofs.Reading.{instruction-is}
-use Rattle.chains.specs.Chains.{pick}
-use Rattle.chains.proofs.Whole.{code_is}
+use Rattle.chains.proofs.Remaining.{Within}
 use Rattle.program.specs.Layout.{opnds_at}
 use Rattle.constructors.specs.Layout.{order_at, outs_at, walk_size}
 use Rattle.constructors.specs.declared.Ends.{Ends}
-use Rattle.constructors.specs.Walks.{returning, Ended, out_of, Walked}
-use Rattle.constructors.specs.Flows.{holds, done_from, or_false, FlowPlaced, Before, ivar_in, NamedIs, all_declared, SetsIs, SureIs}
+use Rattle.constructors.specs.Walks.{returning, Ended, out_of}
+use Rattle.constructors.specs.Flows.{holds, done_from, or_false, Before, ivar_in, NamedIs, all_declared, SetsIs, SureIs}
 use Rattle.constructors.proofs.Meeting.{holds-and, holds_or, holds-none, holds-full, full}
 
 -- ---- the names that instructions set
@@ -84,31 +82,17 @@ pub ok_some : (o : R.Option ℕ) (e : Refusal) {x : ℕ} → R.Ok x ≡ R.ok_or 
 ok_some R.None e q = absurd (let w : ◌≡◌ {A = ℕ} 0 1 = cc in omega arith)
 ok_some (R.Some y) e {x} q = let w : x ≡ y = cc in ap R.Some (sym w)
 
--- the numbers of a list are below n
-abbrev pub Within : ℕ → List ℕ → Type 0
-Within n [] = Unit {0}
-Within n (x ∷ l) = (x < n) × Within n l
-
-within_pick : (t : ℕ → 𝔹) (k f n : ℕ) → k + f ≤ n → Within n (pick t k f)
-unfolding pick
-within_pick t k zero n h = tt
-within_pick t k (suc f) n h = go (t k) (within_pick t (suc k) f n (omega arith))
-  where
-    go : (a : 𝔹) → Within n (pick t (suc k) f) → Within n (cons_if a k (pick t (suc k) f))
-    go true w = (omega arith, w)
-    go false w = w
-
 -- the instructions of block b that are left, and the attributes that those before them set
 pub record Setting (s m : List ℕ) (c : Counts) (k b bits : ℕ) (rest : List ℕ) : Type 0 where
   pub within : Within c.insns rest
   pub sets : (a : ℕ) → a < ivars_of m k → (holds a bits || any (same (ivar_in s m k a)) (names_of (program_view s m c) rest)) ≡ any (same (ivar_in s m k a)) (sets_of (program_view s m c) b)
   pub asked : all_declared s m c k (names_of (program_view s m c) rest) ≡ all_declared s m c k (sets_of (program_view s m c) b)
 
-pub set-start : (s m : List ℕ) (c : Counts) (k b : ℕ) {l : List ℕ} → l ≡ code (program_view s m c) b → Setting s m c k b 0 l
+pub set-start : (s m : List ℕ) (c : Counts) (k b : ℕ) {l : List ℕ} → Within c.insns (code (program_view s m c) b) → l ≡ code (program_view s m c) b → Setting s m c k b 0 l
 unfolding sets_of
-set-start s m c k b {l} e =
+set-start s m c k b {l} w e =
     record {
-      within = subst (λ (l : List ℕ). Within c.insns l) (sym (e ∙ code_is s m c b)) (within_pick (λ j. eqb (insn_at m j).block.0 b) 0 c.insns c.insns (omega arith));
+      within = subst (λ (l : List ℕ). Within c.insns l) (sym e) w;
       sets = λ a h. ap (λ t. t || any (same (ivar_in s m k a)) (names_of (program_view s m c) l)) (holds-none a) ∙ ap (λ y. any (same (ivar_in s m k a)) (names_of (program_view s m c) y)) e;
       asked = ap (λ y. all_declared s m c k (names_of (program_view s m c) y)) e;
     }
@@ -303,10 +287,3 @@ module _ {s m : List ℕ} {c : Counts} {k n : ℕ} {w₀ w : List ℕ} {res i : 
           ends_on a
           ∙ (ap (λ u. (not u || holds a (bit_or o ins)) && all (at_end (program_view s m c)) (done_from w a i (n - i))) f
           ∙ (ap (λ u. holds a (bit_or o ins) && u) (z.ends a l) ∙ sym (holds-and a (bit_or o ins) res))))
-
-pub walked_placed : {m : List ℕ} {c : Counts} {b : ℕ} {w : List ℕ} {n : ℕ} → c.blocks ≤ order_at → Walked m c b w n → FlowPlaced c.blocks w n
-walked_placed few d = record { blocks = d.inside; few = omega (arith, d.few) }
-
-pub analyzed : (s : List ℕ) {m : List ℕ} {c : Counts} (k : ℕ) {b : ℕ} {w : List ℕ} {n : ℕ} (r : R.Result ℕ Refusal) → Walked m c b w n → SureIs s m c k (out_of w n) r
-    → SureIs s m c k (reverse_post_order (program_view s m c) b) r
-analyzed s {m} {c} k {b} {w} {n} r d y = subst (λ l. SureIs s m c k l r) (d.order s) y

@@ -6,17 +6,21 @@ ghost use Rattle.constructors.specs.firsts.Firsts.{PutsKinds, FirstIs, FirstsAre
 
 use crate::Flow;
 use ids::ClassId;
+use kinds::Kind;
 use refusals::Refusal;
 
 // The first kinds of n attributes: nothing for those in a set, else Nil. The bytes stand from one place on, the payloads from another.
+// Stays: bytes and payloads are two parts of the state's one lent memory, told apart by where they start, here and below.
 fn put_kinds(users: &mut [usize], tags: usize, payloads: usize, n: usize, bits: usize)
     requires n_le_ivars_most { n ≤ ivars_most }
     requires n_bound { (tags + n ≤ payloads) × (payloads + n ≤ length users.old) }
     ensures { PutsKinds tags payloads n bits users.old users.new }
 {
+    chains::fill(users, payloads, n, 0);
     for a in 0..n {
-        users[tags + a] = 1 - (bits >> a) % 2;
-        users[payloads + a] = 0;
+        let is_set = (bits >> a) % 2 != 0;
+        let kind = if is_set { Kind::Empty } else { Kind::Nil };
+        users[tags + a] = kind.tag();
     }
 }
 
@@ -34,13 +38,12 @@ pub fn first_kinds(
     ensures { FirstIs flow.now.indexed.program.script.now flow.now.indexed.program.words.now flow.now.indexed.program.counts k.0 tags payloads users.old users.new result }
 {
     let program = flow.indexed.program;
-    let class = k.0 as usize;
-    let n = program.words[program::CLASSES + program::CLASS_WORDS * class + 2];
+    let n = lookups::ivars_of(&program, k);
     let bits = match lookups::constructor_of(&program, k) {
         Some((f, _)) => flow.analyze_ctor(scratch, k, program.fun(f).entry)?,
         None => 0,
     };
-    let row = memory::IVARS_MOST * class;
+    let row = memory::IVARS_MOST * k.index();
     put_kinds(users, tags + row, payloads + row, n, bits);
     Ok(())
 }

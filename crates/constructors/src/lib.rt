@@ -74,6 +74,7 @@ impl Ends {
 impl<'a> Flow<'a> {
     // How block b ends: by its last instruction.
     fn end_of(&self, b: BlockId) -> Ends
+        // Stays: an id's bound is its program's count; no type of the id alone can say it.
         requires { b.0 < self.now.indexed.program.counts.blocks }
         ensures { Ended self.now.indexed.program.words.now self.now.indexed.program.counts b.0 result }
     {
@@ -84,6 +85,7 @@ impl<'a> Flow<'a> {
     }
 
     // Visits block b unless it was visited.
+    // Stays: there is no heap; the blocks done stand in lent memory, and their number goes through the walk's results.
     #[cycle(walk)]
     fn visit(&self, scratch: &mut [usize], n: usize, b: BlockId) -> usize
         requires walk_good { WalkGood self.now.indexed.program.counts.blocks scratch.old n }
@@ -91,7 +93,7 @@ impl<'a> Flow<'a> {
         ensures { WalkDid (visit_of self.now.indexed.program.words.now self.now.indexed.program.counts b.0) self.now.indexed.program.counts.blocks
             scratch.old n scratch.new result }
     {
-        if scratch[b.0 as usize] == 0 {
+        if scratch[b.index()] == 0 {
             self.walk(scratch, n, b)
         } else {
             n
@@ -107,7 +109,8 @@ impl<'a> Flow<'a> {
         ensures { WalkDid (walk_of self.now.indexed.program.words.now self.now.indexed.program.counts b.0) self.now.indexed.program.counts.blocks
             scratch.old n scratch.new result }
     {
-        scratch[b.0 as usize] = 1;
+        let at = b.index();
+        scratch[at] = 1;
         let k = match self.end_of(b) {
             Ends::Return | Ends::Open => n,
             Ends::Jump(t) => self.visit(scratch, n, t),
@@ -116,7 +119,7 @@ impl<'a> Flow<'a> {
                 self.visit(scratch, m, u)
             }
         };
-        scratch[ORDER + k] = b.0 as usize;
+        scratch[ORDER + k] = at;
         k + 1
     }
 
@@ -154,15 +157,12 @@ impl<'a> Flow<'a> {
         requires { k.0 < self.now.indexed.program.counts.classes }
         ensures { NamedIs self.now.indexed.program.script.now self.now.indexed.program.words.now self.now.indexed.program.counts k.0 name result }
     {
-        let script = self.indexed.program.script;
-        let words = self.indexed.program.words;
-        let class = k.0 as usize;
-        let row = program::IVARS + program::IVAR_ROW_WORDS * class;
+        let program = &self.indexed.program;
+        let wanted = program.name(name);
         let mut bits = 0;
-        for a in 0..words[program::CLASSES + program::CLASS_WORDS * class + 2] {
-            let at = row + 2 * a;
-            if lexer::same_name(script, words[at], words[at + 1], name.start, name.len) {
-                bits = bits | 1 << a;
+        for a in 0..lookups::ivars_of(program, k) {
+            if lookups::is_ivar(program, k, a, wanted) {
+                bits |= 1 << a;
             }
         }
         if bits == 0 { None } else { Some(bits) }
@@ -177,7 +177,7 @@ impl<'a> Flow<'a> {
         for i in self.indexed.code(b) {
             if let Op::SetIvar(name) = self.indexed.program.insn(i).op {
                 let places = self.named(k, name).ok_or(Refusal::UndeclaredAttribute)?;
-                bits = bits | places;
+                bits |= places;
             }
         }
         Ok(bits)

@@ -175,9 +175,6 @@ module _ {m : List ℕ} {c : Counts} (ok : ProgramReady m c) (a b : ℕ) (order 
         users-room ok M,
       )
 
-  pub copy_inside : b + uses_most ≤ length v → b + pos < length u
-  copy_inside room = omega (arith, z.len_same, copy_room)
-
   pub copy_more : b + uses_most ≤ length v → Copying m c.insns a b w v (set u (b + pos) (get_or w (items_at + h) 0)) j (pos + 1) (get_or w (links_at + h) 0)
   copy_more room =
       let here : b + users_to m M j + length z.front ≡ b + pos = omega (arith, z.pos_is) in

@@ -6,7 +6,7 @@ use Prim.Native.Nat.{ℕ, zero, suc, ◌+◌, ◌-◌, ◌*◌, ◌≤◌, ◌<�
 use native.Mathlib.Decide.{ℕ_discrete}
 use native.Mathlib.Numerals.{add-one}
 use native.Mathlib.Omega.{arith}
-use borrow.Author.Tests.{both_ways, eqb-true, eqb-false, eq-eqb, ne_eqb, lt-ltb, le-ltb}
+use borrow.Author.Tests.{both_ways, eqb-true, eqb-false, eq-eqb, ne_eqb, lt-ltb, le-ltb, ltb-true, ltb-false}
 use lib.ListN.{length, get_or, set, length-set}
 use lib.Seq.{get_or-set_same, get_or-set_other}
 use Rattle.rules.specs.Lists.{any, cons_if}
@@ -14,7 +14,7 @@ use Rattle.program.specs.Tab.{tab}
 use Rattle.rules.specs.Program as P
 use Rattle.program.specs.Rows.{opnds_in, opnd_at, opnd_of, nth, insn_at}
 use Rattle.program.proofs.Reading.{operand_read}
-use Rattle.std.specs.Prelude.{Option, Some, None, unwrap_or, is_some, nat_eq}
+use Rattle.std.specs.Prelude.{Option, Some, None, unwrap_or, is_some, nat_eq, ltb}
 use Rattle.std.specs.Option.{option_eq}
 use Rattle.program.specs.View.{ProgramReady}
 use Rattle.program.specs.declared.Counts.{Counts}
@@ -42,6 +42,21 @@ first_some w h g = rw (lt-ltb h uses_most g)
 pub first-none : (w : List ℕ) (h : ℕ) → uses_most ≤ h → None ≡ first_of w h
 unfolding first_of
 first-none w h g = rw (le-ltb h uses_most g)
+
+module _ (w : List ℕ) (h : ℕ) {r : Option ℕ} (d : r ≡ first_of w h) where
+  pub cell_some : {i : ℕ} → r ≡ Some i → (h < uses_most) × (i ≡ get_or w (items_at + h) 0)
+  cell_some {i} e = go (ltb h uses_most) refl
+    where
+      go : (t : 𝔹) → ltb h uses_most ≡ t → (h < uses_most) × (i ≡ get_or w (items_at + h) 0)
+      go true p = let g = ltb-true h uses_most p in (g, ap (λ o. unwrap_or o 0) (sym e ∙ d ∙ sym (first_some w h g)))
+      go false p = absurd (both_ways false refl (ap is_some (first-none w h (ltb-false h uses_most p) ∙ sym d ∙ e)))
+
+  pub cell_none : r ≡ None → uses_most ≤ h
+  cell_none e = go (ltb h uses_most) refl
+    where
+      go : (t : 𝔹) → ltb h uses_most ≡ t → uses_most ≤ h
+      go true p = absurd (both_ways false refl (ap is_some (sym e ∙ d ∙ sym (first_some w h (ltb-true h uses_most p)))))
+      go false p = ltb-false h uses_most p
 
 -- the test for a user
 same_some : (o : Option ℕ) (i : ℕ) → option_eq nat_eq o (Some i) ≡ true → o ≡ Some i

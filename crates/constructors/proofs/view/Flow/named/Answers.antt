@@ -1,24 +1,36 @@
 -- `constructors::view::Flow::named` meets its contract. Assumes nothing.
+use mathlib.Core.Path.{◌≡◌}
 use native.Mathlib.Omega.{arith}
+use Rattle.program.specs.Rows.{ivars_of}
+use Rattle.lookups.specs.Look.{is_ivar, ivar_row}
 use Rattle.ids.proofs.Bits.{one_shl}
-use Rattle.constructors.proofs.Naming.{name-start, name-skip, name-more, name_none, name_some, ivar_room}
-use Rattle.constructors.proofs.view.Flow.named.Goals.{then-same_name, else-same_name}
+use Rattle.constructors.proofs.Naming.{name-start, name-skip, name-more, name_none, name_some}
+use Rattle.constructors.proofs.view.Flow.named.Goals.{then-is_ivar, else-is_ivar}
 use Rattle.constructors.proofs.view.Flow.named.Goals as goal
 
 pub loop-a-init : goal.loop-a-init
 loop-a-init c = name-start _ _ _ _ _
 
+pub is_ivar-requires : goal.is_ivar-requires
+is_ivar-requires c = omega (arith, c.args.self.now.indexed.program.ready.classes, c.args.self.now.indexed.program.ready.ivars _ c.requires)
+
 pub loop-a-preserved : goal.loop-a-preserved
+unfolding is_ivar ivar_row
 loop-a-preserved c =
-    elim c.if-same_name.branch [
-      | then-same_name w ↦ rw w.bits-is
-          (name-more c.loop-a.invariant (omega arith) c.same_name.ensures
-          (one_shl 64 c.loop-a.a (ivar_room c.args.self.now.indexed.program.ready c.requires c.loop-a.a (omega arith)).1) w.if-same_name.true)
-      | else-same_name w ↦ rw w.bits-is (name-skip c.loop-a.invariant (omega arith) c.same_name.ensures w.if-same_name.false)
+    let same = rw (c.name-wanted.ensures) at c.is_ivar.ensures in
+    elim c.if-is_ivar.branch [
+      | then-is_ivar w ↦ rw w.bits-is
+          (name-more c.loop-a.invariant (omega arith) same
+          (one_shl 64 c.loop-a.a (omega (arith, c.args.self.now.indexed.program.ready.ivars _ c.requires, c.ivars_of-a-end.ensures))) w.if-is_ivar.true)
+      | else-is_ivar w ↦ rw w.bits-is (name-skip c.loop-a.invariant (omega arith) same w.if-is_ivar.false)
     ]
 
 pub returns-then-bits-eq0 : goal.returns-then-bits-eq0
-returns-then-bits-eq0 c = name_none _ c.loop-a.invariant (omega (arith, c.loop-a.invariant.high)) c.requires c.if-bits-eq0.true
+returns-then-bits-eq0 c =
+    let end : c.loop-a.a ≡ ivars_of c.args.self.now.indexed.program.words.now c.args.k.0 = omega (arith, c.loop-a.invariant.high, c.ivars_of-a-end.ensures) in
+    name_none _ c.loop-a.invariant end c.requires c.if-bits-eq0.true
 
 pub returns-else-bits-eq0 : goal.returns-else-bits-eq0
-returns-else-bits-eq0 c = name_some _ c.loop-a.invariant (omega (arith, c.loop-a.invariant.high)) c.requires c.if-bits-eq0.false
+returns-else-bits-eq0 c =
+    let end : c.loop-a.a ≡ ivars_of c.args.self.now.indexed.program.words.now c.args.k.0 = omega (arith, c.loop-a.invariant.high, c.ivars_of-a-end.ensures) in
+    name_some _ c.loop-a.invariant end c.requires c.if-bits-eq0.false
