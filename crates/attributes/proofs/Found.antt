@@ -24,6 +24,7 @@ use Rattle.program.specs.Rows.{name_in}
 use Rattle.program.specs.Rows as Rows
 use Rattle.program.specs.View as Prog
 use Rattle.program.proofs.Tables.{tab-length}
+use Rattle.memory.specs.Layout.{ivars_most}
 use Rattle.lookups.specs.Look.{ivar_found, ivar_row}
 use Rattle.lookups.proofs.Rows.{ivars_are}
 use Rattle.state.specs.declared.Sizes.{Sizes}
@@ -44,7 +45,7 @@ module _ (s m : List ℕ) (c : Counts) (x : ℕ) (n : Name) {r : Option ℕ} (f 
   unfolding ivar_named
   inside {a} e = (places-∈ [] (λ (y : P.Name). same y (name_in s n)) (class (Prog.program_view s m c) x).ivars a (first_in _ (placed e))).0
 
-  pub at_low : {z : Sizes} {a : ℕ} → StateMatches z m c → x < z.classes → r ≡ Some a → a < 64
+  at_low : {z : Sizes} {a : ℕ} → StateMatches z m c → x < z.classes → r ≡ Some a → a < 64
   at_low {z} {a} y lt e =
       let k = y.classes in
       let g : x < c.classes = omega arith in
@@ -63,6 +64,11 @@ module _ (s m : List ℕ) (c : Counts) (x : ℕ) (n : Name) {r : Option ℕ} (f 
 
     pub no_place : r ≡ None → ivar_named p x (name_in s n) ≡ none
     no_place e = ap (λ (y : Program). ivar_named y x (name_in s n)) h.program ∙ sym f ∙ ap ivar_found e
+
+-- the place that a look-up found is one of the class's row
+pub ivar_there : (s : List ℕ) {m : List ℕ} {c : Counts} {x : ℕ} (n : Name) {r : Option ℕ} {z : Sizes} {a : ℕ} → ivar_found r ≡ ivar_named (Prog.program_view s m c) x (name_in s n)
+    → StateMatches z m c → x < z.classes → r ≡ Some a → (x < z.classes) × (a < ivars_most)
+ivar_there s {m} {c} {x} n f y lt e = (lt, at_low s m c x n f y lt e)
 
 -- ---- read_one
 

@@ -1,3 +1,4 @@
+pub mod Classes
 pub mod Marks
 pub mod Found
 pub mod Woken

@@ -12,10 +12,10 @@ use Rattle.program.specs.Rows.{opnd_of}
 use Rattle.state.specs.declared.State.{State}
 use Rattle.state.specs.Changes.{Every}
 use Rattle.state.specs.Methods.{Put, Did}
-use Rattle.std.specs.Prelude.{Result, Ok, Err}
+use Rattle.std.specs.Prelude.{Result, Ok}
 use Rattle.refusals.specs.declared.Refusal.{Refusal}
 use Rattle.machine.specs.receivers.Receivers.{Receives}
-use Rattle.machine.proofs.receivers.Walk.{Walking, Going, going_start, going_put, going_done, walk-on, did-met, did_unmet}
+use Rattle.machine.proofs.receivers.Walk.{Walking, Going, going_put, going_done, walk-on, did-met}
 use Rattle.attributes.specs.Attributes.{mark_reads}
 
 abbrev pub marks : ℕ → Limits → Program → ℕ → Acts (Unit {0})
@@ -24,9 +24,6 @@ marks i L p c = change (add_read c i)
 pub record Marking (i c₀ : ℕ) (s₀ s : State) (c : ℕ) : Type 0 where
   pub walking : Walking s₀.sizes.classes c
   pub going : Going Every (marks i) c₀ c s₀ s
-
-pub marking_start : (i : ℕ) {c : ℕ} (s : State) → Walking s.sizes.classes c → Marking i c s s c
-marking_start i {c} s w = record { walking = w; going = going_start Every (marks i) c s }
 
 module _ {i c₀ : ℕ} {s₀ s : State} {c : ℕ} (g : Marking i c₀ s₀ s c) where
   pub marking_more : {x d : ℕ} {t : State} → Step c x d → Put (add_read x i) s t → Marking i c₀ s₀ t d
@@ -40,6 +37,3 @@ module _ {i c₀ : ℕ} {s₀ s : State} {c : ℕ} (g : Marking i c₀ s₀ s c)
 module _ (s : State) (i : ℕ) (o : Opnd) {r : Result ℕ Refusal} (d : Receives s.sizes s.words.now o r) where
   pub marks_met : {c : ℕ} {t : State} → r ≡ Ok c → Did Every (λ L p. each (members_of c) (λ x. change (add_read x i))) s t (Ok tt) → Did Every (λ L p. mark_reads i (opnd_of o)) s t (Ok tt)
   marks_met e f = did-met s o d Every (λ L p cs. each cs (λ x. change (add_read x i))) (Ok tt) e f
-
-  pub marks_unmet : {x : Refusal} → r ≡ Err x → Did Every (λ L p. mark_reads i (opnd_of o)) s s (Err x)
-  marks_unmet e = did_unmet s o d Every (λ L p cs. each cs (λ x. change (add_read x i))) e

@@ -32,7 +32,7 @@ use Rattle.machine.proofs.opnds.Given.{kind_of_lem}
 use Rattle.refusals.specs.declared.Refusal.{Refusal}
 use Rattle.refusals.specs.Refusals.{number_of as question_of}
 use Rattle.machine.specs.receivers.Receivers.{StateMatches, Receives}
-use Rattle.machine.proofs.receivers.Walk.{did-met, did_unmet}
+use Rattle.machine.proofs.receivers.Walk.{did-met}
 use Rattle.attributes.specs.Attributes.{ProgramIs, set_ivars, wake_reads}
 use Rattle.attributes.proofs.Found.{at_place, at_counted, no_place}
 
@@ -102,6 +102,3 @@ module _ (s pm : List ℕ) (pc : Counts) (st : S.State) (n : Name) (o v : Opnd) 
       did-met st o d (ProgramIs s pm pc) widens a e
       (along_last (along_start st) a g (λ p u h. h)
       (λ L room p u h. ap (λ (y : Kind). each (members_of c) (set_ivar L p (name_in s n) y) (view u st)) (kind_of_lem (view u st) (opnd_of v) ∙ sym ek)))
-
-  pub set_unmet : {x : Refusal} → r ≡ Err x → Did (ProgramIs s pm pc) (λ L p. set_ivars L p (name_in s n) (opnd_of o) (opnd_of v)) st st (Err x)
-  set_unmet e = did_unmet st o d (ProgramIs s pm pc) widens e

@@ -12,8 +12,8 @@ ghost use Rattle.program.specs.View.{program_view};
 ghost use Rattle.state.specs.Changes.{Every};
 ghost use Rattle.state.specs.Methods.{Did};
 ghost use Rattle.machine.specs.opnds.Reads.{OperandInside, StateReads};
-ghost use Rattle.machine.specs.receivers.Receivers.{StateMatches, ClassesBelow, ReceiverWithin};
-ghost use Rattle.attributes.specs.Attributes.{ProgramIs, mark_reads, read_ivars, set_ivars, op_gets, push_if, wake_reads};
+ghost use Rattle.machine.specs.receivers.Receivers.{ClassesBelow, ReceiverWithin};
+ghost use Rattle.attributes.specs.Attributes.{ProgramOf, Matches, mark_reads, read_ivars, set_ivars, wake_reads};
 
 use ids::{ClassId, InsnId};
 use kinds::Kind;
@@ -24,19 +24,20 @@ use state::State;
 // ---- a read: it met the classes, then the union of the attribute's kinds
 
 // Instruction i is a read that met each class of a set.
+// Stays: these clauses bound a set, an instruction, a class or an operand by the state's sizes, or tie the state to the program, and the two are lent apart:
+// no value holds both.
 fn mark_each(state: &mut State, set: u64, i: InsnId)
     requires classes_below { ClassesBelow state.old.sizes.classes set }
     requires i_lt_insns { i.0 < state.old.sizes.insns }
     ensures { Did Every (λ L p. each (members_of set) (λ c. change (add_read c i.0))) state.old state.new (Ok tt) }
 {
-    let mut left = set;
-    while let Some((c, rest)) = ids::smallest(left) {
+    for c in ids::classes(set) {
         state.add_read(c, i);
-        left = rest;
     }
 }
 
 // Instruction i is a read that met the receiver's classes, or 14.
+#[tactic(auto, using(crate::proofs::Classes::receiver_below))]
 pub fn mark_reads(state: &mut State, i: InsnId, o: Opnd) -> Result<(), Refusal>
     requires i_lt_insns { i.0 < state.old.sizes.insns }
     requires operand_inside { OperandInside state.old.sizes o }
@@ -49,40 +50,38 @@ pub fn mark_reads(state: &mut State, i: InsnId, o: Opnd) -> Result<(), Refusal>
 }
 
 // The union of k with the attribute's kind in one class, or 15.
+#[tactic(auto, using(crate::proofs::Classes::class_counted))]
 fn read_one(program: &Program, state: &State, n: Name, k: Kind, x: ClassId) -> Result<Kind, Refusal>
-    requires state_matches { StateMatches state.now.sizes program.now.words.now program.now.counts }
+    requires state_matches { Matches program.now state.now }
     requires x_lt_classes { x.0 < state.now.sizes.classes }
-    ensures { StateReads state.now.sizes (ProgramIs program.now.script.now program.now.words.now program.now.counts)
+    ensures { StateReads state.now.sizes (ProgramOf program.now)
         (λ L P. get_ivar L P (name_in program.now.script.now n) k x.0) state.now.words.now result }
 {
-    match lookups::ivar_named(program, x, n) {
-        Some(a) => kinds::union(k, state.ivar_at(x, a)),
-        None => Err(Refusal::UnknownMember),
-    }
+    let place = lookups::ivar_named(program, x, n).ok_or(Refusal::UnknownMember)?;
+    kinds::union(k, state.ivar_at(x, place))
 }
 
 // The union of the attribute's kinds in the classes of a set.
 fn read_each(program: &Program, state: &State, n: Name, set: u64) -> Result<Kind, Refusal>
-    requires state_matches { StateMatches state.now.sizes program.now.words.now program.now.counts }
+    requires state_matches { Matches program.now state.now }
     requires classes_below { ClassesBelow state.now.sizes.classes set }
-    ensures { StateReads state.now.sizes (ProgramIs program.now.script.now program.now.words.now program.now.counts)
+    ensures { StateReads state.now.sizes (ProgramOf program.now)
         (λ L P. fold (get_ivar L P (name_in program.now.script.now n)) Kind.Empty (members_of set)) state.now.words.now result }
 {
     let mut k = Kind::Empty;
-    let mut left = set;
-    while let Some((x, rest)) = ids::smallest(left) {
+    for x in ids::classes(set) {
         k = read_one(program, state, n, k, x)?;
-        left = rest;
     }
     Ok(k)
 }
 
 // The kind that a read of attribute n of receiver o gives, or 14, 15 or 19.
+#[tactic(auto, using(crate::proofs::Classes::receiver_below))]
 pub fn read_ivar(program: &Program, state: &State, n: Name, o: Opnd) -> Result<Kind, Refusal>
-    requires state_matches { StateMatches state.now.sizes program.now.words.now program.now.counts }
+    requires state_matches { Matches program.now state.now }
     requires operand_inside { OperandInside state.now.sizes o }
     requires receiver_within { ReceiverWithin state.now.sizes state.now.words.now o }
-    ensures { StateReads state.now.sizes (ProgramIs program.now.script.now program.now.words.now program.now.counts)
+    ensures { StateReads state.now.sizes (ProgramOf program.now)
         (λ L P. read_ivars L P (name_in program.now.script.now n) (opnd_of o)) state.now.words.now result }
 {
     let set = machine::receivers::classes_of(state, o)?;
@@ -91,50 +90,37 @@ pub fn read_ivar(program: &Program, state: &State, n: Name, o: Opnd) -> Result<K
 
 // ---- a setting: the attribute is widened in each class
 
-// Whether an instruction of a sort reads attribute n.
-fn op_gets(script: &[u8], op: Op, n: Name) -> bool
-    ensures { result ≡ op_gets script.now (name_in script.now n) op }
-{
-    match op {
-        Op::GetIvar(x) => lexer::same_name(script, x.start, x.len, n.start, n.len),
-        _ => false,
-    }
-}
-
+// Whether instruction i reads attribute n.
 fn gets(program: &Program, i: InsnId, n: Name) -> bool
     requires { i.0 < program.now.counts.insns }
     ensures { result ≡ is_just_name (about (op_of (program_view program.now.script.now program.now.words.now program.now.counts) i.0)).gets (name_in program.now.script.now n) }
 {
-    op_gets(program.script, program.insn(i).op, n)
-}
-
-// Instruction i waits where `yes` says so.
-fn push_if(state: &mut State, yes: bool, i: InsnId) -> Result<(), Refusal>
-    requires { i.0 < state.old.sizes.insns }
-    ensures { Did Every (λ L p. push_if L p yes i.0) state.old state.new result }
-{
-    if yes {
-        return state.push_insn(i);
+    match program.insn(i).op {
+        Op::GetIvar(x) => lexer::same_bytes(program.name(x), program.name(n)),
+        _ => false,
     }
-    Ok(())
 }
 
 // The reads of attribute n that met class x wait.
 fn wake_reads(program: &Program, state: &mut State, n: Name, x: ClassId) -> Result<(), Refusal>
-    requires state_matches { StateMatches state.old.sizes program.now.words.now program.now.counts }
+    requires state_matches { Matches program.now state.old }
     requires x_lt_classes { x.0 < state.old.sizes.classes }
-    ensures { Did (ProgramIs program.now.script.now program.now.words.now program.now.counts)
+    ensures { Did (ProgramOf program.now)
         (λ L P. wake_reads L P x.0 (name_in program.now.script.now n)) state.old state.new result }
 {
+    // Stays: no iterator over the reads, since the state is changed within the loop, so that nothing may borrow them meanwhile.
     let mut from = InsnId(0);
     while let Some(i) = state.next_read(x, from) {
-        push_if(state, gets(program, i, n), i)?;
+        if gets(program, i, n) {
+            state.push_insn(i)?;
+        }
         from = InsnId(i.0 + 1);
     }
     Ok(())
 }
 
 // Attribute n of class x is widened by k, and its reads that met the class wait if this changes it; or 15.
+#[tactic(auto, using(crate::proofs::Classes::class_counted))]
 fn widen_one(
     program: &Program,
     state: &mut State,
@@ -142,23 +128,19 @@ fn widen_one(
     k: Kind,
     x: ClassId,
 ) -> Result<(), Refusal>
-    requires state_matches { StateMatches state.old.sizes program.now.words.now program.now.counts }
+    requires state_matches { Matches program.now state.old }
     requires x_lt_classes { x.0 < state.old.sizes.classes }
-    ensures { Did (ProgramIs program.now.script.now program.now.words.now program.now.counts)
+    ensures { Did (ProgramOf program.now)
         (λ L P. set_ivar L P (name_in program.now.script.now n) k x.0) state.old state.new result }
 {
-    match lookups::ivar_named(program, x, n) {
-        Some(a) => {
-            let old = state.ivar_at(x, a);
-            let union = kinds::union(old, k)?;
-            if union == old {
-                return Ok(());
-            }
-            state.set_ivar(x, a, union);
-            wake_reads(program, state, n, x)
-        }
-        None => Err(Refusal::UnknownMember),
+    let a = lookups::ivar_named(program, x, n).ok_or(Refusal::UnknownMember)?;
+    let old = state.ivar_at(x, a);
+    let union = kinds::union(old, k)?;
+    if union == old {
+        return Ok(());
     }
+    state.set_ivar(x, a, union);
+    wake_reads(program, state, n, x)
 }
 
 fn widen_each(
@@ -168,20 +150,19 @@ fn widen_each(
     k: Kind,
     set: u64,
 ) -> Result<(), Refusal>
-    requires state_matches { StateMatches state.old.sizes program.now.words.now program.now.counts }
+    requires state_matches { Matches program.now state.old }
     requires classes_below { ClassesBelow state.old.sizes.classes set }
-    ensures { Did (ProgramIs program.now.script.now program.now.words.now program.now.counts)
+    ensures { Did (ProgramOf program.now)
         (λ L P. each (members_of set) (set_ivar L P (name_in program.now.script.now n) k)) state.old state.new result }
 {
-    let mut left = set;
-    while let Some((x, rest)) = ids::smallest(left) {
+    for x in ids::classes(set) {
         widen_one(program, state, n, k, x)?;
-        left = rest;
     }
     Ok(())
 }
 
 // Attribute n of receiver o is widened by the kind of v in each class, or 14, 15, 19 or 20.
+#[tactic(auto, using(crate::proofs::Classes::receiver_below))]
 pub fn set_ivar(
     program: &Program,
     state: &mut State,
@@ -189,10 +170,10 @@ pub fn set_ivar(
     o: Opnd,
     v: Opnd,
 ) -> Result<(), Refusal>
-    requires state_matches { StateMatches state.old.sizes program.now.words.now program.now.counts }
+    requires state_matches { Matches program.now state.old }
     requires operand_inside { OperandInside state.old.sizes o × OperandInside state.old.sizes v }
     requires receiver_within { ReceiverWithin state.old.sizes state.old.words.now o }
-    ensures { Did (ProgramIs program.now.script.now program.now.words.now program.now.counts)
+    ensures { Did (ProgramOf program.now)
         (λ L P. set_ivars L P (name_in program.now.script.now n) (opnd_of o) (opnd_of v)) state.old state.new result }
 {
     let k = machine::opnds::kind_of(state, v);

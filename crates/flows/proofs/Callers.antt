@@ -1,14 +1,14 @@
 -- The arguments of a function's callers, and a Param's kind. Assumes nothing.
 use Rattle.std.specs.Prelude.{Ok as Of, Some as Set, None as Other, Option, Some, None as Done}
 use mathlib.Core.Bool.{Bool as 𝔹, true, false, cond, ◌||◌}
-use mathlib.Core.Path.{◌≡◌, refl, sym, ap, subst, ◌∙◌}
+use mathlib.Core.Path.{◌≡◌, refl, sym, ap, ◌∙◌}
 use mathlib.Core.Option.{none, some}
 use mathlib.Core.List.{List, [], ◌∷◌, map}
 use Prim.Native.Nat.{ℕ, zero, suc, ◌+◌, ◌-◌, ◌*◌, ◌≤◌, ◌<◌}
 use native.Mathlib.Numerals.{add-one}
 use native.Mathlib.Omega.{arith}
 use borrow.Author.Tests.{ltb-true, ltb-false, ne_eqb}
-use mir.Syntax.{w32, w64}
+use mir.Syntax.{w32}
 use mir.Val.{Fits as FitsIn, bool_byte}
 use lib.Bits.{bit_or}
 use lib.Dec.{ltb, eqb}
@@ -32,6 +32,7 @@ use Rattle.program.specs.declared.Op.TheVariants.{Param as ParamOp}
 use Rattle.program.specs.declared.Opnd.{Opnd}
 use Rattle.program.specs.declared.Opnd.TheVariants.{Const, Insn}
 use Rattle.program.specs.declared.Counts.{Counts}
+use Rattle.program.specs.declared.reader.Program.{Program as Tables}
 use Rattle.program.specs.Rows.{opnd_of, opnds_in, op_in, op_from}
 use Rattle.program.specs.View.{program_view, ProgramReady}
 use Rattle.program.proofs.Areas.{given-length}
@@ -44,9 +45,8 @@ use Rattle.machine.specs.opnds.Reads.{OperandInside, kind_in, StateReads}
 use Rattle.machine.proofs.opnds.Given.{kind_of_lem}
 use Rattle.program.specs.Layout.{insns_at, opnds_at, insn_words}
 use Rattle.flows.specs.declared.Pass.{Pass}
-use Rattle.flows.specs.declared.Tally.TheVariants.{Nothing as None}
 use Rattle.flows.specs.Tally.{Nothing, least, taken_all, finish, union_over, FitsAt, TallyFits}
-use Rattle.flows.specs.Flows.{AsSet, tally_of, Passed, Argues, ArguesAt, FlowsSound, FlowsKnown, PassedIn, as_set, join_sets, SetsFrom, ParamIs}
+use Rattle.flows.specs.Flows.{AsSet, tally_of, Passed, Argues, ArguesAt, FlowsSound, FlowsKnown, PassedIn, pass_before, ByPasses, as_set, join_sets, SetsFrom, ParamIs}
 use Rattle.flows.proofs.Whole.{union-over}
 use Rattle.flows.proofs.Sets.{sets-union}
 use Rattle.flows.proofs.Standing.{stands, stands_none}
@@ -107,13 +107,13 @@ skip-from (suc (suc (suc (suc (suc (suc (suc (suc (suc (suc (suc (suc (suc zero)
 skip-from (suc (suc (suc (suc (suc (suc (suc (suc (suc (suc (suc (suc (suc (suc n)))))))))))))) x y =
     ap bool_byte (ne_eqb (suc (suc (suc (suc (suc (suc (suc (suc (suc (suc (suc (suc (suc (suc n)))))))))))))) 4 (λ e. omega arith))
 
-skip-small : (b : 𝔹) → bool_byte b ≤ 1
-skip-small true = omega arith
-skip-small false = omega arith
-
 -- the words of i's row
-pub row-range : (m : List ℕ) (c : Counts) (i : ℕ) → ProgramReady m c → i < c.insns → get_or m (insns_at + insn_words * i + 4) 0 + get_or m (insns_at + insn_words * i + 5) 0 ≤ opnds_at
-row-range m c i r below = let a = (insn_read i r below refl).range in let b = r.opnds in let d = r.listed in let e = r.insns in omega arith
+pub row_range : (m : List ℕ) (c : Counts) (i : ℕ) → ProgramReady m c → i < c.insns → get_or m (insns_at + insn_words * i + 4) 0 + get_or m (insns_at + insn_words * i + 5) 0 ≤ opnds_at
+row_range m c i r below = let a = (insn_read i r below refl).range in let b = r.opnds in let d = r.listed in let e = r.insns in omega arith
+
+pub row_inside : (p : Tables) (i : ℕ) → i < p.counts.insns
+    → get_or p.words.now (insns_at + insn_words * i + 4) 0 + get_or p.words.now (insns_at + insn_words * i + 5) 0 ≤ opnds_at
+row_inside p i = row_range p.words.now p.counts i p.ready
 
 module _ (m : List ℕ) (c : Counts) (i n : ℕ) (r : ProgramReady m c) (below : i < c.insns) where
   abbrev first : ℕ
@@ -127,12 +127,6 @@ module _ (m : List ℕ) (c : Counts) (i n : ℕ) (r : ProgramReady m c) (below :
 
   abbrev given : List P.Opnd
   given = map opnd_of (opnds_in m (opnds_at + 2 * first) count)
-
-  pub skip-fits : n < count → FitsIn w64 (skip + n)
-  skip-fits lt = record { fits = let a = row-range m c i r below in let b = skip-small (eqb (get_or m (insns_at + insn_words * i) 0) 4) in omega arith }
-
-  pub place-fits : skip + n < count → (x : ℕ) → x ≤ opnds_at + 2 * first + 2 * (skip + n) → FitsIn w64 x
-  place-fits lt x le = record { fits = let a = row-range m c i r below in omega arith }
 
   argument_is : (L : Limits) (s : List ℕ) → has (about (op_of (program_view s m c) i)).callee ≡ true → argument L (program_view s m c) n i ≡ get_or given (skip + n) (P.Const Empty)
   argument_is L s h =
@@ -153,7 +147,7 @@ module _ (m : List ℕ) (c : Counts) (i n : ℕ) (r : ProgramReady m c) (below :
           ∙ at-any given (skip + n) (P.Const Nil) (P.Const Empty) (let k = given-length m (opnds_at + 2 * first) count in omega arith)
           ∙ sym (argument_is L s h);
     };
-    inside = let a = row-range m c i r below in let b = r.len_mem in omega arith;
+    inside = let a = row_range m c i r below in let b = r.len_mem in omega arith;
   }
 
   pub argument-none : count ≤ skip + n → ArguesAt m c i n 0
@@ -270,8 +264,8 @@ finish-same ks n a (Rattle.flows.specs.Tally.One w j) = refl
 finish-same ks n a (Rattle.flows.specs.Tally.Many j) = refl
 
 -- two passes over the same operands come to the union of their set
-pub two_passes : (ks : List Kind) (n : ℕ) (l : List P.Opnd) {x y : Pass} {r : Joined} → Passed ks l (record { bound = n; least = n; tally = None }) x
-    → Passed ks l (record { bound = x.least; least = x.least; tally = None }) y → r ≡ finish [] n x.least (tally_of y.tally) → TallyFits n l
+pub two_passes : (ks : List Kind) (n : ℕ) (l : List P.Opnd) {x y : Pass} {r : Joined} → Passed ks l (pass_before n) x
+    → Passed ks l (pass_before x.least) y → r ≡ finish [] n x.least (tally_of y.tally) → TallyFits n l
     → r ≡ union_all Empty (map (kind_in ks) (opnd_set l))
 unfolding union_over
 two_passes ks n l {x} {y} {r} px py e f =
@@ -295,22 +289,14 @@ param_union m c z w f n {r} h i = record {
       rw g.program (ap (λ (j : Joined). lift (to_answer j) s) (k ∙ ap (λ (o : List P.Opnd). union_all Empty (map (kind_of s) (opnd_set o))) b) ∙ sym (param_is L u i n s g.op));
 }
 
-pub param_kind : (m : List ℕ) (c : Counts) (z : Sizes) (w : List ℕ) (f n : ℕ) {x y : Pass} {r : Joined}
-    → PassedIn m c z w f n 0 (record { bound = z.insns; least = z.insns; tally = None }) x
-    → PassedIn m c z w f n 0 (record { bound = x.least; least = x.least; tally = None }) y
-    → r ≡ finish [] z.insns x.least (tally_of y.tally)
+pub param_kind : (m : List ℕ) (c : Counts) (z : Sizes) (w : List ℕ) (f n : ℕ) {walks : Pass → Pass → Type 0} {r : Joined}
+    → ((x y : Pass) → walks x y → PassedIn m c z w f n 0 x y) → ByPasses z.insns walks r
     → (i : ℕ) → StateReads z (ParamIs m c z (called_of z w) i f n) (λ L p. rule L p i (Param n)) w r
-param_kind m c z w f n px py e =
+param_kind m c z w f n h g =
     param_union m c z w f n (λ L u so.
     let l = map (argument L (program_view u m c) n) (marks_from (called_of z w) f 0) in
-    two_passes (kinds_of z w) z.insns l (px.passed L u so) (py.passed L u so) e (arguments_fit L (program_view u m c) z (called_of z w) n (marks_from (called_of z w) f 0) so))
-
--- where the first pass finds no Any, a second would take the same
-pub param_once : (m : List ℕ) (c : Counts) (z : Sizes) (w : List ℕ) (f n : ℕ) {x : Pass} {r : Joined}
-    → PassedIn m c z w f n 0 (record { bound = z.insns; least = z.insns; tally = None }) x → x.least ≡ z.insns → r ≡ finish [] z.insns x.least (tally_of x.tally)
-    → (i : ℕ) → StateReads z (ParamIs m c z (called_of z w) i f n) (λ L p. rule L p i (Param n)) w r
-param_once m c z w f n {x} px e =
-    param_kind m c z w f n px (subst (λ (a : ℕ). PassedIn m c z w f n 0 (record { bound = a; least = a; tally = None }) x) (sym e) px)
+    two_passes (kinds_of z w) z.insns l ((h _ _ g.first).passed L u so) ((h _ _ g.again).passed L u so) g.is
+    (arguments_fit L (program_view u m c) z (called_of z w) n (marks_from (called_of z w) f 0) so))
 
 pub param_set : (m : List ℕ) (c : Counts) (z : Sizes) (w : List ℕ) (f n : ℕ) {x : AsSet} {s : ℕ} → SetsFrom m c z w f n 0 false 0 x → x ≡ Set s → 0 < s
     → (i : ℕ) → StateReads z (ParamIs m c z (called_of z w) i f n) (λ L p. rule L p i (Param n)) w (Of (Objects s))

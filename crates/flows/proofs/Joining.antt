@@ -1,9 +1,11 @@
 -- join_sets at the heads of its loops. Assumes nothing.
+use Rattle.std.specs.Int.{div_ceil}
+use Rattle.std.proofs.lemmas.Grind.{div_ceil_times}
 use Rattle.std.specs.Prelude.{Some as Set, None as Other}
 use mathlib.Core.Bool.{Bool as 𝔹, true, false, cond, ◌||◌, or-false}
 use mathlib.Core.Path.{◌≡◌, refl, sym, ap, ap₂, ◌∙◌}
 use mathlib.Core.List.{List, [], ◌∷◌, ◌++◌, map}
-use Prim.Native.Nat.{ℕ, zero, suc, ◌+◌, ◌-◌, ◌*◌, ◌≤◌, ◌<◌}
+use Prim.Native.Nat.{ℕ, zero, suc, ◌+◌, ◌*◌, ◌≤◌, ◌<◌}
 use native.Mathlib.Omega.{arith}
 use mir.Syntax.{w32, w64}
 use mir.Val.{Fits}
@@ -228,17 +230,19 @@ module _ {z : Sizes} {w : List ℕ} (h : StateHeld z w) (k : ℕ) where
   pub word_below : k * 64 < z.insns → k < 32
   word_below lt = let e = h.insns in omega arith
 
-  pub word-falls : k * 64 < z.insns → 32 - (k + 1) < 32 - k
-  word-falls lt = let e = word_below lt in omega arith
-
-  pub next_fits : k * 64 < z.insns → Fits w64 (k + 1)
-  next_fits lt = let e = word_below lt in record { fits = omega arith }
-
   pub caller_fits32 : k < z.insns → Fits w32 k
   caller_fits32 lt = let e = h.insns in record { fits = omega arith }
 
   pub caller_fits64 : k < z.insns → Fits w64 k
   caller_fits64 lt = let e = h.insns in record { fits = omega arith }
+
+-- as many words as hold n bits
+module _ {n e k : ℕ} (is : e ≡ div_ceil n 64) where
+  pub word_within : k < e → k * 64 < n
+  word_within lt = let b = div_ceil_times n 64 (omega arith) in omega (arith, b.1, is)
+
+  pub words_past : e ≤ k → n ≤ k * 64
+  words_past le = let b = div_ceil_times n 64 (omega arith) in omega (arith, b.0, is)
 
 pub word_some : {v : ℕ} → (v ≡ 0 → ⊥) → 0 < v
 word_some h = omega arith

@@ -1,7 +1,4 @@
 -- The reference's order of operands is strict and total, and a set of operands rises in it. Assumes nothing.
-use Rattle.program.specs.declared.Opnd.{Opnd as Read}
-use Rattle.program.specs.declared.Opnd.TheVariants as O
-use Rattle.program.specs.Rows.{opnd_of}
 use mathlib.Core.Bool.{Bool as 𝔹, true, false, ◌&&◌, ◌||◌}
 use mathlib.Core.Path.{◌≡◌, refl, sym, ap, ◌∙◌}
 use mathlib.Core.Logic.{◌⊎◌, inl, inr}
@@ -184,24 +181,3 @@ insert_rises v (w ∷ l) r = go (same_opnd v w) refl (opnd_before v w) refl (ins
 pub set-rises : (l : List Opnd) → Rises (opnd_set l)
 set-rises [] = tt
 set-rises (v ∷ l) = insert_rises v (opnd_set l) (set-rises l)
-
--- ---- operands as the code compares them
-
-opnd_back : Opnd → Read
-opnd_back (Const k) = O.Const k
-opnd_back (Insn i) = O.Insn (record { 0 = i })
-
-back_is : (o : Read) → opnd_back (opnd_of o) ≡ o
-unfolding opnd_back
-back_is (O.Const k) = refl
-back_is (O.Insn i) = refl
-
-pub one_opnd : (o w : Read) → o ≡ w → same_opnd (opnd_of o) (opnd_of w) ≡ true
-one_opnd o w e = rw e (same_self (opnd_of w))
-
-pub two_opnds : (o w : Read) → (o ≡ w → ⊥) → same_opnd (opnd_of o) (opnd_of w) ≡ false
-two_opnds o w h = go (either (same_opnd (opnd_of o) (opnd_of w)))
-  where
-    go : Either (same_opnd (opnd_of o) (opnd_of w)) → same_opnd (opnd_of o) (opnd_of w) ≡ false
-    go (yes e) = absurd (h (sym (back_is o) ∙ ap opnd_back (same-is (opnd_of o) (opnd_of w) e) ∙ back_is w))
-    go (no e) = e

@@ -3,13 +3,14 @@ use Rattle.std.specs.Prelude.{Some as Set, None as Other}
 use mathlib.Core.Path.{◌≡◌, refl, sym, ◌∙◌}
 use mathlib.Core.List.{List}
 use Prim.Native.Nat.{ℕ, zero, suc, ◌+◌, ◌%◌, ◌^◌, ◌<◌}
-use borrow.Author.Tests.{ne_eqb}
+use borrow.Author.Tests.{ne_eqb, lt-ltb}
 use native.Mathlib.Omega.{arith}
-use lib.Dec.{eqb}
+use lib.Dec.{eqb, ltb}
+use mathlib.Core.Bool.{◌||◌}
 use lib.ListN.{get_or}
 use Rattle.kinds.specs.declared.Kind.{Kind}
 use Rattle.kinds.specs.declared.Kind.TheVariants.{Empty}
-use Rattle.kinds.specs.Kinds.{kind_from, is_set}
+use Rattle.kinds.specs.Kinds.{kind_from, is_empty, is_name, is_set, is_any}
 use Rattle.program.specs.declared.Counts.{Counts}
 use Rattle.program.specs.declared.Opnd.{Opnd}
 use Rattle.program.specs.declared.Opnd.TheVariants.{Const}
@@ -106,15 +107,59 @@ no_set (suc (suc (suc (suc (suc (suc (suc zero))))))) x h8 h0 h1 h2 h6 h7 h3 = a
 no_set (suc (suc (suc (suc (suc (suc (suc (suc zero)))))))) x h8 h0 h1 h2 h6 h7 h3 = absurd (h8 refl)
 no_set (suc (suc (suc (suc (suc (suc (suc (suc (suc n))))))))) x h8 h0 h1 h2 h6 h7 h3 = refl
 
-pub is-set : (t x : ℕ) → eqb t 8 ≡ is_set (kind_from t x)
+pub ruleset sets = (objects_set, empty_set, nil_set, number_set, int_set, bool_set, false_set, true_set, no_set)
+
+pub set_tag : (t x : ℕ) → eqb t 8 ≡ is_set (kind_from t x)
 unfolding kind_from
-is-set zero x = refl
-is-set (suc zero) x = refl
-is-set (suc (suc zero)) x = refl
-is-set (suc (suc (suc zero))) x = refl
-is-set (suc (suc (suc (suc zero)))) x = refl
-is-set (suc (suc (suc (suc (suc zero))))) x = refl
-is-set (suc (suc (suc (suc (suc (suc zero)))))) x = refl
-is-set (suc (suc (suc (suc (suc (suc (suc zero))))))) x = refl
-is-set (suc (suc (suc (suc (suc (suc (suc (suc zero)))))))) x = refl
-is-set (suc (suc (suc (suc (suc (suc (suc (suc (suc n))))))))) x = ne_eqb (suc (suc (suc (suc (suc (suc (suc (suc (suc n))))))))) 8 (λ e. omega arith)
+set_tag zero x = refl
+set_tag (suc zero) x = refl
+set_tag (suc (suc zero)) x = refl
+set_tag (suc (suc (suc zero))) x = refl
+set_tag (suc (suc (suc (suc zero)))) x = refl
+set_tag (suc (suc (suc (suc (suc zero))))) x = refl
+set_tag (suc (suc (suc (suc (suc (suc zero)))))) x = refl
+set_tag (suc (suc (suc (suc (suc (suc (suc zero))))))) x = refl
+set_tag (suc (suc (suc (suc (suc (suc (suc (suc zero)))))))) x = refl
+set_tag (suc (suc (suc (suc (suc (suc (suc (suc (suc n))))))))) x = ne_eqb (suc (suc (suc (suc (suc (suc (suc (suc (suc n))))))))) 8 (λ e. omega arith)
+
+pub empty_tag : (t x : ℕ) → eqb t 0 ≡ is_empty (kind_from t x)
+unfolding kind_from
+empty_tag zero x = refl
+empty_tag (suc zero) x = refl
+empty_tag (suc (suc zero)) x = refl
+empty_tag (suc (suc (suc zero))) x = refl
+empty_tag (suc (suc (suc (suc zero)))) x = refl
+empty_tag (suc (suc (suc (suc (suc zero))))) x = refl
+empty_tag (suc (suc (suc (suc (suc (suc zero)))))) x = refl
+empty_tag (suc (suc (suc (suc (suc (suc (suc zero))))))) x = refl
+empty_tag (suc (suc (suc (suc (suc (suc (suc (suc zero)))))))) x = refl
+empty_tag (suc (suc (suc (suc (suc (suc (suc (suc (suc n))))))))) x = ne_eqb (suc (suc (suc (suc (suc (suc (suc (suc (suc n))))))))) 0 (λ e. omega arith)
+
+pub name_tag : (t x : ℕ) → (eqb t 4 || eqb t 5) ≡ is_name (kind_from t x)
+unfolding kind_from
+name_tag zero x = refl
+name_tag (suc zero) x = refl
+name_tag (suc (suc zero)) x = refl
+name_tag (suc (suc (suc zero))) x = refl
+name_tag (suc (suc (suc (suc zero)))) x = refl
+name_tag (suc (suc (suc (suc (suc zero))))) x = refl
+name_tag (suc (suc (suc (suc (suc (suc zero)))))) x = refl
+name_tag (suc (suc (suc (suc (suc (suc (suc zero))))))) x = refl
+name_tag (suc (suc (suc (suc (suc (suc (suc (suc zero)))))))) x = refl
+name_tag (suc (suc (suc (suc (suc (suc (suc (suc (suc n))))))))) x = rw (
+  ne_eqb (suc (suc (suc (suc (suc (suc (suc (suc (suc n))))))))) 4 (λ e. omega arith),
+  ne_eqb (suc (suc (suc (suc (suc (suc (suc (suc (suc n))))))))) 5 (λ e. omega arith),
+) refl
+
+pub any_tag : (t x : ℕ) → ltb 8 t ≡ is_any (kind_from t x)
+unfolding kind_from
+any_tag zero x = refl
+any_tag (suc zero) x = refl
+any_tag (suc (suc zero)) x = refl
+any_tag (suc (suc (suc zero))) x = refl
+any_tag (suc (suc (suc (suc zero)))) x = refl
+any_tag (suc (suc (suc (suc (suc zero))))) x = refl
+any_tag (suc (suc (suc (suc (suc (suc zero)))))) x = refl
+any_tag (suc (suc (suc (suc (suc (suc (suc zero))))))) x = refl
+any_tag (suc (suc (suc (suc (suc (suc (suc (suc zero)))))))) x = refl
+any_tag (suc (suc (suc (suc (suc (suc (suc (suc (suc n))))))))) x = lt-ltb 8 (suc (suc (suc (suc (suc (suc (suc (suc (suc n))))))))) (omega arith)

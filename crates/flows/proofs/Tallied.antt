@@ -6,7 +6,6 @@ use mathlib.Core.List.{List, [], ◌∷◌, ◌++◌}
 use Prim.Native.Nat.{ℕ, ◌≤◌, ◌<◌}
 use borrow.Author.Tests.{lt-ltb, le-ltb}
 use lib.Dec.{ltb}
-use lib.ListN.{get_or}
 use Rattle.ids.specs.declared.InsnId.{InsnId}
 use Rattle.kinds.specs.declared.Kind.{Kind}
 use Rattle.kinds.specs.declared.Kind.TheVariants.{Empty, Any}
@@ -28,18 +27,18 @@ pub before_insn : (a : ℕ) {o : Opnd} (i : InsnId) → o ≡ Insn i → ltb i.0
 before_insn a i e = rw e
 
 module _ {t : Told} (k : Kind) (o : Opnd) where
-  pub add-first : t ≡ None → TallyAdds t k o (Single o k)
-  add-first e = record { is = λ ks h. rw e (ap (One (opnd_of o)) h) }
+  pub add_first : t ≡ None → TallyAdds t k o (Single o k)
+  add_first e = record { is = λ ks h. rw e (ap (One (opnd_of o)) h) }
 
   pub add_same : {w : Opnd} {j : Kind} {b : 𝔹} → t ≡ Single w j → b ≡ same_opnd (opnd_of o) (opnd_of w) → b ≡ true → TallyAdds t k o (Single w j)
   add_same e h g = record { is = λ ks x. rw (e, sym h ∙ g) }
 
-  pub add-other : {w : Opnd} {j : Kind} {b : 𝔹} {r : Joined} → t ≡ Single w j → b ≡ same_opnd (opnd_of o) (opnd_of w) → b ≡ false → r ≡ union_of j k
+  pub add_other : {w : Opnd} {j : Kind} {b : 𝔹} {r : Joined} → t ≡ Single w j → b ≡ same_opnd (opnd_of o) (opnd_of w) → b ≡ false → r ≡ union_of j k
       → TallyAdds t k o (Several r)
-  add-other {w} {j} e h g u = record { is = λ ks x. rw (e, sym h ∙ g) (ap Many (u ∙ ap (union_of j) x)) }
+  add_other {w} {j} e h g u = record { is = λ ks x. rw (e, sym h ∙ g) (ap Many (u ∙ ap (union_of j) x)) }
 
-  pub add-more : {j r : Joined} → t ≡ Several j → r ≡ join_of j k → TallyAdds t k o (Several r)
-  add-more {j} e u = record { is = λ ks x. rw e (ap Many (u ∙ ap (join_of j) x)) }
+  pub add_more : {j r : Joined} → t ≡ Several j → r ≡ join_of j k → TallyAdds t k o (Several r)
+  add_more {j} e u = record { is = λ ks x. rw e (ap Many (u ∙ ap (join_of j) x)) }
 
 -- ---- take
 
@@ -61,9 +60,9 @@ module _ (ks : List Kind) (a : ℕ) (t : Told) (o : Opnd) {b : 𝔹} (eb : b ≡
         go true = rw (ap is_empty (sym ek) ∙ sym ex ∙ h)
         go false = refl
 
-    pub take-any : {y : 𝔹} → y ≡ is_any k → x ≡ false → y ≡ true → tally_of t ≡ take ks a (tally_of t) (opnd_of o)
+    pub take_any : {y : 𝔹} → y ≡ is_any k → x ≡ false → y ≡ true → tally_of t ≡ take ks a (tally_of t) (opnd_of o)
     unfolding take
-    take-any ey h g = go (before ks a (opnd_of o))
+    take_any ey h g = go (before ks a (opnd_of o))
       where
         go : (y : 𝔹) → tally_of t ≡ cond (y && solid ks (kind_in ks (opnd_of o))) (add ks (tally_of t) (opnd_of o)) (tally_of t)
         go true = rw (ap is_empty (sym ek) ∙ sym ex ∙ h, ap is_any (sym ek) ∙ sym ey ∙ g)
@@ -76,10 +75,10 @@ module _ (ks : List Kind) (a : ℕ) (t : Told) (o : Opnd) {b : 𝔹} (eb : b ≡
 
 -- ---- a pass
 
-pub pass-both : (ks : List Kind) (x : Pass) (o : Opnd) {a : ℕ} {r : Told} → a ≡ lower ks x.least (opnd_of o) → tally_of r ≡ take ks x.bound (tally_of x.tally) (opnd_of o)
+pub pass_both : (ks : List Kind) (x : Pass) (o : Opnd) {a : ℕ} {r : Told} → a ≡ lower ks x.least (opnd_of o) → tally_of r ≡ take ks x.bound (tally_of x.tally) (opnd_of o)
     → Passed ks (opnd_of o ∷ []) x (record { bound = x.bound; least = a; tally = r })
 unfolding least taken_all
-pass-both ks x o e h = record { same = refl; lowest = e; told = h }
+pass_both ks x o e h = record { same = refl; lowest = e; told = h }
 
 pub passed_none : (ks : List Kind) (x : Pass) → Passed ks [] x x
 unfolding least taken_all
@@ -106,14 +105,14 @@ passed_append ks l k x y w p r = record {
 
 -- ---- the end
 
-pub close-none : {t : Told} → t ≡ None → Of Empty ≡ close [] (tally_of t)
-close-none e = rw e
+pub close_none : {t : Told} → t ≡ None → Of Empty ≡ close [] (tally_of t)
+close_none e = rw e
 
 pub close_one : {t : Told} {o : Opnd} {k : Kind} → t ≡ Single o k → Of k ≡ close [] (tally_of t)
 close_one e = rw e
 
-pub finish-any : (n a : ℕ) (t : Told) {j r : Joined} → j ≡ close [] (tally_of t) → a < n → r ≡ join_of j Any → r ≡ finish [] n a (tally_of t)
-finish-any n a t e lt h = rw (lt-ltb a n lt, h, e)
+pub finish_any : (n a : ℕ) (t : Told) {j r : Joined} → j ≡ close [] (tally_of t) → a < n → r ≡ join_of j Any → r ≡ finish [] n a (tally_of t)
+finish_any n a t e lt h = rw (lt-ltb a n lt, h, e)
 
-pub finish-all : (n a : ℕ) (t : Told) {j : Joined} → j ≡ close [] (tally_of t) → n ≤ a → j ≡ finish [] n a (tally_of t)
-finish-all n a t e le = rw (le-ltb a n le) e
+pub finish_all : (n a : ℕ) (t : Told) {j : Joined} → j ≡ close [] (tally_of t) → n ≤ a → j ≡ finish [] n a (tally_of t)
+finish_all n a t e le = rw (le-ltb a n le) e

@@ -4,7 +4,7 @@ use Rattle.std.specs.Int.Bits.{bit_or}
 use Rattle.kinds.specs.declared.Kind.{Kind}
 use Rattle.kinds.specs.declared.Kind.TheVariants.{Empty}
 use Rattle.kinds.specs.Kinds.{kind_from, is_set}
-use Rattle.kinds.specs.Union.{set_of, is_alone}
+use Rattle.kinds.specs.Union.{Joined, set_of, is_alone}
 use Rattle.rules.specs.Lists.{has}
 use Rattle.rules.specs.Program as P
 use Rattle.rules.specs.Program.{Limits, Program, Param, about, op_of, function_of}
@@ -12,9 +12,11 @@ use Rattle.rules.specs.Machine.{marked, argument as argumentOf}
 use Rattle.program.specs.declared.Opnd.{Opnd}
 use Rattle.program.specs.declared.Opnd.TheVariants.{Const}
 use Rattle.program.specs.declared.Counts.{Counts}
+use Rattle.program.specs.declared.Program.{Program as Tables}
 use Rattle.program.specs.Rows.{opnd_of, opnd_from, opnd_at}
 use Rattle.program.specs.View.{program_view, ProgramReady}
 use Rattle.state.specs.declared.Sizes.{Sizes}
+use Rattle.state.specs.declared.State.{State}
 use Rattle.state.specs.View.{Attrs, kinds_of, called_of}
 use Rattle.state.specs.Changes.{marks_from}
 use Rattle.flows.specs.declared.Tally.{Tally as Told}
@@ -22,7 +24,7 @@ use Rattle.flows.specs.declared.Tally.TheVariants.{Nothing as NothingYet, One as
 use Rattle.flows.specs.declared.Pass.{Pass}
 use Rattle.flows.specs.declared.Words.{Words}
 use Rattle.machine.specs.opnds.Reads.{kind_in}
-use Rattle.flows.specs.Tally.{Tally, Nothing, One, Many, add, least, taken_all, FitsAt}
+use Rattle.flows.specs.Tally.{Tally, Nothing, One, Many, add, least, taken_all, finish, FitsAt}
 
 abbrev pub tally_of : Told → Tally
 tally_of NothingYet = Nothing
@@ -38,6 +40,18 @@ pub record Passed (ks : List Kind) (l : List P.Opnd) (x y : Pass) : Type 0 where
   pub same : y.bound ≡ x.bound
   pub lowest : y.least ≡ least ks x.least l
   pub told : tally_of y.tally ≡ taken_all ks x.bound (tally_of x.tally) l
+
+-- a pass at its start
+abbrev pub pass_before : ℕ → Pass
+pass_before a = record { bound = a; least = a; tally = NothingYet }
+
+-- r is what a walk comes to that takes all, or that goes again and takes what stands before the least Any that it met
+pub record ByPasses (n : ℕ) (walks : Pass → Pass → Type 0) (r : Joined) : Type 0 where
+  pub once : Pass
+  pub twice : Pass
+  pub first : walks (pass_before n) once
+  pub again : walks (pass_before once.least) twice
+  pub is : r ≡ finish [] n once.least (tally_of twice.tally)
 
 -- r is the argument that i has for place n, if i is a call
 pub record Argues (m : List ℕ) (c : Counts) (i n : ℕ) (r : Opnd) : Type 0 where
@@ -69,6 +83,10 @@ pub record FlowsKnown (m : List ℕ) (c : Counts) (z : Sizes) (t : List (List �
   pub ready : ProgramReady m c
   pub sizes : z.insns ≡ c.insns
   pub sound : FlowsSound (program_view script m c) z.insns t
+
+-- the same, of tables and a state
+abbrev pub FlowsOf : Tables → State → Type 0
+FlowsOf p s = FlowsKnown p.words.now p.counts s.sizes (called_of s.sizes s.words.now)
 
 -- the arguments for place n of the callers of f that are not below k
 pub record PassedIn (m : List ℕ) (c : Counts) (z : Sizes) (w : List ℕ) (f n k : ℕ) (x y : Pass) : Type 0 where

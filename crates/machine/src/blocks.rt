@@ -6,22 +6,20 @@ ghost use Rattle.state.specs.Changes.{push_all};
 ghost use Rattle.state.specs.Methods.{Did};
 ghost use Rattle.machine.specs.blocks.Blocks.{HasCode, CodeIs, Stepped, blocks_in};
 
+use chains::{Chain, Sort};
 use ids::BlockId;
 use refusals::Refusal;
 use state::State;
 
+// Stays: the clauses of chains and block bound them by the state's sizes, and the chains are lent apart from the state.
 // The instructions of block b wait, or 20.
 fn push_code(state: &mut State, chains: &[usize], b: BlockId) -> Result<(), Refusal>
     requires has_code { HasCode state.old.sizes chains.now }
     requires b_lt_blocks { b.0 < state.old.sizes.blocks }
     ensures { Did (CodeIs state.old.sizes chains.now) (λ L p. push_all L p (code p b.0)) state.old state.new result }
 {
-    let n = state.sizes.insns;
-    let mut i = chains::first_insn(chains, b);
-    // Stays: the chain has no iterator yet.
-    while (i.0 as usize) < n {
+    for i in Chain::new(chains, Sort::Code, b.index(), state.sizes.insns) {
         state.push_insn(i)?;
-        i = chains::next_insn(chains, i);
     }
     Ok(())
 }
@@ -39,6 +37,7 @@ pub fn go_live(state: &mut State, chains: &[usize], b: BlockId) -> Result<(), Re
 }
 
 // The block in front is taken off, and goes live.
+#[tactic(auto, using(crate::proofs::blocks::Live::block_stepped))]
 pub fn step_block(state: &mut State, chains: &[usize]) -> Result<(), Refusal>
     requires has_code { HasCode state.old.sizes chains.now }
     requires len_nonzero { (0 < state.old.regs.blocks.len) × (state.old.regs.count < 2 ^ 63) }

@@ -20,6 +20,7 @@ use refusals::Refusal;
 use state::{Sizes, State};
 pub use tables::Tables;
 
+// Stays: no `From`, since both types are of other crates, and state knows no program.
 pub fn sizes(counts: Counts) -> Sizes
     ensures { result ≡ sizes_of counts }
 {
@@ -31,6 +32,8 @@ pub fn sizes(counts: Counts) -> Sizes
     }
 }
 
+// Stays: the sizes' clause is no ghost field, since tables and state are lent apart: so no change of the state has to promise that the tables stay.
+// Stays: program and users apart, since `Tables` would ask for chains, which this was never promised with.
 // The instructions of a part of a list wait whose blocks are live, or 20.
 fn push_users(
     program: &Program,
@@ -51,7 +54,6 @@ fn push_users(
     Ok(())
 }
 
-// Stays: the sizes' clause is no ghost field, since tables and state are lent apart: so no change of the state has to promise that the tables stay.
 // Kind k is stored for instruction i, and its users in live blocks wait, if the union with the old kind is another.
 pub fn store(
     program: &Program,
@@ -70,7 +72,7 @@ pub fn store(
         return Ok(());
     }
     state.set_kind(i, k);
-    let n = i.0 as usize;
+    let n = i.index();
     let from = answer::USERS + users[answer::STARTS + n];
     let to = answer::USERS + users[answer::STARTS + (n + 1)];
     push_users(program, users, from, to, state)

@@ -7,7 +7,7 @@ ghost use Rattle.program.specs.Rows.{opnd_of};
 ghost use Rattle.state.specs.View.{kinds_of};
 ghost use Rattle.state.specs.Changes.{Every};
 ghost use Rattle.state.specs.Methods.{Did};
-ghost use Rattle.machine.specs.opnds.Reads.{OperandInside, kind_in, StateReads, push_block_if, FunctionIs};
+ghost use Rattle.machine.specs.opnds.Reads.{OperandInside, kind_in, StateReads, FunctionIs};
 
 use ids::{BlockId, FunId};
 use kinds::{Arith, Kind};
@@ -15,6 +15,7 @@ use program::Opnd;
 use refusals::Refusal;
 use state::State;
 
+// Stays: an operand is inside by the sizes of the state that is asked, so a type could say it only of an operand that holds the state's loan.
 pub fn kind_of(state: &State, o: Opnd) -> Kind
     requires { OperandInside state.now.sizes o }
     ensures { result ≡ kind_in (kinds_of state.now.sizes state.now.words.now) (opnd_of o) }
@@ -25,17 +26,6 @@ pub fn kind_of(state: &State, o: Opnd) -> Kind
     }
 }
 
-// Block b waits where `yes` says so.
-fn push_block_if(state: &mut State, yes: bool, b: BlockId) -> Result<(), Refusal>
-    requires { b.0 < state.old.sizes.blocks }
-    ensures { Did Every (λ L p. push_block_if L p yes b.0) state.old state.new result }
-{
-    if yes {
-        return state.push_block(b);
-    }
-    Ok(())
-}
-
 // The admitted arms of a choice wait, the then arm first.
 pub fn choose(state: &mut State, o: Opnd, t: BlockId, e: BlockId) -> Result<(), Refusal>
     requires operand_inside { OperandInside state.old.sizes o }
@@ -43,8 +33,13 @@ pub fn choose(state: &mut State, o: Opnd, t: BlockId, e: BlockId) -> Result<(), 
     ensures { (i : ℕ) → Did Every (λ L p. leave L p i (IfTrue (opnd_of o) t.0 e.0)) state.old state.new result }
 {
     let k = kind_of(state, o);
-    push_block_if(state, k.admits(true), t)?;
-    push_block_if(state, k.admits(false), e)
+    if k.admits(true) {
+        state.push_block(t)?;
+    }
+    if k.admits(false) {
+        state.push_block(e)?;
+    }
+    Ok(())
 }
 
 // A Return of function f: the callers wait whose kinds the operand's would change.

@@ -6,7 +6,6 @@ use Prim.Native.Nat.{ℕ, ◌+◌, ◌-◌, ◌^◌, ◌<◌}
 use native.Mathlib.Omega.{arith}
 use borrow.Author.Tests.{eqb-true}
 use lib.Dec.{eqb}
-use lib.ListN.{get_or}
 use Rattle.rules.specs.Actions.{answered, refused}
 use Rattle.rules.specs.Program.{Limits}
 use Rattle.rules.specs.Bound.{bound}
@@ -25,21 +24,19 @@ use Rattle.state.specs.declared.Regs.{Regs}
 use Rattle.state.specs.Acted.{Acted, On, Refused}
 use Rattle.state.specs.View.{Attrs, state_view, StateReady}
 use Rattle.state.specs.Changes.{went}
-use Rattle.state.specs.Layout.{insn_ring_at}
 use Rattle.state.specs.Methods.{view, Lent}
 use Rattle.state.proofs.Methods.{lent_same, lent_on}
-use Rattle.state.proofs.Pushes.{rest-told, insn_taken}
+use Rattle.state.proofs.Pushes.{rest-told}
 use Rattle.machine.specs.blocks.Blocks.{BlockStepped}
 use Rattle.machine.specs.Analysed.{Suited, Analysed, MachineFits, MachineReached, Steady}
 use Rattle.machine.proofs.States.{attrs, attrs-fit, at_of, steady-at, bound-fits}
-use Rattle.steps.specs.Steps.{block_next, Front}
 use Rattle.run.specs.Runs.{RunRan, Reaching, StampsFresh}
 use Rattle.steps.specs.Stamps.{tables_of, Stamped, StampedIf, went_to}
 use Rattle.steps.specs.Methods.{StampedIn, TimelyIn}
 use Rattle.machine.specs.declared.tables.Tables.{Tables}
 use Rattle.settled.specs.Reads.{whole}
 use Rattle.settled.proofs.Stamps.{whole_tables}
-use Rattle.steps.proofs.Stepping.{positive, some_insn, front_insn}
+use Rattle.steps.proofs.Stepping.{positive}
 use Rattle.steps.proofs.Stamps.{fresh_stamped}
 
 same : {x y : State} → answered x ≡ answered y → x ≡ y

@@ -16,6 +16,7 @@ use refusals::Refusal;
 use state::State;
 
 // The instruction that the next step takes; 0 where it takes a block.
+// Stays: 0 and no `None`, since `step` asks itself whether a block is next, and was promised for any record then.
 fn front(state: &State) -> InsnId
     ensures { Front state.now.sizes state.now.words.now state.now.regs result.0 }
 {
@@ -25,6 +26,7 @@ fn front(state: &State) -> InsnId
     state.front_insn()
 }
 
+// Stays: that tables, state and stamps fit are clauses, since each is lent apart: so no change of the state has to promise that the tables stay.
 // Steps until nothing waits; t is the table of the program's instructions, and there are no stamps yet. The epoch rises whenever kinds, live blocks or callers may have changed.
 pub fn run(
     t: &[Record],
@@ -44,7 +46,7 @@ pub fn run(
     let mut epoch = 1;
     while !state.at_rest() {
         let i = front(state);
-        let insn = records::read(t, i.0 as usize);
+        let insn = records::read(t, i.index());
         epoch = steps::step(tables, state, stamps, i, insn, epoch)?;
     }
     Ok(())

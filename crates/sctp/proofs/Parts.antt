@@ -1,5 +1,5 @@
 -- Parts of the lent memories that are cleared, laid or used as work memory. Assumes nothing.
-use mathlib.Core.Path.{◌≡◌, sym, ap, ◌∙◌, subst}
+use mathlib.Core.Path.{◌≡◌, sym, ap, ◌∙◌}
 use mathlib.Core.List.{List, [], ◌++◌, append-nil}
 use Prim.Native.Nat.{ℕ, ◌+◌, ◌-◌, ◌*◌, ◌≤◌, ◌<◌}
 use native.Mathlib.Nat.{zero-add}
@@ -9,7 +9,7 @@ use Rattle.std.proofs.lemmas.List.{places}
 use Rattle.std.proofs.lemmas.Slice.{overwrites}
 use native.Mathlib.Omega.{arith}
 use lib.ListN.{replicate, length, get_or, take, drop, length-drop, drop_of_length-le, get_or-append}
-use lib.Seq.{length-take-le, get_or-append-add, get_or-take, ext_get_or, take_at, take_all}
+use lib.Seq.{length-take-le, get_or-append-add, get_or-take, ext_get_or, take_at}
 use borrow.Rule.Slice.PartMut.{put_mid, post_of}
 use Rattle.program.specs.declared.Counts.{Counts}
 use Rattle.chains.specs.Chains.{Index, ChainsFilled, Carried}
@@ -22,11 +22,9 @@ use Rattle.answer.specs.Layout.{callers_at, answer_length}
 use Rattle.memory.specs.Layout.{row_words}
 use Rattle.program.specs.Layout.{program_size}
 use Rattle.chains.specs.Layout.{chains_size, program_length}
-use Rattle.state.specs.Layout.{live_blocks_at, called_at, reads_at, state_size, state_length}
-use Rattle.constructors.specs.Layout.{walk_size}
+use Rattle.state.specs.Layout.{live_blocks_at, called_at, reads_at, state_size}
 use Rattle.sctp.specs.starts.Starts.{Started}
-use Rattle.machine.specs.Analysed.{Analysed}
-use Rattle.sctp.specs.Sctp.{tables_of, chains_of, SctpChained, SctpAside, StartsAside, Begins}
+use Rattle.sctp.specs.Sctp.{tables_of, SctpChained, SctpAside, StartsAside}
 
 -- ---- the index: w is what was built in the first words of the work memory
 

@@ -4,12 +4,12 @@ use mathlib.Core.List.{List, ◌++◌}
 use Prim.Native.Nat.{ℕ, ◌+◌, ◌-◌, ◌≤◌}
 use native.Mathlib.Nat.{zero-add}
 use native.Mathlib.Omega.{arith}
-use lib.ListN.{length, get_or, take, drop, get_or-append}
+use lib.ListN.{length, get_or}
 use lib.Seq.{get_or-append-add}
 use Rattle.rules.specs.Actions.{Answer, answered, refused, if_answered}
 use Rattle.rules.specs.Program.{Limits}
 use Rattle.rules.specs.Bound.{bound}
-use Rattle.rules.specs.Machine.{State, start, run}
+use Rattle.rules.specs.Machine.{start, run}
 use Rattle.rules.specs.Steps.{Exact, Counted}
 use Rattle.rules.proofs.Exactness.Loop.{at-start}
 use Rattle.rules.proofs.Exactness.Theorem.{exact}
@@ -21,20 +21,20 @@ use Rattle.program.proofs.Tables.{tab_ext}
 use Rattle.uses.specs.Users.{words, Uses}
 use Rattle.state.specs.declared.Sizes.{Sizes}
 use Rattle.state.specs.declared.Regs.{Regs}
-use Rattle.state.specs.Acted.{Acted, On, Refused}
+use Rattle.state.specs.Acted.{Acted, On}
 use Rattle.state.specs.View.{Attrs, state_view, StateReady}
 use Rattle.answer.specs.Layout.{starts_at, users_at, answer_length}
-use Rattle.machine.specs.Analysed.{sizes_of, MachineSized, Users, Suited, Analysed, MachineFits}
+use Rattle.machine.specs.Analysed.{sizes_of, MachineSized, Users, Suited, MachineFits}
 use Rattle.machine.proofs.Storing.{start-few}
 use Rattle.memory.specs.Layout.{instructions_most}
 use Rattle.state.specs.Layout.{stamps_at}
 use Rattle.state.specs.declared.State as S
 use Rattle.state.proofs.Methods.{ready_at}
 use Rattle.sctp.specs.starts.Starts.{Started}
-use Rattle.run.specs.Runs.{StampsFresh, Reaching, RunRan}
+use Rattle.run.specs.Runs.{StampsFresh, Reaching}
 use Rattle.settled.specs.Reads.{whole}
 use Rattle.settled.proofs.Stamps.{whole_tables, whole_long}
-use Rattle.sctp.specs.Sctp.{tables_of, chains_of, Given, SctpChained, SctpAside, Begins, SctpOutcome, Ends, SctpLeft, Analyses}
+use Rattle.sctp.specs.Sctp.{tables_of, Given, SctpChained, SctpAside, SctpOutcome, Ends, SctpLeft, Analyses}
 
 -- ---- the start, then the run
 

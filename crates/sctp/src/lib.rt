@@ -28,6 +28,7 @@ const TABLES: usize = program::SIZE;
 const CHAINS: usize = chains::SIZE;
 
 // The chains of the index are made in work memory, and what is in use of them goes behind the program's tables.
+// Stays: script, words and counts stand apart here, since the C interface lends the tables and the room for their chains as one memory: a Program borrows its front part alone, for reading.
 fn lay_index(script: &[u8], program: &mut [usize], counts: Counts, scratch: &mut [usize])
     requires program_ready { ProgramReady (tables_of program.old) counts }
     requires program_len { length program.old ≡ program_length }
@@ -55,6 +56,7 @@ fn clear_tables(words: &mut [usize], sizes: Sizes)
 }
 
 // The answer's callers are cleared.
+// Stays: how long the answer is stands as a clause, here and below, since the C interface lends it as bare words, and users and callers are parts of them by their places.
 fn clear_callers(users: &mut [usize])
     requires { length users.old ≡ answer_length }
     ensures { SctpAside users.old users.new }
@@ -63,11 +65,11 @@ fn clear_callers(users: &mut [usize])
 }
 
 // The start; the answer's callers are its work memory.
+// Stays: that a state is of the program's sizes is a clause, since tables and state are lent apart: so no change of the state has to promise that the tables stay.
 fn start_aside(code: &Indexed, users: &mut [usize], state: &mut State) -> Result<(), Refusal>
     requires indexed { Analysable code.now.program.script.now code.now.program.words.now code.now.program.counts code.now.chains.now state.old.sizes }
     requires users_len { length users.old ≡ answer_length }
     requires state_cleared { StateCleared state.old.sizes state.old.words.now }
-    requires nothing_waits { state.old.regs ≡ no_entries }
     ensures { Lent state.old state.new × StartsAside code.now.program.script.now code.now.program.words.now code.now.program.counts state.old.sizes
         users.old users.new state.new.words.now (acted_of state.new.regs result) }
 {

@@ -1,9 +1,9 @@
 // The start of the analysis: the attributes' first kinds, then the main entry goes live.
-ghost use Rattle.std.specs.Prelude.{◌≡◌, ◌≤◌, ◌<◌, length};
+ghost use Rattle.std.specs.Prelude.{◌≤◌, ◌<◌, length};
 ghost use Rattle.rules.specs.Program.{Limits};
 ghost use Rattle.machine.specs.Analysed.{Suited, Indexed as Analysable};
 ghost use Rattle.state.specs.Acted.{acted_of};
-ghost use Rattle.state.specs.View.{StateCleared, no_entries};
+ghost use Rattle.state.specs.View.{StateCleared};
 ghost use Rattle.state.specs.Methods.{Lent};
 ghost use Rattle.constructors.specs.Layout.{walk_size};
 ghost use Rattle.sctp.specs.starts.Starts.{Mains, Started};
@@ -13,7 +13,7 @@ use constructors::Flow;
 use ids::BlockId;
 use program::Program;
 use refusals::Refusal;
-use state::State;
+use state::{Regs, State};
 
 // Where the state has the attributes' kinds: the bytes, and the payloads.
 const TAGS: usize = state::IVARS;
@@ -29,15 +29,16 @@ fn main_entry(program: &Program) -> BlockId
     program.fun(lookups::main_function(program)).entry
 }
 
-// Question 12, then 13; y is work memory.
+// Stays: that a state is of the program's sizes is a clause, since tables and state are lent apart: so no change of the state has to promise that the tables stay.
+// Question 12, then 13; y is work memory. Nothing waits before it, whatever the registers held.
 pub fn start(code: &Indexed, y: &mut [usize], state: &mut State) -> Result<(), Refusal>
     requires indexed { Analysable code.now.program.script.now code.now.program.words.now code.now.program.counts code.now.chains.now state.old.sizes }
     requires walk_size_in_bounds { walk_size ≤ length y.old }
     requires state_cleared { StateCleared state.old.sizes state.old.words.now }
-    requires nothing_waits { state.old.regs ≡ no_entries }
     ensures { Lent state.old state.new × Started code.now.program.script.now code.now.program.words.now code.now.program.counts state.old.sizes
         state.new.words.now (acted_of state.new.regs result) }
 {
+    state.regs = Regs::no_entries();
     if code.program.counts.functions == 0 {
         return Err(Refusal::NoFunction);
     }

@@ -24,7 +24,7 @@ use Rattle.program.specs.View as Prog
 use Rattle.program.proofs.Viewing.{functions-length}
 use Rattle.std.specs.Prelude.{Option, Some, None, Result, Ok, Err}
 use Rattle.refusals.specs.declared.Refusal.{Refusal}
-use Rattle.refusals.specs.declared.Refusal.TheVariants.{NeedsReceiver, UnknownMember}
+use Rattle.refusals.specs.declared.Refusal.TheVariants.{NeedsReceiver}
 use Rattle.lookups.specs.Look.{fun_found}
 use Rattle.state.specs.declared.Sizes.{Sizes}
 use Rattle.state.specs.declared.State as S
@@ -52,17 +52,8 @@ module _ {z : Sizes} {m : List ℕ} {c : Counts} {x : List ℕ} {i : ℕ} (h : C
   low : r.entry.0 < blocks_room
   low = let a = inside in let b = h.caller.ready.blocks in omega arith
 
-  pub entry-below : r.entry.0 < z.blocks
-  entry-below = let a = inside in let b = h.blocks in omega arith
-
-  pub fun_below : f < z.functions
-  fun_below = let b = h.functions in omega arith
-
-  pub caller-below : i < z.insns
-  caller-below = let a = h.caller.below in let b = h.caller.sizes in omega arith
-
-  pub params-there : HasParams z.insns x r.entry.0
-  params-there = has-params [] m c z x f r.entry.0 h.index h.caller.ready h.caller.sizes lt (entered []) low
+  pub params_there : HasParams z.insns x r.entry.0
+  params_there = has-params [] m c z x f r.entry.0 h.index h.caller.ready h.caller.sizes lt (entered []) low
 
   passes : (s : List ℕ) {k : ℕ} {p : Program} {v : Attrs} → CallsIn s m c i k p v → PassIn m c z x i f r.entry.0 p v
   passes s {k} {p} {v} g =
@@ -90,6 +81,11 @@ module _ {z : Sizes} {m : List ℕ} {c : Counts} {x : List ℕ} {i : ℕ} (h : C
   args-idle g s k = record { is = λ q y. let d = (g f).is q y in record { is = λ L room p v b. d.is L room p v (passes s b); ok = d.ok } }
 
 -- ---- one call
+
+-- what a call asks of the state, it may ask of what an action left too
+pub calling_kept : {fits : List ℕ → Program → Attrs → Type 0} {f : Limits → Program → Acts (Unit {0})} {t u : S.State} {a : Result (Unit {0}) Refusal} {m x : List ℕ} {c : Counts} {i : ℕ}
+    → ((s : List ℕ) → Did (fits s) f t u a) → Calling t.sizes m c x i → Calling u.sizes m c x i
+calling_kept d h = rw ((d []).lent.sizes) h
 
 module _ (m : List ℕ) (c : Counts) (i k f : ℕ) {t u : S.State} {a : Result (Unit {0}) Refusal} (d : (s : List ℕ) → Did (CallsIn s m c i k) (λ L p. add_call L p i f) t u a) where
   pub to_both : {y : Unit {0}} {w : S.State} (r : Result (Unit {0}) Refusal) → a ≡ Ok y → ((s : List ℕ) (n : ℕ) → Did (CallsIn s m c i n) (λ L p. pass_arguments L p i f) u w r)
@@ -174,11 +170,6 @@ module _ (s m : List ℕ) (c : Counts) (k : ℕ) (n : P.Name) {r : Option FunId}
   one_found {t = t} a h d =
       along_last (along_start t) a (d s) (λ p v g. g)
       (λ L room p v g. let e : method_named p k n ≡ some _ = ap (λ (y : Program). method_named y k n) g.program ∙ method_at h in rw e)
-
-  pub one_none : (i j : ℕ) (t : S.State) → r ≡ None → Did (CallsIn s m c i j) (λ L p. send_to L p i n k) t t (Err UnknownMember)
-  one_none i j t h =
-      along_refused (along_start t) UnknownMember
-      (λ L room p v g. let e : method_named p k n ≡ none = ap (λ (y : Program). method_named y k n) g.program ∙ sym e ∙ ap fun_found h in rw e)
 
 -- every set is one of classes below 64
 pub walking_any : {s : ℕ} → s < 2 ^ 64 → Walking 64 s

@@ -9,7 +9,9 @@ use Rattle.program.specs.declared.Counts.{Counts}
 use Rattle.program.specs.Rows.{fun_at}
 use Rattle.program.specs.View.{program_view}
 use Rattle.state.specs.declared.Sizes.{Sizes}
+use Rattle.state.specs.declared.State.{State as Lent}
 use Rattle.state.specs.View.{Attrs}
+use Rattle.chains.specs.declared.view.Indexed.{Indexed}
 use Rattle.chains.specs.Chains.{Index}
 use Rattle.sends.specs.passing.Passing.{Caller}
 
@@ -36,8 +38,15 @@ pub record Calling (z : Sizes) (m : List ℕ) (c : Counts) (x : List ℕ) (i : �
   pub blocks : z.blocks ≡ c.blocks
   pub entries : (f : ℕ) → f < c.functions → (fun_at m f).entry.0 < c.blocks
 
+-- the same of values that are lent
+abbrev pub CallingOf : Indexed → Lent → ℕ → Type 0
+CallingOf c s i = Calling s.sizes c.program.words.now c.program.counts c.chains.now i
+
 -- the program that a script and tables stand for, in which call i has k arguments
 pub record CallsIn (s m : List ℕ) (c : Counts) (i k : ℕ) (p : Program) (v : Attrs) : Type 0 where
   pub program : p ≡ program_view s m c
   pub call : has (about (op_of (program_view s m c) i)).callee ≡ true
   pub args : length (about (op_of (program_view s m c) i)).listed ≡ k
+
+abbrev pub CallsOf : Indexed → List ℕ → ℕ → ℕ → Program → Attrs → Type 0
+CallsOf c s i k = CallsIn s c.program.words.now c.program.counts i k

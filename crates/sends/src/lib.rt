@@ -12,7 +12,7 @@ ghost use Rattle.program.specs.Rows.{name_in, opnd_of};
 ghost use Rattle.state.specs.Methods.{Did};
 ghost use Rattle.machine.specs.opnds.Reads.{OperandInside};
 ghost use Rattle.sends.specs.passing.Passing.{PassIdle};
-ghost use Rattle.sends.specs.Sends.{call_to, call_static, send_to, send_all, Calling, CallsIn};
+ghost use Rattle.sends.specs.Sends.{call_to, call_static, send_to, send_all, CallingOf, CallsOf};
 
 use chains::Indexed;
 use ids::{ClassId, FunId, InsnId};
@@ -21,6 +21,9 @@ use refusals::Refusal;
 use state::State;
 
 // Call i, which has `args` arguments, is a caller of f, or 16 or 20.
+// Stays: this clause and the next of each function tie the program with its chains to the state and to an argument, and the state is lent apart from them,
+// to be changed: no value holds them all.
+#[tactic(auto, using(crate::proofs::Called::params_there))]
 fn enter_call(
     code: &Indexed,
     state: &mut State,
@@ -28,9 +31,9 @@ fn enter_call(
     args: usize,
     f: FunId,
 ) -> Result<(), Refusal>
-    requires calling { Calling state.old.sizes code.now.program.words.now code.now.program.counts code.now.chains.now i.0 }
+    requires calling { CallingOf code.now state.old i.0 }
     requires f_lt_functions { f.0 < code.now.program.counts.functions }
-    ensures { (s : List ℕ) → Did (CallsIn s code.now.program.words.now code.now.program.counts i.0 args)
+    ensures { (s : List ℕ) → Did (CallsOf code.now s i.0 args)
         (λ L program. add_call L program i.0 f.0) state.old state.new result }
 {
     if state.has_called(f, i) {
@@ -42,10 +45,11 @@ fn enter_call(
 }
 
 // The Params of f wait whose kinds the arguments of call i would change, or 19 or 20.
+#[tactic(auto, using(crate::proofs::Called::params_there))]
 fn pass(code: &Indexed, state: &mut State, i: InsnId, f: FunId) -> Result<(), Refusal>
-    requires calling { Calling state.old.sizes code.now.program.words.now code.now.program.counts code.now.chains.now i.0 }
+    requires calling { CallingOf code.now state.old i.0 }
     requires f_lt_functions { f.0 < code.now.program.counts.functions }
-    ensures { (s : List ℕ) (k : ℕ) → Did (CallsIn s code.now.program.words.now code.now.program.counts i.0 k)
+    ensures { (s : List ℕ) (k : ℕ) → Did (CallsOf code.now s i.0 k)
         (λ L program. pass_arguments L program i.0 f.0) state.old state.new result }
 {
     let entry = code.program.fun(f).entry;
@@ -59,9 +63,9 @@ fn call_to(
     args: usize,
     f: FunId,
 ) -> Result<(), Refusal>
-    requires calling { Calling state.old.sizes code.now.program.words.now code.now.program.counts code.now.chains.now i.0 }
+    requires calling { CallingOf code.now state.old i.0 }
     requires f_lt_functions { f.0 < code.now.program.counts.functions }
-    ensures { (s : List ℕ) → Did (CallsIn s code.now.program.words.now code.now.program.counts i.0 args)
+    ensures { (s : List ℕ) → Did (CallsOf code.now s i.0 args)
         (λ L program. call_to L program i.0 f.0) state.old state.new result }
 {
     enter_call(code, state, i, args, f)?;
@@ -76,9 +80,9 @@ pub fn send_static(
     args: usize,
     f: FunId,
 ) -> Result<(), Refusal>
-    requires calling { Calling state.old.sizes code.now.program.words.now code.now.program.counts code.now.chains.now i.0 }
+    requires calling { CallingOf code.now state.old i.0 }
     requires f_lt_functions { f.0 < code.now.program.counts.functions }
-    ensures { (s : List ℕ) → Did (CallsIn s code.now.program.words.now code.now.program.counts i.0 args)
+    ensures { (s : List ℕ) → Did (CallsOf code.now s i.0 args)
         (λ L program. call_static L program i.0 f.0) state.old state.new result }
 {
     let class = code.program.fun(f).class;
@@ -90,10 +94,11 @@ pub fn send_static(
 }
 
 // A quick test that call i of f changes nothing: it is no new caller, and its arguments leave the kinds of f's Params as they are.
+#[tactic(auto, using(crate::proofs::Called::params_there))]
 fn settled(code: &Indexed, state: &State, i: InsnId, f: FunId) -> bool
-    requires calling { Calling state.now.sizes code.now.program.words.now code.now.program.counts code.now.chains.now i.0 }
+    requires calling { CallingOf code.now state.now i.0 }
     requires f_lt_functions { f.0 < code.now.program.counts.functions }
-    ensures { result ≡ true → (s : List ℕ) (k : ℕ) → PassIdle state.now.sizes (CallsIn s code.now.program.words.now code.now.program.counts i.0 k)
+    ensures { result ≡ true → (s : List ℕ) (k : ℕ) → PassIdle state.now.sizes (CallsOf code.now s i.0 k)
         (λ L program. call_to L program i.0 f.0) state.now.words.now }
 {
     if state.has_called(f, i) {
@@ -104,6 +109,7 @@ fn settled(code: &Indexed, state: &State, i: InsnId, f: FunId) -> bool
 }
 
 // Call i of the method n of class k, or 15.
+#[tactic(auto, using(crate::proofs::Called::method_below))]
 fn send_to(
     code: &Indexed,
     state: &mut State,
@@ -112,19 +118,15 @@ fn send_to(
     n: Name,
     k: ClassId,
 ) -> Result<(), Refusal>
-    requires calling { Calling state.old.sizes code.now.program.words.now code.now.program.counts code.now.chains.now i.0 }
-    ensures { Did (CallsIn code.now.program.script.now code.now.program.words.now code.now.program.counts i.0 args)
+    requires calling { CallingOf code.now state.old i.0 }
+    ensures { Did (CallsOf code.now code.now.program.script.now i.0 args)
         (λ L program. send_to L program i.0 (name_in code.now.program.script.now n) k.0) state.old state.new result }
 {
-    match lookups::method_named(&code.program, k, n) {
-        Some(f) => {
-            if settled(code, state, i, f) {
-                return Ok(());
-            }
-            call_to(code, state, i, args, f)
-        }
-        None => Err(Refusal::UnknownMember),
+    let f = lookups::method_named(&code.program, k, n).ok_or(Refusal::UnknownMember)?;
+    if settled(code, state, i, f) {
+        return Ok(());
     }
+    call_to(code, state, i, args, f)
 }
 
 // Call i of the method n of each class of a set.
@@ -136,14 +138,12 @@ fn send_each(
     n: Name,
     set: u64,
 ) -> Result<(), Refusal>
-    requires calling { Calling state.old.sizes code.now.program.words.now code.now.program.counts code.now.chains.now i.0 }
-    ensures { Did (CallsIn code.now.program.script.now code.now.program.words.now code.now.program.counts i.0 args)
+    requires calling { CallingOf code.now state.old i.0 }
+    ensures { Did (CallsOf code.now code.now.program.script.now i.0 args)
         (λ L program. each (members_of set) (send_to L program i.0 (name_in code.now.program.script.now n))) state.old state.new result }
 {
-    let mut left = set;
-    while let Some((k, rest)) = ids::smallest(left) {
+    for k in ids::classes(set) {
         send_to(code, state, i, args, n, k)?;
-        left = rest;
     }
     Ok(())
 }
@@ -157,9 +157,9 @@ pub fn send_dynamic(
     n: Name,
     o: Opnd,
 ) -> Result<(), Refusal>
-    requires calling { Calling state.old.sizes code.now.program.words.now code.now.program.counts code.now.chains.now i.0 }
+    requires calling { CallingOf code.now state.old i.0 }
     requires operand_inside { OperandInside state.old.sizes o }
-    ensures { Did (CallsIn code.now.program.script.now code.now.program.words.now code.now.program.counts i.0 args)
+    ensures { Did (CallsOf code.now code.now.program.script.now i.0 args)
         (λ L program. send_all L program i.0 (name_in code.now.program.script.now n) (opnd_of o)) state.old state.new result }
 {
     let set = machine::receivers::classes_of(state, o)?;

@@ -5,29 +5,22 @@ ghost use Rattle.rules.specs.Machine.{pass_arguments};
 ghost use Rattle.state.specs.Methods.{Did};
 ghost use Rattle.chains.specs.Chains.{ChainIs};
 ghost use Rattle.flows.specs.Flows.{words_of};
-ghost use Rattle.sends.specs.passing.Passing.{pass_to, ParamPlaced, HasParams, Caller, CallIn, ArgumentPasses, CoversTells, Keeps, PassIn, PassIdle};
+ghost use Rattle.sends.specs.passing.Passing.{pass_to, ParamPlaced, HasParams, CallerOf, CallIn, PassesOf, CoversTells, KeepsOf, PassOf, PassIdle};
 
-use chains::Indexed;
+use chains::{Chain, Indexed, Sort};
 use flows::Words;
 use ids::{BlockId, InsnId};
 use program::Program;
 use refusals::Refusal;
 use state::State;
 
-// Whether a kind covers another: surely, surely not, or a quick test doesn't tell.
-#[derive(Clone, Copy)]
-enum Covers {
-    Yes,
-    No,
-    Unknown,
-}
-
 // A Param's place.
+// Stays: two words of the row are read, where `insn` reads all six and makes the sort: by its `op` rings of parameters took 6 in 100 longer.
 fn place_of(program: &Program, j: InsnId) -> usize
     requires j_lt_insns { j.0 < program.now.counts.insns }
     ensures { ParamPlaced program.now.words.now program.now.counts j.0 result }
 {
-    let at = program::INSNS + program::INSN_WORDS * (j.0 as usize);
+    let at = program::INSNS + program::INSN_WORDS * j.index();
     if program.words[at] == 10 {
         return program.words[at + 2];
     }
@@ -35,10 +28,11 @@ fn place_of(program: &Program, j: InsnId) -> usize
 }
 
 // The kind of the argument that call i has for Param j, in words.
+// Stays: these clauses tie the program to the state, which is lent apart from it, and bound one argument by another: no value holds both.
 fn passed_words(program: &Program, state: &State, i: InsnId, j: InsnId) -> Words
-    requires caller { Caller program.now.words.now program.now.counts state.now.sizes i.0 }
+    requires caller { CallerOf program.now state.now i.0 }
     requires j_lt_insns { j.0 < state.now.sizes.insns }
-    ensures { ArgumentPasses program.now.words.now program.now.counts state.now.sizes state.now.words.now i.0 j.0 (words_of result) }
+    ensures { PassesOf program.now state.now i.0 j.0 (words_of result) }
 {
     let n = place_of(program, j);
     let at = flows::argument_at(program, i, n);
@@ -49,56 +43,36 @@ fn passed_words(program: &Program, state: &State, i: InsnId, j: InsnId) -> Words
 pub fn surely_covers(a: Words, k: Words) -> bool
     ensures { result ≡ true → union_of (words_of a) (words_of k) ≡ Ok (words_of a) }
 {
-    match compare(a, k) {
-        Covers::Yes => true,
-        Covers::No => false,
-        Covers::Unknown => false,
-    }
+    compare(a, k).unwrap_or(false)
 }
 
-// The same test, which also tells where the union is surely another kind: a is a set that lacks a class of k, and k is no name and not Any.
-fn compare(a: Words, k: Words) -> Covers
+// The same test, which also tells where the union is surely another kind: a is a set that lacks a class of k, and k is no name and not Any. None where it
+// doesn't tell.
+// Stays: no equality and no order of two values is asked here, which a derive would give, but what their union is.
+fn compare(a: Words, k: Words) -> Option<bool>
     ensures { CoversTells (words_of a) (words_of k) result }
 {
-    if k.tag == 0 {
-        return Covers::Yes;
+    if k.is_empty() {
+        return Some(true);
     }
-    if 8 < a.tag {
-        return Covers::Yes;
+    if a.is_set() {
+        let t = flows::as_set(k)? as usize;
+        return Some((a.bits | t) == a.bits);
     }
-    if a.tag == 8 {
-        match flows::as_set(k) {
-            Some(t) => {
-                if (a.bits | t as usize) == a.bits {
-                    return Covers::Yes;
-                }
-                return Covers::No;
-            }
-            None => {
-                return Covers::Unknown;
-            }
-        }
+    if a.is_any() {
+        return Some(true);
     }
-    if a.tag != k.tag {
-        return Covers::Unknown;
+    if a.is_name() {
+        return None;
     }
-    if a.tag == 4 {
-        return Covers::Unknown;
-    }
-    if a.tag == 5 {
-        return Covers::Unknown;
-    }
-    if a.bits == k.bits {
-        return Covers::Yes;
-    }
-    Covers::Unknown
+    (a == k).then_some(true)
 }
 
 // A quick test that the argument of call i for Param j leaves the Param's kind as it is.
 fn surely_keeps(program: &Program, state: &State, i: InsnId, j: InsnId) -> bool
-    requires caller { Caller program.now.words.now program.now.counts state.now.sizes i.0 }
+    requires caller { CallerOf program.now state.now i.0 }
     requires j_lt_insns { j.0 < state.now.sizes.insns }
-    ensures { result ≡ true → Keeps program.now.words.now program.now.counts state.now.sizes state.now.words.now i.0 j.0 }
+    ensures { result ≡ true → KeepsOf program.now state.now i.0 j.0 }
 {
     let k = passed_words(program, state, i, j);
     let old = flows::insn_words(state, j);
@@ -107,16 +81,16 @@ fn surely_keeps(program: &Program, state: &State, i: InsnId, j: InsnId) -> bool
 
 // Param j waits if the argument of call i would change its kind. A union is made only where the quick test doesn't tell.
 fn pass_to(program: &Program, state: &mut State, i: InsnId, j: InsnId) -> Result<(), Refusal>
-    requires caller { Caller program.now.words.now program.now.counts state.old.sizes i.0 }
+    requires caller { CallerOf program.now state.old i.0 }
     requires j_lt_insns { j.0 < state.old.sizes.insns }
     ensures { Did (CallIn program.now.words.now program.now.counts i.0) (λ L program. pass_to L program i.0 j.0) state.old state.new result }
 {
     let k = passed_words(program, state, i, j);
     let old = flows::insn_words(state, j);
     match compare(old, k) {
-        Covers::Yes => Ok(()),
-        Covers::No => state.push_insn(j),
-        Covers::Unknown => state.wake_if_wider(kinds::kind_from(k.tag, k.bits), j),
+        Some(true) => Ok(()),
+        Some(false) => state.push_insn(j),
+        None => state.wake_if_wider(kinds::kind_from(k.tag, k.bits), j),
     }
 }
 
@@ -127,37 +101,27 @@ pub fn pass_arguments(
     i: InsnId,
     entry: BlockId,
 ) -> Result<(), Refusal>
-    requires caller { Caller code.now.program.words.now code.now.program.counts state.old.sizes i.0 }
+    requires caller { CallerOf code.now.program state.old i.0 }
     requires has_params { HasParams state.old.sizes.insns code.now.chains.now entry.0 }
-    ensures { (f : ℕ) → Did (PassIn code.now.program.words.now code.now.program.counts state.old.sizes code.now.chains.now i.0 f entry.0)
+    ensures { (f : ℕ) → Did (PassOf code.now state.old i.0 f entry.0)
         (λ L program. pass_arguments L program i.0 f) state.old state.new result }
 {
-    let n = state.sizes.insns;
-    let mut j = chains::first_param(code.chains, entry);
-    while (j.0 as usize) < n {
+    for j in Chain::new(code.chains, Sort::Params, entry.index(), state.sizes.insns) {
         pass_to(&code.program, state, i, j)?;
-        j = chains::next_param(code.chains, j);
     }
     Ok(())
 }
 
 // A quick test that the arguments of call i leave the kinds of all Params of a function with this entry as they are.
 pub fn surely_keeps_all(code: &Indexed, state: &State, i: InsnId, entry: BlockId) -> bool
-    requires caller { Caller code.now.program.words.now code.now.program.counts state.now.sizes i.0 }
+    requires caller { CallerOf code.now.program state.now i.0 }
     requires has_params { HasParams state.now.sizes.insns code.now.chains.now entry.0 }
     ensures { result ≡ true → (f : ℕ) → PassIdle state.now.sizes
-        (PassIn code.now.program.words.now code.now.program.counts state.now.sizes code.now.chains.now i.0 f entry.0)
+        (PassOf code.now state.now i.0 f entry.0)
         (λ L program. pass_arguments L program i.0 f) state.now.words.now }
 {
-    let n = state.sizes.insns;
-    let mut j = chains::first_param(code.chains, entry);
-    while (j.0 as usize) < n {
-        if !surely_keeps(&code.program, state, i, j) {
-            return false;
-        }
-        j = chains::next_param(code.chains, j);
-    }
-    true
+    let mut params = Chain::new(code.chains, Sort::Params, entry.index(), state.sizes.insns);
+    params.all(|j| surely_keeps(&code.program, state, i, j))
 }
 
 // How many Params a function with this entry has, in a program of n instructions.
@@ -165,11 +129,5 @@ pub fn count_params(chains: &[usize], n: usize, entry: BlockId) -> usize
     requires { HasParams n chains.now entry.0 }
     ensures { (l : List ℕ) → ChainIs chains.now n 1 entry.0 l → length l ≡ result }
 {
-    let mut count = 0;
-    let mut j = chains::first_param(chains, entry);
-    while (j.0 as usize) < n {
-        count += 1;
-        j = chains::next_param(chains, j);
-    }
-    count
+    Chain::new(chains, Sort::Params, entry.index(), n).count()
 }

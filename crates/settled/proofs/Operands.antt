@@ -3,7 +3,6 @@ use mathlib.Core.Path.{◌≡◌, refl, sym, ap, ◌∙◌, subst}
 use mathlib.Core.List.{List}
 use Prim.Native.Nat.{ℕ, ◌+◌, ◌*◌, ◌≤◌, ◌<◌}
 use native.Mathlib.Omega.{arith}
-use lib.ListN.{length}
 use Rattle.kinds.specs.declared.Kind.{Kind}
 use Rattle.kinds.specs.Kinds.{kind_from}
 use Rattle.program.specs.declared.Counts.{Counts}
@@ -22,9 +21,6 @@ use Rattle.visits.proofs.Given.{operand_none}
 use Rattle.program.specs.Layout.{opnds_at}
 
 module _ {p : List ℕ} {c : Counts} (insn : Record) (j : ℕ) (r : ProgramReady p c) (range : insn.first + insn.count ≤ c.opnds) where
-  pub word-inside : j < insn.count → opnds_at + 2 * insn.first + 2 * j + 1 < length p
-  word-inside h = let a = r.len_mem in let b = r.opnds in let d = r.listed in let e = r.insns in omega arith
-
   stands_there : standing p (opnds_at + 2 * insn.first + 2 * j) ≡ opnd_at p (opnds_at + 2 * insn.first + 2 * j)
   stands_there = stands p (λ e. omega arith)
 

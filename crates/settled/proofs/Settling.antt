@@ -1,24 +1,22 @@
 -- What the quick tests say, and the walk through a set of classes. Assumes nothing.
-use mathlib.Core.Bool.{Bool as 𝔹, false, not, ◌||◌}
+use mathlib.Core.Bool.{Bool as 𝔹, false, not}
 use mathlib.Core.Logic.{◌⊎◌, inl, inr}
 use mathlib.Core.Path.{◌≡◌, refl, sym, ◌∙◌, subst}
 use mathlib.Core.List.Memᴰ
 use mathlib.Core.List.{List, [], Memᴰ}
 use Prim.Native.Nat.{ℕ, ◌<◌}
-use borrow.Author.Tests.{eqb-false, not-false}
-use lib.Dec.{eqb}
+use borrow.Author.Tests.{not-false}
 use lib.ListN.{get_or}
 use Rattle.std.specs.Prelude.{Ok}
 use Rattle.ids.specs.Sets.{members_of}
 use Rattle.ids.proofs.Walk.{Step, members_done}
 use Rattle.kinds.specs.declared.Kind.{Kind}
 use Rattle.kinds.specs.declared.Kind.TheVariants.{Empty}
-use Rattle.kinds.specs.Kinds.{kind_from}
+use Rattle.kinds.specs.Kinds.{is_name}
 use Rattle.kinds.specs.Union.{union_of}
 use Rattle.kinds.proofs.Laws.{union-above}
 use Rattle.rules.specs.Machine.{marked}
 use Rattle.rules.specs.Program.{Program, ivar_named}
-use Rattle.rules.proofs.Wellformed.Tests.{or_false_lem as or_parts}
 use Rattle.idle.specs.Settled.{Covered, SettledIn}
 use Rattle.program.specs.declared.Counts.{Counts}
 use Rattle.program.specs.declared.Name.{Name}
@@ -30,17 +28,14 @@ use Rattle.state.specs.declared.Sizes.{Sizes}
 use Rattle.state.specs.View.{Attrs, kinds_of, ivars_of, reads_of}
 use Rattle.machine.specs.receivers.Receivers.{StateMatches}
 use Rattle.machine.proofs.receivers.Walk.{Walking, walk-on}
-use Rattle.sends.proofs.passing.Passes.{no_name-from}
 use Rattle.attributes.proofs.Found.{at_place, at_counted, program-is}
 use Rattle.machine.specs.Analysed.{MachineFits}
 use Rattle.settled.specs.Reads.{SettledAt, SettledFor}
 
 -- ---- covers
 
-pub covers-plain : (s x t y : ℕ) → (eqb t 4 || eqb t 5) ≡ false → union_of (kind_from s x) (kind_from t y) ≡ Ok (kind_from s x) → Covered (kind_from s x) (kind_from t y)
-covers-plain s x t y h e =
-    let n = or_parts (eqb t 4) (eqb t 5) h in
-    record { plain = no_name-from t y (eqb-false t 4 n.0) (eqb-false t 5 n.1); below = (union-above (kind_from s x) (kind_from t y) (kind_from s x) e).1 }
+pub covers-plain : (a k : Kind) → is_name k ≡ false → union_of a k ≡ Ok a → Covered a k
+covers-plain a k n e = record { plain = n; below = (union-above a k a e).1 }
 
 -- ---- one class
 
@@ -67,9 +62,6 @@ pub record Settling (s p : List ℕ) (c : Counts) (z : Sizes) (m : List ℕ) (n 
   pub each : (x : ℕ) → Memᴰ x (members_of b) → Memᴰ x (members_of left) ⊎ SettledAt s p c z m n i k x
 
 module _ {s p : List ℕ} {c : Counts} {z : Sizes} {m : List ℕ} {n : Name} {i : ℕ} {k : Kind} {b : ℕ} where
-  pub settling_start : Walking z.classes b → Settling s p c z m n i k b b
-  settling_start w = record { walking = w; each = λ x h. inl h }
-
   module _ {left : ℕ} (g : Settling s p c z m n i k b left) where
     pub settling_more : {x rest : ℕ} → Step left x rest → SettledAt s p c z m n i k x → Settling s p c z m n i k b rest
     settling_more {x} {rest} u h = record { walking = walk-on u g.walking; each = λ y a. go y (g.each y a) }

@@ -3,7 +3,7 @@ use mathlib.Core.Bool.{Bool as 𝔹, true, false, not, false≢true}
 use mathlib.Core.Logic.{◌⊎◌, inl, inr}
 use mathlib.Core.Path.{◌≡◌, refl, sym, ap, ◌∙◌, subst}
 use mathlib.Core.List.{List, ◌++◌}
-use Prim.Native.Nat.{ℕ, ◌+◌, ◌-◌, ◌*◌, ◌≤◌, ◌<◌}
+use Prim.Native.Nat.{ℕ, ◌+◌, ◌-◌, ◌*◌, ◌<◌}
 use native.Mathlib.Omega.{arith}
 use borrow.Author.Tests.{eqb-true, eqb-false, not-false}
 use lib.Dec.{eqb}
@@ -87,9 +87,6 @@ pub unsettled_start : {p : List ℕ} {z : Sizes} {k : Kind} {m : List ℕ} → U
 unsettled_start = record { long = refl; tables = refl; stamps = λ j. inl refl; reads = λ j h. absurd (omega arith) }
 
 module _ {p : List ℕ} {z : Sizes} {k : Kind} {n : ℕ} {m w : List ℕ} (U : Unsettled p z k n m w) where
-  pub unsettled_done : {l : ℕ} → l ≤ n → Unsettled p z k l m w
-  unsettled_done h = record { long = U.long; tables = U.tables; stamps = U.stamps; reads = λ j a. U.reads j (omega arith) }
-
   pub unsettled_keep : {t : 𝔹} {w' : List ℕ} → Touched p z (tables_of w) n k t → t ≡ false → w' ≡ w → Unsettled p z k (n + 1) m w'
   unsettled_keep {t} T f e = subst (Unsettled p z k (n + 1) m) (sym e) (record { long = U.long; tables = U.tables; stamps = U.stamps; reads = λ j h r. go j h r (same_or j n) })
     where

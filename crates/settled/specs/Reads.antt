@@ -6,6 +6,7 @@ use Rattle.rules.specs.Program.{Program}
 use Rattle.idle.specs.Settled.{Covered, SettledIn, Settled}
 use Rattle.program.specs.declared.Counts.{Counts}
 use Rattle.program.specs.declared.Name.{Name}
+use Rattle.program.specs.declared.reader.Program.{Program as Tables}
 use Rattle.program.specs.Rows.{opnd_at, name_in, nth}
 use Rattle.program.specs.View.{ProgramReady}
 use Rattle.records.specs.declared.Record.{Record}
@@ -41,6 +42,13 @@ pub record SettledAt (s p : List ℕ) (c : Counts) (z : Sizes) (m : List ℕ) (n
 -- in each class of set b, with the kind that it has
 pub record SettledFor (s p : List ℕ) (c : Counts) (z : Sizes) (m : List ℕ) (n : Name) (i b : ℕ) : Type 0 where
   pub is : (P : Program) (v : Attrs) → MachineFits s p c P v → Settled P (name_in s n) i b (kinds_of z m) (ivars_of z v m) (reads_of z m)
+
+-- the same of values that are lent
+abbrev pub ClassSettled : Tables → State → Name → ℕ → Kind → ℕ → Type 0
+ClassSettled t s n i k x = SettledAt t.script.now t.words.now t.counts s.sizes s.words.now n i k x
+
+abbrev pub ClassesSettled : Tables → State → Name → ℕ → ℕ → Type 0
+ClassesSettled t s n i b = SettledFor t.script.now t.words.now t.counts s.sizes s.words.now n i b
 
 -- the operands of an instruction are in the tables; a read's receiver and a setting's value are the program's
 pub record Operands (p : List ℕ) (c : Counts) (z : Sizes) (x : Record) : Type 0 where

@@ -9,26 +9,24 @@ ghost use Rattle.records.specs.Records.{record_at, row_of};
 ghost use Rattle.state.specs.View.{Attrs, kinds_of, ivars_of};
 ghost use Rattle.machine.specs.opnds.Reads.{OperandInside, kind_in};
 ghost use Rattle.flows.specs.Flows.{words_of};
-ghost use Rattle.machine.specs.receivers.Receivers.{StateMatches, ClassesBelow};
+ghost use Rattle.machine.specs.receivers.Receivers.{ClassesBelow};
+ghost use Rattle.attributes.specs.Attributes.{Matches};
 ghost use Rattle.visits.specs.Visits.{operands_of};
 ghost use Rattle.memory.specs.Layout.{instructions_most, ivars_most};
 ghost use Rattle.program.specs.Layout.{opnds_at};
-ghost use Rattle.settled.specs.Reads.{whole, SettledAt, SettledFor, Operands, Decides, Touched, Unsettled};
+ghost use Rattle.settled.specs.Reads.{whole, ClassSettled, ClassesSettled, Operands, Decides, Touched, Unsettled};
 
 use flows::Words;
 use ids::{ClassId, InsnId};
 use program::{Name, Program};
-use records::Record;
+use records::{Access, Record};
 use state::State;
 
 // A quick test that a covers k, which is no name.
 fn covers(a: Words, k: Words) -> bool
     ensures { result ≡ true → Covered (words_of a) (words_of k) }
 {
-    if (k.tag == 4) | (k.tag == 5) {
-        return false;
-    }
-    sends::passing::surely_covers(a, k)
+    !k.is_name() && sends::passing::surely_covers(a, k)
 }
 
 // The kind of the attribute at place a of class x, in words.
@@ -36,7 +34,7 @@ fn ivar_words(state: &State, x: ClassId, a: usize) -> Words
     requires x_lt_classes { (x.0 < state.now.sizes.classes) × (a < ivars_most) }
     ensures { (v : Attrs) → a < v.count x.0 → words_of result ≡ get_or (get_or (ivars_of state.now.sizes v state.now.words.now) x.0 []) a Kind.Empty }
 {
-    let at = x.0 as usize * memory::IVARS_MOST + a;
+    let at = x.index() * memory::IVARS_MOST + a;
     Words {
         tag: state.words[state::IVARS + at],
         bits: state.words[state::IVAR_BITS + at],
@@ -44,10 +42,12 @@ fn ivar_words(state: &State, x: ClassId, a: usize) -> Words
 }
 
 // A quick test that read i of attribute n, whose kind is k, is settled in class x.
+// Stays: these clauses tie the program to the state, which is lent apart from it, and bound an argument by either: no value holds both.
+#[tactic(auto, using(attributes::proofs::Classes::class_counted))]
 fn settled_in(program: &Program, state: &State, n: Name, i: InsnId, k: Words, x: ClassId) -> bool
-    requires state_matches { StateMatches state.now.sizes program.now.words.now program.now.counts }
+    requires state_matches { Matches program.now state.now }
     requires x_lt_classes { (x.0 < state.now.sizes.classes) × (i.0 < state.now.sizes.insns) }
-    ensures { result ≡ true → SettledAt program.now.script.now program.now.words.now program.now.counts state.now.sizes state.now.words.now n i.0 (words_of k) x.0 }
+    ensures { result ≡ true → ClassSettled program.now state.now n i.0 (words_of k) x.0 }
 {
     if !state.has_read(x, i) {
         return false;
@@ -60,33 +60,29 @@ fn settled_in(program: &Program, state: &State, n: Name, i: InsnId, k: Words, x:
 
 // A quick test that read i of attribute n is settled in each class of a set.
 fn settled(program: &Program, state: &State, n: Name, i: InsnId, set: u64) -> bool
-    requires state_matches { StateMatches state.now.sizes program.now.words.now program.now.counts }
+    requires state_matches { Matches program.now state.now }
     requires classes_below { ClassesBelow state.now.sizes.classes set }
     requires i_lt_insns { i.0 < state.now.sizes.insns }
-    ensures { result ≡ true → SettledFor program.now.script.now program.now.words.now program.now.counts state.now.sizes state.now.words.now n i.0 set }
+    ensures { result ≡ true → ClassesSettled program.now state.now n i.0 set }
 {
     let k = flows::insn_words(state, i);
-    let mut left = set;
-    while let Some((x, rest)) = ids::smallest(left) {
+    for x in ids::classes(set) {
         if !settled_in(program, state, n, i, k, x) {
             return false;
         }
-        left = rest;
     }
     true
 }
 
 // A set of classes for which read i of attribute n is settled: those of the kind o, or none.
 pub fn stamp(program: &Program, state: &State, n: Name, i: InsnId, o: Words) -> usize
-    requires state_matches { StateMatches state.now.sizes program.now.words.now program.now.counts }
+    requires state_matches { Matches program.now state.now }
     requires classes_below { o.tag ≡ 8 → ClassesBelow state.now.sizes.classes o.bits }
     requires i_lt_insns { i.0 < state.now.sizes.insns }
-    ensures { SettledFor program.now.script.now program.now.words.now program.now.counts state.now.sizes state.now.words.now n i.0 result }
+    ensures { ClassesSettled program.now state.now n i.0 result }
 {
-    if o.tag == 8 {
-        if settled(program, state, n, i, o.bits as u64) {
-            return o.bits;
-        }
+    if o.is_set() && settled(program, state, n, i, o.bits as u64) {
+        return o.bits;
     }
     0
 }
@@ -100,7 +96,7 @@ pub fn operand_words(program: &Program, state: &State, insn: Record, j: usize) -
     if j < insn.count {
         return flows::opnd_words(program, state, program::OPNDS + 2 * insn.first + 2 * j);
     }
-    Words { tag: 1, bits: 0 }
+    Words::NIL
 }
 
 // The kind, in words, by which stamps of reads are made or kept: of a read its receiver's, of a setting its value's.
@@ -108,25 +104,21 @@ pub fn decisive_words(program: &Program, state: &State, insn: Record) -> Words
     requires operands { Operands program.now.words.now program.now.counts state.now.sizes insn }
     ensures { Decides program.now.words.now state.now.sizes state.now.words.now insn (words_of result) }
 {
-    if insn.tag < 13 {
-        return Words { tag: 0, bits: 0 };
+    match insn.access() {
+        Access::Neither => Words::EMPTY,
+        Access::Read => operand_words(program, state, insn, 0),
+        Access::Setting => operand_words(program, state, insn, 1),
     }
-    if insn.tag == 13 {
-        return operand_words(program, state, insn, 0);
-    }
-    operand_words(program, state, insn, 1)
 }
 
 // Whether instruction j is a read whose kind may not cover k.
+// Stays: by the one word that says whether it is a read, which is asked of every instruction that a setting may touch.
 fn touched(program: &Program, state: &State, j: InsnId, k: Words) -> bool
     requires { j.0 < state.now.sizes.insns }
     ensures { Touched program.now.words.now state.now.sizes state.now.words.now j.0 (words_of k) result }
 {
-    let at = program::INSNS + program::INSN_WORDS * (j.0 as usize);
-    if program.words[at] == 13 {
-        return !covers(flows::insn_words(state, j), k);
-    }
-    false
+    let at = program::INSNS + program::INSN_WORDS * j.index();
+    program.words[at] == 13 && !covers(flows::insn_words(state, j), k)
 }
 
 // Where kind k went into an attribute and reads were woken, a read whose kind may not cover k is settled in no class.

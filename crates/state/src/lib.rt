@@ -21,6 +21,7 @@ pub struct Sizes {
 }
 
 // Where a worklist starts in its ring, and how many entries wait.
+// Stays: a place and a length and no slice, since behind its last word a ring goes on at its first.
 #[derive(Clone, Copy)]
 pub struct Ring {
     pub head: usize,
@@ -45,6 +46,7 @@ pub struct State<'a> {
 }
 
 // Where the tables start; kind bytes stand at 0.
+// Stays: tables told apart by where they start, and no struct of slices, since the C interface lends the state's part as one memory.
 pub const BITS: usize = memory::INSTRUCTIONS_MOST;
 
 pub const LIVE: usize = BITS + memory::INSTRUCTIONS_MOST;
@@ -129,11 +131,13 @@ impl State<'_> {
     ghost use Rattle.state.specs.Changes.{Every, Following, push_where, wake_callers};
     ghost use Rattle.state.specs.Methods.{view, Put, Did, Added, Marked, bit_of, InFront, TookInsn, TookBlock};
 
+    // Stays: that a number is one of the state's is a clause of each method that takes it, since no type of the number alone knows the sizes.
+    #[tactic(auto, using(crate::proofs::Tables::kind_at))]
     pub fn kind_at(&self, i: InsnId) -> Kind
         requires i_lt_insns { i.0 < self.now.sizes.insns }
         ensures { result ≡ get_or (kinds_of self.now.sizes self.now.words.now) i.0 Kind.Empty }
     {
-        let at = i.0 as usize;
+        let at = i.index();
         kinds::kind_from(self.words[at], self.words[BITS + at])
     }
 
@@ -141,31 +145,33 @@ impl State<'_> {
         requires i_lt_insns { i.0 < self.old.sizes.insns }
         ensures { Put (set_kind i.0 k) self.old self.new }
     {
-        let at = i.0 as usize;
+        let at = i.index();
         self.words[at] = k.tag();
         self.words[BITS + at] = k.payload();
     }
 
+    #[tactic(auto, using(crate::proofs::Tables::live_at_lem))]
     pub fn is_live(&self, b: BlockId) -> bool
         requires b_lt_blocks { b.0 < self.now.sizes.blocks }
         ensures { result ≡ get_or (live_of self.now.sizes self.now.words.now) b.0 false }
     {
-        self.words[LIVE + b.0 as usize] != 0
+        self.words[LIVE + b.index()] != 0
     }
 
     pub fn set_live(&mut self, b: BlockId)
         requires b_lt_blocks { b.0 < self.old.sizes.blocks }
         ensures { Put (set_live b.0) self.old self.new }
     {
-        self.words[LIVE + b.0 as usize] = 1;
+        self.words[LIVE + b.index()] = 1;
     }
 
     // The kind of the attribute at place a of class c.
+    #[tactic(auto, using(crate::proofs::Tables::ivar_at_lem))]
     pub fn ivar_at(&self, c: ClassId, a: usize) -> Kind
         requires c_lt_classes { (c.0 < self.now.sizes.classes) × (a < ivars_most) }
         ensures { (v : Attrs) → a < v.count c.0 → result ≡ get_or (get_or (ivars_of self.now.sizes v self.now.words.now) c.0 []) a Kind.Empty }
     {
-        let at = c.0 as usize * memory::IVARS_MOST + a;
+        let at = c.index() * memory::IVARS_MOST + a;
         kinds::kind_from(self.words[IVARS + at], self.words[IVAR_BITS + at])
     }
 
@@ -173,17 +179,19 @@ impl State<'_> {
         requires c_lt_classes { (c.0 < self.old.sizes.classes) × (a < ivars_most) }
         ensures { Put (set_ivar_kind c.0 a k) self.old self.new }
     {
-        let at = c.0 as usize * memory::IVARS_MOST + a;
+        let at = c.index() * memory::IVARS_MOST + a;
         self.words[IVARS + at] = k.tag();
         self.words[IVAR_BITS + at] = k.payload();
     }
 
+    // Stays: callers and reads are rows of two tables for ids of two sorts; what they share is `has_mark`, `add_mark` and `next_mark`.
     // Instruction i has called f.
+    #[tactic(auto, using(crate::proofs::Tables::called_at_lem))]
     pub fn has_called(&self, f: FunId, i: InsnId) -> bool
         requires f_lt_functions { (f.0 < self.now.sizes.functions) × (i.0 < self.now.sizes.insns) }
         ensures { result ≡ marked (called_of self.now.sizes self.now.words.now) f.0 i.0 }
     {
-        self.has_mark(row(CALLERS, f.0), i)
+        self.has_mark(row(CALLERS, f.index()), i)
     }
 
     // Instruction i is a caller of f from now on; true where it is a new one.
@@ -194,39 +202,42 @@ impl State<'_> {
         if self.has_called(f, i) {
             return false;
         }
-        self.add_mark(row(CALLERS, f.0), i);
+        self.add_mark(row(CALLERS, f.index()), i);
         true
     }
 
     // Read i has met class c.
+    #[tactic(auto, using(crate::proofs::Tables::read_at))]
     pub fn has_read(&self, c: ClassId, i: InsnId) -> bool
         requires c_lt_classes { (c.0 < self.now.sizes.classes) × (i.0 < self.now.sizes.insns) }
         ensures { result ≡ marked (reads_of self.now.sizes self.now.words.now) c.0 i.0 }
     {
-        self.has_mark(row(READS, c.0), i)
+        self.has_mark(row(READS, c.index()), i)
     }
 
     pub fn add_read(&mut self, c: ClassId, i: InsnId)
         requires c_lt_classes { (c.0 < self.old.sizes.classes) × (i.0 < self.old.sizes.insns) }
         ensures { Put (add_read c.0 i.0) self.old self.new }
     {
-        self.add_mark(row(READS, c.0), i);
+        self.add_mark(row(READS, c.index()), i);
     }
 
     // The first caller of f that is not below `from`.
+    #[tactic(auto, using(crate::proofs::Puts::caller_next))]
     pub fn next_caller(&self, f: FunId, from: InsnId) -> Option<InsnId>
         requires f_lt_functions { f.0 < self.now.sizes.functions }
         ensures { Following (called_of self.now.sizes self.now.words.now) f.0 self.now.sizes.insns from.0 result }
     {
-        self.next_mark(row(CALLERS, f.0), from)
+        self.next_mark(row(CALLERS, f.index()), from)
     }
 
     // The first read that met class c and is not below `from`.
+    #[tactic(auto, using(crate::proofs::Puts::read_next))]
     pub fn next_read(&self, c: ClassId, from: InsnId) -> Option<InsnId>
         requires c_lt_classes { c.0 < self.now.sizes.classes }
         ensures { Following (reads_of self.now.sizes self.now.words.now) c.0 self.now.sizes.insns from.0 result }
     {
-        self.next_mark(row(READS, c.0), from)
+        self.next_mark(row(READS, c.index()), from)
     }
 
     // Word k of the callers of f: a bit for each instruction.
@@ -234,7 +245,7 @@ impl State<'_> {
         requires f_lt_functions { (f.0 < self.now.sizes.functions) × (k < row_words) }
         ensures { RowWord (get_or (called_of self.now.sizes self.now.words.now) f.0 []) k result }
     {
-        memory::tables::row_word(self.words, row(CALLERS, f.0), self.sizes.insns, k)
+        memory::tables::row_word(self.words, row(CALLERS, f.index()), self.sizes.insns, k)
     }
 
     // Instruction i waits, or 20.
@@ -242,7 +253,7 @@ impl State<'_> {
         requires i_lt_insns { i.0 < self.old.sizes.insns }
         ensures { Did Every (λ L p. push_insn L p i.0) self.old self.new result }
     {
-        self.regs.insns.push(self.words, INSNS, i.0 as usize)
+        self.regs.insns.push(self.words, INSNS, i.index())
     }
 
     // Block b waits, or 20.
@@ -250,7 +261,7 @@ impl State<'_> {
         requires b_lt_blocks { b.0 < self.old.sizes.blocks }
         ensures { Did Every (λ L p. push_block L p b.0) self.old self.new result }
     {
-        self.regs.blocks.push(self.words, BLOCKS, b.0 as usize)
+        self.regs.blocks.push(self.words, BLOCKS, b.index())
     }
 
     // The instruction in front is taken off.
@@ -265,6 +276,7 @@ impl State<'_> {
     }
 
     // The instruction in front, which stays there.
+    #[tactic(auto, using(crate::proofs::Pushes::in_front))]
     pub fn front_insn(&self) -> InsnId
         requires { 0 < self.now.regs.insns.len }
         ensures { InFront result.0 self.now }
@@ -273,6 +285,7 @@ impl State<'_> {
     }
 
     // The block in front is taken off.
+    // Stays: beside `take_insn`, since what the two have in common is `Ring::take`; ring, words, flag and result differ.
     pub fn take_block(&mut self) -> BlockId
         requires len_nonzero { (0 < self.old.regs.blocks.len) × (self.old.regs.count < 2 ^ 63) }
         ensures { TookBlock result.0 self.old self.new }
@@ -318,6 +331,7 @@ impl State<'_> {
         requires f_lt_functions { f.0 < self.old.sizes.functions }
         ensures { Did Every (λ L p. wake_callers L p f.0 k) self.old self.new result }
     {
+        // Stays: no iterator over the callers, since the state is changed within the loop, so that nothing may borrow them meanwhile.
         let mut from = InsnId(0);
         while let Some(i) = self.next_caller(f, from) {
             self.wake_if_wider(k, i)?;
@@ -331,14 +345,14 @@ impl State<'_> {
         requires at_bound { (at + row_words ≤ state_size) × (i.0 < self.now.sizes.insns) }
         ensures { result ≡ bit_at self.now.words.now at i.0 }
     {
-        memory::tables::test_bit(self.words, at, i.0 as usize)
+        memory::tables::test_bit(self.words, at, i.index())
     }
 
     fn add_mark(&mut self, at: usize, i: InsnId)
         requires at_bound { (called_at ≤ at) × (at + row_words ≤ insn_ring_at) × (i.0 < self.old.sizes.insns) }
         ensures { Marked at i.0 self.old self.new }
     {
-        memory::tables::set_bit(self.words, at, i.0 as usize);
+        memory::tables::set_bit(self.words, at, i.index());
     }
 
     // The first set bit of such a row that is not below `from`.
@@ -346,15 +360,15 @@ impl State<'_> {
         requires at_bound { at + row_words ≤ state_size }
         ensures { Next (bit_at self.now.words.now at) self.now.sizes.insns from.0 (bit_of result) }
     {
-        let j = memory::tables::next_bit(self.words, at, from.0 as usize, self.sizes.insns)?;
+        let j = memory::tables::next_bit(self.words, at, from.index(), self.sizes.insns)?;
         Some(InsnId(j as u32))
     }
 }
 
 // Where row n of a table of such rows starts.
-fn row(table: usize, n: u32) -> usize
+fn row(table: usize, n: usize) -> usize
     requires { (table ≤ state_size) × (n < functions_most) }
     ensures { result ≡ table + n * row_words }
 {
-    table + n as usize * ROW_WORDS
+    table + n * ROW_WORDS
 }

@@ -1,12 +1,12 @@
 -- Stamps of the reads of attributes: a visit, a setting and a block that goes live leave them settled, or their stamps are made anew. Assumes nothing.
-use mathlib.Core.Bool.{Bool as 𝔹, true, false, not, ◌&&◌, true≢false}
+use mathlib.Core.Bool.{Bool as 𝔹, true, false, ◌&&◌}
 use mathlib.Core.Logic.{◌⊎◌, inl, inr}
 use mathlib.Core.Path.{◌≡◌, refl, sym, ap, ◌∙◌, subst}
 use mathlib.Core.List.{List, [], ◌∷◌}
 use Prim.Native.Nat.{ℕ, ◌+◌, ◌^◌, ◌≤◌, ◌<◌}
 use native.Mathlib.Omega.{arith}
-use borrow.Author.Tests.{eqb-true, ltb-true, ltb-false}
-use lib.Dec.{eqb, ltb}
+use borrow.Author.Tests.{eqb-true}
+use lib.Dec.{eqb}
 use lib.ListN.{length, get_or, set}
 use Rattle.kinds.specs.declared.Kind.{Kind}
 use Rattle.kinds.specs.declared.Kind.TheVariants.{Empty}
@@ -90,10 +90,9 @@ module _ {s p : List ℕ} {c : Counts} {x u : List ℕ} {z : Sizes} {m : List �
       subst (λ (y : Record). SettledFor s p c z (tables_of m) (name_of y) i (stamp_of m i)) (sym (its_record F)) (S.reads i F.front.inside (subst (λ (y : Record). y.tag ≡ 13) (its_record F) k)) in
       record { is = λ L room. read-passes n (visiting F).read k o l (eqb-true o.tag 8 b.0) (subst (SettledFor s p c z (tables_of m) (name_of n) i) (eqb-true (stamp_of m i) o.bits b.1) K) L }
 
-  pub other_idles : (ltb n.tag 13 && eqb (stamp_of m i) e) ≡ true → Passes s p c z (tables_of m) i
-  other_idles g =
-      let b = and-true (ltb n.tag 13) (eqb (stamp_of m i) e) g in
-      let I = S.dated.idle i F.front.inside (subst (λ (y : Record). y.tag < 13) (its_record F) (ltb-true n.tag 13 b.0)) (eqb-true (stamp_of m i) e b.1) in
+  pub other_idles : n.tag < 13 → eqb (stamp_of m i) e ≡ true → Passes s p c z (tables_of m) i
+  other_idles l g =
+      let I = S.dated.idle i F.front.inside (subst (λ (y : Record). y.tag < 13) (its_record F) l) (eqb-true (stamp_of m i) e g) in
       record { is = λ L room P v f q. I L room P v f (state_view z v (tables_of m) q) refl refl refl }
 
 -- ---- what leaves a read settled: the tables m before a visit of i, and w after it
@@ -174,8 +173,10 @@ module _ {s p : List ℕ} {c : Counts} {x u : List ℕ} {z : Sizes} {m : List �
       → SettledFor s p c z (tables_of w) (name_of (record_at p j)) j (stamp_of w j)
   as_before {j} h = subst (SettledFor s p c z (tables_of w) (name_of (record_at p j)) j) (sym (G.others j (omega arith)))
 
-  other-on : (record_at p i).tag < 13 → Comes w
-  other-on k = comes refl refl (λ j h. refl) (λ j a h. as_before h (other_settled F G.step (other_sort h (λ g. omega arith)) (S.reads j a h) (omega arith)))
+  pub other-on : n.tag < 13 → Comes w
+  other-on l =
+      let k = subst (λ (y : Record). y.tag < 13) (its_record F) l in
+      comes refl refl (λ j h. refl) (λ j a h. as_before h (other_settled F G.step (other_sort h (λ g. omega arith)) (S.reads j a h) (omega arith)))
 
   pub read-on : n.tag ≡ 13 → {b : ℕ} → SettledFor s p c z (tables_of w) (name_of n) i b → Comes (set w (stamps_at + i) b)
   read-on k {b} K =
@@ -199,12 +200,12 @@ module _ {s p : List ℕ} {c : Counts} {x u : List ℕ} {z : Sizes} {m : List �
     tag = subst (λ (y : Record). 13 < y.tag) (its_record F) k
 
     -- a setting that woke no read
-    quiet_on : r.insns.len + 1 ≡ q.insns.len → Comes w
+    pub quiet_on : r.insns.len + 1 ≡ q.insns.len → Comes w
     quiet_on h = comes refl refl (λ j h. refl) (λ j a y. as_before y (quiet_settled F G.step (other_sort y (λ o. let b = tag in omega arith)) a y h (S.reads j a y)))
 
-    -- one after which only the reads kept their stamps whose kinds cover the kind that was set
-    unsettled_on : {v : Kind} {l : List ℕ} → v ≡ kind_in (kinds_of z (tables_of m)) (nth (operands_of p (row_of n)) 1) → Unsettled p z v z.insns w l → Comes l
-    unsettled_on {v} {l} e U = comes U.long U.tables kept (λ j a h. go j a h (U.stamps j) (U.reads j a h))
+    -- one that woke reads, after which only the reads kept their stamps whose kinds cover the kind that was set
+    pub unsettled_on : {v : Kind} {l : List ℕ} → Decides p z (tables_of m) n v → Unsettled p z v z.insns w l → Comes l
+    unsettled_on {v} {l} D U = comes U.long U.tables kept (λ j a h. go j a h (U.stamps j) (U.reads j a h))
       where
         kept : (j : ℕ) → (record_at p j).tag < 13 → stamp_of l j ≡ stamp_of w j
         kept j h = same (U.stamps j)
@@ -214,7 +215,7 @@ module _ {s p : List ℕ} {c : Counts} {x u : List ℕ} {z : Sizes} {m : List �
             same (inr y) = absurd (let o = y.1 in omega arith)
 
         value : v ≡ kind_in (kinds_of z (tables_of m)) (nth (operands_of p (row_of (record_at p i))) 1)
-        value = e ∙ ap (λ (y : Record). kind_in (kinds_of z (tables_of m)) (nth (operands_of p (row_of y)) 1)) (its_record F)
+        value = D.value k ∙ ap (λ (y : Record). kind_in (kinds_of z (tables_of m)) (nth (operands_of p (row_of y)) 1)) (its_record F)
 
         none : (j : ℕ) → stamp_of l j ≡ 0 → SettledFor s p c z (tables_of w) (name_of (record_at p j)) j (stamp_of l j)
         none j y = subst (SettledFor s p c z (tables_of w) (name_of (record_at p j)) j) (sym y) none_settled
@@ -227,18 +228,6 @@ module _ {s p : List ℕ} {c : Counts} {x u : List ℕ} {z : Sizes} {m : List �
         go j a h (inl y) (inr o) =
             subst (SettledFor s p c z (tables_of w) (name_of (record_at p j)) j) (sym y)
             (as_before h (covered_settled F G.step (other_sort h (λ o. let b = tag in omega arith)) (S.reads j a h) tag value o))
-
-  -- a setting that woke reads, and all else
-  pub set_on_lem : {v : Kind} {l : List ℕ} → (ltb 13 n.tag && not (eqb (r.insns.len + 1) q.insns.len)) ≡ true → Decides p z (tables_of m) n v → Unsettled p z v z.insns w l → Comes l
-  set_on_lem h D U = let k = ltb-true 13 n.tag (and-true (ltb 13 n.tag) (not (eqb (r.insns.len + 1) q.insns.len)) h).0 in unsettled_on k (D.value k) U
-
-  pub rest-on : (n.tag ≡ 13 → ⊥) → (ltb 13 n.tag && not (eqb (r.insns.len + 1) q.insns.len)) ≡ false → Comes w
-  rest-on o h = go (ltb 13 n.tag) refl (eqb (r.insns.len + 1) q.insns.len) refl h
-    where
-      go : (a : 𝔹) → ltb 13 n.tag ≡ a → (b : 𝔹) → eqb (r.insns.len + 1) q.insns.len ≡ b → (a && not b) ≡ false → Comes w
-      go true a true b y = quiet_on (ltb-true 13 n.tag a) (eqb-true (r.insns.len + 1) q.insns.len b)
-      go true a false b y = absurd (true≢false y)
-      go false a b e y = other-on (subst (λ (y : Record). y.tag < 13) (its_record F) (let l = ltb-false 13 n.tag a in omega arith))
 
 -- ---- the step, by what it takes
 

@@ -2,9 +2,9 @@
 use mathlib.Core.Bool.{Bool as 𝔹, true, false, not, ◌&&◌}
 use mathlib.Core.Path.{◌≡◌, refl, sym, ap, ◌∙◌, subst}
 use mathlib.Core.List.{List, ◌++◌}
-use Prim.Native.Nat.{ℕ, ◌+◌}
+use Prim.Native.Nat.{ℕ, ◌+◌, ◌<◌}
 use borrow.Author.Tests.{eqb-true}
-use lib.Dec.{eqb, ltb}
+use lib.Dec.{eqb}
 use lib.ListN.{get_or, set}
 use Rattle.std.specs.Prelude.{Result, Ok, Err}
 use Rattle.refusals.specs.declared.Refusal.{Refusal}
@@ -38,7 +38,7 @@ use Rattle.steps.specs.Steps.{block_next, Facing}
 use Rattle.steps.specs.Methods.{Step, insn_next, FacingIn, DatedIn, StampedIn, VisitedIn, TimelyIn}
 use Rattle.steps.proofs.Stepping.{insn_stepped, code_fits}
 use Rattle.steps.proofs.Stamps.{Back, whole_stamp, whole_back, skipped, visit_no, visit_changed, visit-kept, visit_stamped}
-use Rattle.steps.proofs.Kept.{stamp_asked, read_idles, other_idles, read-on, set_on_lem, rest-on, timely_insn, block_no, timely_block}
+use Rattle.steps.proofs.Kept.{stamp_asked, read_idles, other_idles, read-on, other-on, quiet_on, unsettled_on, timely_insn, block_no, timely_block}
 
 -- the instruction in front is taken off and visited
 pub insn_done : {fits : Program → Attrs → Type 0} {i : ℕ} {s t u : State} (r : Result (Unit {0}) Refusal) → TookInsn i s t → Did fits (λ L P. visit L P i) t u r → Stepped fits insn_next s u r
@@ -102,11 +102,11 @@ module _ (T : Tables) where
       pub timed_kept : VisitedIn T s a t a (Ok e)
       timed_kept = record { lent = d.lent; visited = visit-kept D back (facing_back s a F) (stepped_back a d h) same_kind ring }
 
-      pub timed_stamped : (ltb n.tag 13 && eqb (t.regs.insns.len + 1) s.regs.insns.len) ≡ true → VisitedIn T s a t (set a i e) (Ok e)
-      timed_stamped b = record {
+      pub timed_stamped : n.tag < 13 → eqb (t.regs.insns.len + 1) s.regs.insns.len ≡ true → VisitedIn T s a t (set a i e) (Ok e)
+      timed_stamped l b = record {
         lent = d.lent;
         visited = subst (λ (o : List ℕ). Visited script words counts s.sizes insn_next (whole s a) s.regs o t.regs (Ok e)) (sym (whole_set t a i e))
-            (visit_stamped D back (facing_back s a F) (stepped_back a d h) same_kind ring b);
+            (visit_stamped D back (facing_back s a F) (stepped_back a d h) same_kind ring l b);
       }
 
   -- ---- the stamps of reads after it
@@ -134,15 +134,18 @@ module _ (T : Tables) where
           let K'' = subst (λ (m : List ℕ). SettledFor script words counts s.sizes m (name_of n) i x) (sym (whole_tables t b)) K' in
           record { lent = V.lent; timely = subst Comes (sym (whole_set t b i x)) (read-on (facing_back s a F) S done g K'') }
 
-      pub insn_set : {v : Kind} {l : List ℕ} → (ltb 13 n.tag && not (eqb (t.regs.insns.len + 1) s.regs.insns.len)) ≡ true → Decides words s.sizes s.words.now n v
+      pub insn_set : {v : Kind} {l : List ℕ} → 13 < n.tag → Decides words s.sizes s.words.now n v
           → Unsettled words t.sizes v t.sizes.insns (whole t b) (whole t l) → TimelyIn insn_next T s a t l (Ok k)
       insn_set {v} {l} g d U =
           let d' = subst (λ (m : List ℕ). Decides words s.sizes m n v) (sym (whole_tables s a)) d in
           let U' = subst (λ (z : Sizes). Unsettled words z v z.insns (whole t b) (whole t l)) V.lent.sizes U in
-          record { lent = V.lent; timely = set_on_lem (facing_back s a F) S done g d' U' }
+          record { lent = V.lent; timely = unsettled_on (facing_back s a F) S done g d' U' }
 
-      pub insn_rest : (n.tag ≡ 13 → ⊥) → (ltb 13 n.tag && not (eqb (t.regs.insns.len + 1) s.regs.insns.len)) ≡ false → TimelyIn insn_next T s a t b (Ok k)
-      insn_rest o g = record { lent = V.lent; timely = rest-on (facing_back s a F) S done o g }
+      pub insn_quiet : 13 < n.tag → t.regs.insns.len + 1 ≡ s.regs.insns.len → TimelyIn insn_next T s a t b (Ok k)
+      insn_quiet l g = record { lent = V.lent; timely = quiet_on (facing_back s a F) S done l g }
+
+      pub insn_other : n.tag < 13 → TimelyIn insn_next T s a t b (Ok k)
+      insn_other l = record { lent = V.lent; timely = other-on (facing_back s a F) S done l }
 
   -- ---- a visit that surely does nothing
 
@@ -153,9 +156,9 @@ module _ (T : Tables) where
         (read_idles (facing_back s a F) S k o (l ∙ ap (λ (m : List ℕ). kind_in (kinds_of s.sizes m) (nth (operands_of words (row_of n)) 0)) (sym (whole_tables s a)))
         (ap (λ (x : ℕ). eqb o.tag 8 && eqb x o.bits) (whole_stamp s a i) ∙ g))
 
-    pub idle_other : (ltb n.tag 13 && eqb (get_or a i 0) e) ≡ true → Passes script words counts s.sizes s.words.now i
-    idle_other g = subst (λ (m : List ℕ). Passes script words counts s.sizes m i) (whole_tables s a)
-        (other_idles (facing_back s a F) S (ap (λ (x : ℕ). ltb n.tag 13 && eqb x e) (whole_stamp s a i) ∙ g))
+    pub idle_other : n.tag < 13 → eqb (get_or a i 0) e ≡ true → Passes script words counts s.sizes s.words.now i
+    idle_other l g = subst (λ (m : List ℕ). Passes script words counts s.sizes m i) (whole_tables s a)
+        (other_idles (facing_back s a F) S l (ap (λ (x : ℕ). eqb x e) (whole_stamp s a i) ∙ g))
 
     pub idle_taken : {j : ℕ} {t : State} → Passes script words counts s.sizes s.words.now i → TookInsn j s t → TimelyIn insn_next T s a t a (Ok e)
     idle_taken {j} {t} P k =

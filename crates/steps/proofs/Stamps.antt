@@ -1,12 +1,12 @@
 -- Stamps: a visit that is left out, and the stamps after one that is not. Assumes nothing.
-use mathlib.Core.Bool.{true, false, ◌&&◌}
+use mathlib.Core.Bool.{true, false}
 use mathlib.Core.Logic.{◌⊎◌, inl, inr}
 use mathlib.Core.Path.{◌≡◌, refl, sym, ap, ◌∙◌, subst}
 use mathlib.Core.List.{List, [], ◌∷◌}
 use Prim.Native.Nat.{ℕ, ◌+◌, ◌≤◌, ◌<◌}
 use native.Mathlib.Omega.{arith}
-use borrow.Author.Tests.{eqb-true, ltb-true}
-use lib.Dec.{eqb, ltb}
+use borrow.Author.Tests.{eqb-true}
+use lib.Dec.{eqb}
 use lib.ListN.{length, get_or, set, length-append}
 use lib.Seq.{get_or-append-add}
 use Rattle.kinds.specs.declared.Kind.TheVariants.{Empty}
@@ -15,7 +15,6 @@ use Rattle.rules.specs.Actions.{Answer, answered, refused}
 use Rattle.rules.specs.Program.{Limits, Program}
 use Rattle.rules.specs.Machine.{State, state_of, take_insn, visit, taken}
 use Rattle.rules.proofs.Exactness.Answers.{answer, never}
-use Rattle.rules.proofs.Wellformed.Tests.{and-true}
 use Rattle.memory.proofs.tables.Listed.{listed-length}
 use Rattle.program.specs.View as P
 use Rattle.program.specs.View.{ReadsInsn}
@@ -206,12 +205,11 @@ module _ {s p : List ℕ} {c : Counts} {z : Sizes} {m : List ℕ} {q : Regs} {e 
     pub visit-kept : Visits o r (Ok e)
     visit-kept = record { step = came_back d; dated = dates_kept; others = λ k _. B.stamps k }
 
-    pub visit_stamped : (ltb n.tag 13 && eqb (r.insns.len + 1) q.insns.len) ≡ true → Visits (set o (stamps_at + i) e) r (Ok e)
-    visit_stamped t =
-        let b = and-true (ltb n.tag 13) (eqb (r.insns.len + 1) q.insns.len) t in
+    pub visit_stamped : n.tag < 13 → eqb (r.insns.len + 1) q.insns.len ≡ true → Visits (set o (stamps_at + i) e) r (Ok e)
+    visit_stamped l t =
         let here : Idles s p c z (tables_of o) i = subst (λ (y : List ℕ). Idles s p c z y i) (sym B.tables)
-        (kept i (idles F.analysed F.front F.some d same_kind ring_same F.record_of (ltb-true n.tag 13 b.0)
-        (eqb-true (r.insns.len + 1) q.insns.len b.1))) in
+        (kept i (idles F.analysed F.front F.some d same_kind ring_same F.record_of l
+        (eqb-true (r.insns.len + 1) q.insns.len t))) in
         record {
           step = subst (λ (y : List ℕ). SteppedTo y (On r)) (sym (put-tables o i e B.long)) (came_back d);
           dated = record {
@@ -220,7 +218,7 @@ module _ {s p : List ℕ} {c : Counts} {z : Sizes} {m : List ℕ} {q : Regs} {e 
             idle = λ k a h y. subst (λ (y : List ℕ). Idles s p c z y k) (sym (put-tables o i e B.long)) (each_idles here k a h y (same_or k i));
             slow = dates_kept.slow;
           };
-          others = λ k h. put_other o i e B.long k (apart (ltb-true n.tag 13 b.0) k h) ∙ B.stamps k;
+          others = λ k h. put_other o i e B.long k (apart l k h) ∙ B.stamps k;
         }
       where
         apart : n.tag < 13 → (k : ℕ) → 13 ≤ (record_at p k).tag → k ≡ i → ⊥

@@ -12,10 +12,11 @@ ghost use Rattle.steps.specs.Methods.{insn_next, FacingIn, DatedIn, StampedIn, V
 use ids::InsnId;
 use machine::Tables;
 use program::Name;
-use records::Record;
+use records::{Access, Record};
 use refusals::Refusal;
 use state::{Regs, State};
 
+// Stays: that tables, state and stamps fit are clauses, since each is lent apart: so no change of the state has to promise that the tables stay.
 // The instruction in front is taken off, and visited; insn is its record.
 fn step_insn(tables: &Tables, state: &mut State, insn: Record) -> Result<(), Refusal>
     requires analysed { Analysed tables.now.code.program.script.now tables.now.code.program.words.now tables.now.code.program.counts
@@ -57,9 +58,8 @@ fn visit_timed(
     if (flows::insn_words(state, i) != kind) | (state.regs.blocks.len != before.blocks.len) {
         return Ok(epoch + 1);
     }
-    if (insn.tag < 13) & (state.regs.insns.len + 1 == before.insns.len) {
-        stamps[i.0 as usize] = epoch;
-        return Ok(epoch);
+    if matches!(insn.access(), Access::Neither) & (state.regs.insns.len + 1 == before.insns.len) {
+        stamps[i.index()] = epoch;
     }
     Ok(epoch)
 }
@@ -80,17 +80,20 @@ fn visit_insn(
     let k = settled::decisive_words(&tables.code.program, state, insn);
     let waiting = state.regs.insns.len;
     let next = visit_timed(tables, state, stamps, i, insn, epoch)?;
-    if insn.tag == 13 {
-        let n = Name {
-            start: insn.x,
-            len: insn.y,
-        };
-        stamps[i.0 as usize] = settled::stamp(&tables.code.program, state, n, i, k);
-        return Ok(next);
-    }
-    if (13 < insn.tag) & (state.regs.insns.len + 1 != waiting) {
-        settled::unsettle(&tables.code.program, state, stamps, k);
-        return Ok(next);
+    match insn.access() {
+        Access::Neither => {}
+        Access::Read => {
+            let n = Name {
+                start: insn.x,
+                len: insn.y,
+            };
+            stamps[i.index()] = settled::stamp(&tables.code.program, state, n, i, k);
+        }
+        Access::Setting => {
+            if state.regs.insns.len + 1 != waiting {
+                settled::unsettle(&tables.code.program, state, stamps, k);
+            }
+        }
     }
     Ok(next)
 }
@@ -109,11 +112,14 @@ fn idle(
     ensures { result ≡ true → Passes tables.now.code.program.script.now tables.now.code.program.words.now tables.now.code.program.counts
         state.now.sizes state.now.words.now i.0 }
 {
-    if insn.tag == 13 {
-        let o = settled::operand_words(&tables.code.program, state, insn, 0);
-        return (o.tag == 8) & (stamps[i.0 as usize] == o.bits);
+    match insn.access() {
+        Access::Neither => stamps[i.index()] == epoch,
+        Access::Read => {
+            let o = settled::operand_words(&tables.code.program, state, insn, 0);
+            o.is_set() & (stamps[i.index()] == o.bits)
+        }
+        Access::Setting => false,
     }
-    (insn.tag < 13) & (stamps[i.0 as usize] == epoch)
 }
 
 // One entry is taken off a worklist; where it is an instruction, that is i, and insn its record. A visit that surely does nothing is left out.

@@ -11,7 +11,8 @@ use Rattle.state.specs.View.{Attrs}
 use Rattle.state.specs.Methods.{Lent}
 use Rattle.state.specs.declared.State.{State}
 use Rattle.chains.specs.declared.view.Indexed.{Indexed}
-use Rattle.machine.specs.Analysed.{MachineFits}
+use Rattle.machine.specs.Analysed.{Analysed, MachineFits, Steady}
+use Rattle.machine.specs.declared.tables.Tables.{Tables}
 use Rattle.visits.specs.Visits.{kind_of, Rules, rule_of, Visiting}
 
 -- a change with no kind
@@ -30,3 +31,14 @@ VisitOf c s i row = Visiting c.program.script.now c.program.words.now c.program.
 
 abbrev pub Gives : Indexed → State → State → ℕ → Joined → Type 0
 Gives c s t i r = Gave (MachineFits c.program.script.now c.program.words.now c.program.counts) (rule_of i) s t r
+
+-- what a visit may rely on: the tables of a program that was read, and a state that its analysis comes to
+abbrev pub AnalysedIn : Tables → State → Type 0
+AnalysedIn t s = Analysed t.code.program.script.now t.code.program.words.now t.code.program.counts t.code.chains.now t.users.now s.sizes
+
+abbrev pub SteadyIn : Tables → State → Type 0
+SteadyIn t s = Steady t.code.program.script.now t.code.program.words.now t.code.program.counts s.sizes s.words.now
+
+-- a program that the tables stand for, by its numbers of attributes
+abbrev pub FitsIn : Tables → Program → Attrs → Type 0
+FitsIn t = MachineFits t.code.program.script.now t.code.program.words.now t.code.program.counts

@@ -6,9 +6,8 @@ ghost use Rattle.rules.specs.Machine.{visit as visited};
 ghost use Rattle.program.specs.Rows.{opnd_of, nth};
 ghost use Rattle.program.specs.View.{ReadsInsn};
 ghost use Rattle.state.specs.Methods.{Did};
-ghost use Rattle.machine.specs.Analysed.{Analysed, MachineFits, Steady};
 ghost use Rattle.visits.specs.Visits.{operands_of};
-ghost use Rattle.visits.specs.Methods.{nothing_in, VisitOf, Gives};
+ghost use Rattle.visits.specs.Methods.{nothing_in, VisitOf, Gives, AnalysedIn, SteadyIn, FitsIn};
 
 use chains::Indexed;
 use ids::{BlockId, ClassId, FunId, InsnId};
@@ -22,10 +21,7 @@ use state::State;
 fn nothing(w: Result<(), Refusal>) -> Result<Kind, Refusal>
     ensures { result ≡ nothing_in w }
 {
-    match w {
-        Ok(_) => Ok(Kind::Empty),
-        Err(e) => Err(e),
-    }
+    w.map(|()| Kind::Empty)
 }
 
 // Operand j of a row; Nil where it has none.
@@ -40,6 +36,7 @@ fn operand(program: &Program, row: Row, j: usize) -> Opnd
 }
 
 // A Jump's target waits.
+// Stays: one clause and one promise for the rules of all sorts: no type has them, since the tables are lent apart from the state, which is changed.
 fn jump(code: &Indexed, state: &mut State, i: InsnId, row: Row, b: BlockId) -> Result<Kind, Refusal>
     requires visiting { VisitOf code.now state.old i.0 row }
     requires op_value { row.op ≡ Op.Jump b }
@@ -83,7 +80,7 @@ fn call(code: &Indexed, state: &mut State, i: InsnId, row: Row, f: FunId) -> Res
     ensures { Gives code.now state.old state.new i.0 result }
 {
     sends::send_static(code, state, i, row.count, f)?;
-    flows::returning::call_kind(&code.program, code.chains, state, i, f, 1)
+    flows::returning::call_kind(code, state, i, f, 1)
 }
 
 // A call of the methods of a name.
@@ -96,7 +93,7 @@ fn send(code: &Indexed, state: &mut State, i: InsnId, row: Row, n: Name) -> Resu
     let args = program::listed_in(row.op, row.count);
     sends::send_dynamic(code, state, i, args, n, o)?;
     let all = state.sizes.functions;
-    flows::returning::call_kind(&code.program, code.chains, state, i, FunId(0), all)
+    flows::returning::call_kind(code, state, i, FunId(0), all)
 }
 
 // Arithmetic.
@@ -195,13 +192,11 @@ fn set_ivar(
 
 // Instruction i is visited; row is its row.
 pub fn visit(tables: &Tables, state: &mut State, i: InsnId, row: Row) -> Result<(), Refusal>
-    requires analysed { Analysed tables.now.code.program.script.now tables.now.code.program.words.now tables.now.code.program.counts
-        tables.now.code.chains.now tables.now.users.now state.old.sizes }
-    requires steady { Steady tables.now.code.program.script.now tables.now.code.program.words.now tables.now.code.program.counts state.old.sizes state.old.words.now }
+    requires analysed { AnalysedIn tables.now state.old }
+    requires steady { SteadyIn tables.now state.old }
     requires i_lt_insns { i.0 < state.old.sizes.insns }
     requires reads_insn { ReadsInsn tables.now.code.program.words.now tables.now.code.program.counts i.0 row }
-    ensures { Did (MachineFits tables.now.code.program.script.now tables.now.code.program.words.now tables.now.code.program.counts)
-        (λ L P. visited L P i.0) state.old state.new result }
+    ensures { Did (FitsIn tables.now) (λ L P. visited L P i.0) state.old state.new result }
 {
     let k = rule(&tables.code, state, i, row)?;
     machine::store(&tables.code.program, tables.users, state, i, k)

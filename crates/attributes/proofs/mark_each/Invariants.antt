@@ -3,7 +3,4 @@ use Rattle.attributes.proofs.Marks.{Marking}
 use Rattle.attributes.proofs.mark_each.Given as goal
 
 abbrev pub invariant-loop-c : goal.invariant-loop-c
-invariant-loop-c l = Marking l.i.0 l.initial.left l.initial.state l.state l.left
-
-abbrev pub decreases-loop-c : goal.decreases-loop-c
-decreases-loop-c l = l.left
+invariant-loop-c l = Marking l.i.0 l.set l.initial.state l.state l.c-iterator.set

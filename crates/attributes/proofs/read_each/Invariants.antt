@@ -7,8 +7,5 @@ use Rattle.attributes.proofs.read_each.Given as goal
 
 abbrev pub invariant-loop-x : goal.invariant-loop-x
 invariant-loop-x l = Folding l.state.sizes (ProgramIs l.program.script.now l.program.words.now l.program.counts)
-    (λ L p. get_ivar L p (name_in l.program.script.now l.n)) l.state.words.now l.initial.left l.left l.k
-    × Walking l.state.sizes.classes l.left
-
-abbrev pub decreases-loop-x : goal.decreases-loop-x
-decreases-loop-x l = l.left
+    (λ L p. get_ivar L p (name_in l.program.script.now l.n)) l.state.words.now l.set l.x-iterator.set l.k
+    × Walking l.state.sizes.classes l.x-iterator.set

@@ -1,25 +1,21 @@
 -- `attributes::read_one` meets its contract. Assumes nothing.
-use native.Mathlib.Omega.{arith}
-use Rattle.attributes.proofs.Found.{at_low, got, got_none}
+use Rattle.attributes.proofs.Found.{ivar_there, got, got_none}
+use mathlib.Core.Path.{◌≡◌}
+use Rattle.std.specs.Prelude.{Err}
+use borrow.Author.Rules.{rules}
+use Rattle.refusals.specs.declared.Refusal.TheVariants.{UnknownMember}
 use Rattle.attributes.proofs.read_one.Goals as goal
 
-pub ivar_named-requires : goal.ivar_named-requires
-ivar_named-requires c = omega (arith, c.requires.state_matches.classes, c.requires.x_lt_classes)
-
 pub ivar_at-requires : goal.ivar_at-requires
-ivar_at-requires c = record {
-  c_lt_classes = (
-    c.requires.x_lt_classes,
-    at_low c.args.program.now.script.now c.args.program.now.words.now c.args.program.now.counts c.args.x.0 c.args.n c.ivar_named.ensures c.requires.state_matches c.requires.x_lt_classes c.in-Some.is,
-  );
-}
+ivar_at-requires c = record { c_lt_classes = ivar_there _ _ c.ivar_named.ensures c.requires.state_matches c.requires.x_lt_classes (rw c.in_ok-place.was at c.ok_or.ensures.ok_part) }
 
-pub returns-in-Some : goal.returns-in-Some
-returns-in-Some c =
+pub returns : goal.returns
+returns c =
     got c.args.state.now.sizes c.args.state.now.words.now c.args.program.now.script.now c.args.program.now.words.now c.args.program.now.counts c.args.n c.args.k c.args.x.0
-    c.ivar_named.ensures c.requires.state_matches c.requires.x_lt_classes c.in-Some.is c.ivar_at.ensures c.union.ensures
+    c.ivar_named.ensures c.requires.state_matches c.requires.x_lt_classes (rw c.in_ok-place.was at c.ok_or.ensures.ok_part) c.ivar_at.ensures c.union.ensures
 
-pub returns-in-None : goal.returns-in-None
-returns-in-None c =
-    got_none c.args.state.now.sizes c.args.state.now.words.now c.args.program.now.script.now c.args.program.now.words.now c.args.program.now.counts
-    c.args.n c.args.k c.args.x.0 c.ivar_named.ensures c.in-None.is
+pub returns-in_err-place : goal.returns-in_err-place
+returns-in_err-place c =
+    let e : c.from_residual.result ≡ Err UnknownMember = search rules in
+    rw e (got_none c.args.state.now.sizes c.args.state.now.words.now c.args.program.now.script.now c.args.program.now.words.now c.args.program.now.counts
+    c.args.n c.args.k c.args.x.0 c.ivar_named.ensures (rw c.in_err-place.was at c.ok_or.ensures.ok_part))

@@ -4,41 +4,29 @@ use Rattle.std.specs.Prelude.{Err}
 use borrow.Author.Rules.{rules}
 use Rattle.rules.specs.Machine.{set_ivar}
 use Rattle.program.specs.Rows.{name_in}
-use Rattle.machine.proofs.receivers.Walk.{step, none_left, class-below, walk-on, going_start, going_more, going_stop, going_done}
+use Rattle.ids.proofs.Members.{walk_step}
+use Rattle.machine.proofs.receivers.Walk.{class-below, walk-on, going_more, going_stop, going_done}
 use Rattle.attributes.specs.Attributes.{ProgramIs}
 use Rattle.attributes.proofs.widen_each.Goals as goal
 
-pub loop-x-init : goal.loop-x-init
-loop-x-init c = (
-  going_start (ProgramIs c.args.program.now.script.now c.args.program.now.words.now c.args.program.now.counts)
-      (λ L p. set_ivar L p (name_in c.args.program.now.script.now c.args.n) c.args.k) c.args.set c.args.state.now,
-  record { fits = c.ranges.set.fits; below = c.requires.classes_below },
-)
-
-pub widen_one-requires-clause-state_matches : goal.widen_one-requires-clause-state_matches
-widen_one-requires-clause-state_matches c = rw c.loop-x.invariant.0.along.lent.sizes c.requires.state_matches
-
 pub widen_one-requires-clause-x_lt_classes : goal.widen_one-requires-clause-x_lt_classes
-widen_one-requires-clause-x_lt_classes c = rw c.loop-x.invariant.0.along.lent.sizes (class-below (step c.loop-x.invariant.1 c.smallest.ensures c.in-Some.is) c.loop-x.invariant.1)
+widen_one-requires-clause-x_lt_classes c = rw c.loop-x.invariant.0.along.lent.sizes (class-below (walk_step c.loop-x.x-iterator c.next.new.self _ c.in-Some.ensures.steps) c.loop-x.invariant.1)
 
 pub returns-in_err-widen_one : goal.returns-in_err-widen_one
 returns-in_err-widen_one c =
     let e : c.from_residual.result ≡ Err c.in_err-widen_one.field-0.0 = search rules in
     rw e (going_stop (ProgramIs c.args.program.now.script.now c.args.program.now.words.now c.args.program.now.counts)
     (λ L p. set_ivar L p (name_in c.args.program.now.script.now c.args.n) c.args.k) c.loop-x.invariant.0
-    (step c.loop-x.invariant.1 c.smallest.ensures c.in-Some.is) c.widen_one.ensures c.in_err-widen_one.was)
-
-pub loop-x-smaller : goal.loop-x-smaller
-loop-x-smaller c = (step c.loop-x.invariant.1 c.smallest.ensures c.in-Some.is).falls
+    (walk_step c.loop-x.x-iterator c.next.new.self _ c.in-Some.ensures.steps) c.widen_one.ensures c.in_err-widen_one.was)
 
 pub loop-x-preserved : goal.loop-x-preserved
 loop-x-preserved c = (
   going_more (ProgramIs c.args.program.now.script.now c.args.program.now.words.now c.args.program.now.counts)
       (λ L p. set_ivar L p (name_in c.args.program.now.script.now c.args.n) c.args.k) c.loop-x.invariant.0
-      (step c.loop-x.invariant.1 c.smallest.ensures c.in-Some.is) c.widen_one.ensures c.in_ok-widen_one.was,
-  walk-on (step c.loop-x.invariant.1 c.smallest.ensures c.in-Some.is) c.loop-x.invariant.1,
+      (walk_step c.loop-x.x-iterator c.next.new.self _ c.in-Some.ensures.steps) c.widen_one.ensures c.in_ok-widen_one.was,
+  walk-on (walk_step c.loop-x.x-iterator c.next.new.self _ c.in-Some.ensures.steps) c.loop-x.invariant.1,
 )
 
 pub returns : goal.returns
 returns c = going_done (ProgramIs c.args.program.now.script.now c.args.program.now.words.now c.args.program.now.counts)
-    (λ L p. set_ivar L p (name_in c.args.program.now.script.now c.args.n) c.args.k) c.loop-x.invariant.0 (none_left c.loop-x.left c.smallest.ensures (search rules))
+    (λ L p. set_ivar L p (name_in c.args.program.now.script.now c.args.n) c.args.k) c.loop-x.invariant.0 c.in-None.ensures.steps.0

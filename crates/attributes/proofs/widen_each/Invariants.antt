@@ -7,8 +7,5 @@ use Rattle.attributes.proofs.widen_each.Given as goal
 
 abbrev pub invariant-loop-x : goal.invariant-loop-x
 invariant-loop-x l = Going (ProgramIs l.program.script.now l.program.words.now l.program.counts)
-    (λ L p. set_ivar L p (name_in l.program.script.now l.n) l.k) l.initial.left l.left l.initial.state l.state
-    × Walking l.initial.state.sizes.classes l.left
-
-abbrev pub decreases-loop-x : goal.decreases-loop-x
-decreases-loop-x l = l.left
+    (λ L p. set_ivar L p (name_in l.program.script.now l.n) l.k) l.set l.x-iterator.set l.initial.state l.state
+    × Walking l.initial.state.sizes.classes l.x-iterator.set

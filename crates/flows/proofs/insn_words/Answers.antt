@@ -3,4 +3,4 @@ use Rattle.state.proofs.Puts.{kind-read}
 use Rattle.flows.proofs.insn_words.Goals as goal
 
 pub returns : goal.returns
-returns c = search kind-read
+returns c = rw c.index-at.ensures (search kind-read)

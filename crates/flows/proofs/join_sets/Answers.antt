@@ -1,7 +1,6 @@
 -- `flows::join_sets` meets its contract. Assumes nothing.
 use Rattle.flows.proofs.Joining.{outer_start, inner_start, outer_done, outer_none, outer_fits, inner_done, inner_falls, caller_inner, caller_argues, inner_same, inner_more}
-use Rattle.flows.proofs.Joining.{inner_other, word_below, word_some, word-falls, next_fits, caller_fits32, caller_fits64, caller-within, words_in}
-use Rattle.flows.proofs.Standing.{is-set}
+use Rattle.flows.proofs.Joining.{inner_other, word_below, word_some, word_within, words_past, caller_fits32, caller_fits64, caller-within, words_in}
 use borrow.Author.Rules.{rules}
 use mathlib.Core.Path.{◌≡◌}
 use Rattle.std.specs.Prelude.{None}
@@ -10,10 +9,6 @@ use Rattle.flows.proofs.join_sets.Goals as goal
 pub loop-k-init : goal.loop-k-init
 loop-k-init c =
     outer_start c.args.program.now.words.now c.args.program.now.counts c.args.state.now.sizes c.args.state.now.words.now c.args.f.0 c.args.n
-
-pub overflow_mul-k : goal.overflow_mul-k
-overflow_mul-k c =
-    outer_fits c.args.program.now.words.now c.args.program.now.counts c.args.state.now.sizes c.args.state.now.words.now c.args.f.0 c.args.n c.loop-k.invariant
 
 pub loop-left-init : goal.loop-left-init
 loop-left-init c =
@@ -49,28 +44,20 @@ loop-left-preserved c =
     c.lowest_bit-b.ensures c.standing_words-o.result c.argument_at-at.ensures.is c.standing_words-o.ensures
     (search rules)
 
-pub overflow_add-k : goal.overflow_add-k
-overflow_add-k c =
-    next_fits c.args.state.now.ready.held c.loop-k.k c.loop-k-test.true
-
-pub loop-k-smaller : goal.loop-k-smaller
-loop-k-smaller c =
-    word-falls c.args.state.now.ready.held c.loop-k.k c.loop-k-test.true
-
 pub loop-k-preserved : goal.loop-k-preserved
 loop-k-preserved c =
     inner_done c.args.program.now.words.now c.args.program.now.counts c.args.state.now.sizes c.args.state.now.words.now c.args.f.0 c.args.n c.loop-left.invariant c.loop-left-test.false
-    (word_below c.args.state.now.ready.held c.loop-k.k c.loop-k-test.true)
+    (word_below c.args.state.now.ready.held c.loop-k.k (word_within c.div_ceil-k-end.ensures c.loop-k-test.true))
 
 pub returns-then-met : goal.returns-then-met
 returns-then-met c =
     outer_done c.args.program.now.words.now c.args.program.now.counts c.args.state.now.sizes c.args.state.now.words.now c.args.f.0 c.args.n c.loop-k.invariant c.requires.f_lt_functions
-    c.loop-k-test.false c.if-met.true
+    (words_past c.div_ceil-k-end.ensures c.loop-k-test.false) c.if-met.true
 
 pub returns : goal.returns
 returns c =
     outer_none c.args.program.now.words.now c.args.program.now.counts c.args.state.now.sizes c.args.state.now.words.now c.args.f.0 c.args.n c.loop-k.invariant c.requires.f_lt_functions
-    c.loop-k-test.false c.if-met.false
+    (words_past c.div_ceil-k-end.ensures c.loop-k-test.false) c.if-met.false
 
 pub argument_at-at-requires : goal.argument_at-at-requires
 argument_at-at-requires c = record {
@@ -96,4 +83,4 @@ pub loop-left-preserved-in_ok-s : goal.loop-left-preserved-in_ok-s
 loop-left-preserved-in_ok-s c =
     inner_more c.args.program.now.words.now c.args.program.now.counts c.args.state.now.sizes c.args.state.now.words.now c.args.f.0 c.args.n c.loop-left.invariant
     c.lowest_bit-b.ensures c.standing_words-o.result c.argument_at-at.ensures.is c.standing_words-o.ensures
-    c.words_of-x.ensures c.as_set.ensures c.in_ok-s.field-0 c.in_ok-s.was (is-set _ c.words_of-x.result.bits)
+    c.words_of-x.ensures c.as_set.ensures c.in_ok-s.field-0 c.in_ok-s.was c.is_set.ensures

@@ -1,5 +1,4 @@
 -- What the loop of `flows::join_sets` keeps.
-use Prim.Native.Nat.{◌-◌}
 use Rattle.flows.proofs.Joining.{Outer, Inner}
 use Rattle.flows.proofs.join_sets.Given as goal
 
@@ -11,6 +10,3 @@ decreases-loop-left l = l.left
 
 abbrev pub invariant-loop-k : goal.invariant-loop-k
 invariant-loop-k l = Outer l.program.words.now l.program.counts l.state.sizes l.state.words.now l.f.0 l.n l.met l.s l.last l.k
-
-abbrev pub decreases-loop-k : goal.decreases-loop-k
-decreases-loop-k l = 32 - l.k

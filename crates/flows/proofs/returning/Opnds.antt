@@ -56,8 +56,8 @@ module _ (m : List ℕ) (c : Counts) (j : ℕ) {x : Row} (d : ReadsInsn m c j x)
   pub returned-some : {r : Opnd} → opnd_of r ≡ nth given 0 → Returns m c j r
   returned-some e = record { is = λ s o h. e ∙ first-is s o h }
 
-  pub returned-none : x.count ≤ 0 → Returns m c j (Const Nil)
-  returned-none h = record { is = λ s o g. sym (get_or-eq_default given (P.Const Nil) {n = 0} (let k = given-length m (opnds_at + 2 * x.first) x.count in omega arith)) ∙ first-is s o g }
+  pub returned_none : x.count ≤ 0 → Returns m c j (Const Nil)
+  returned_none h = record { is = λ s o g. sym (get_or-eq_default given (P.Const Nil) {n = 0} (let k = given-length m (opnds_at + 2 * x.first) x.count in omega arith)) ∙ first-is s o g }
 
 -- ---- the Returns of a function
 

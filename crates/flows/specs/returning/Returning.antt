@@ -12,8 +12,10 @@ use Rattle.program.specs.declared.Counts.{Counts}
 use Rattle.program.specs.Rows.{opnd_of}
 use Rattle.program.specs.View.{program_view, ProgramReady}
 use Rattle.state.specs.declared.Sizes.{Sizes}
+use Rattle.state.specs.declared.State.{State}
 use Rattle.state.specs.View.{Attrs, kinds_of, called_of}
 use Rattle.chains.specs.Chains.{Index}
+use Rattle.chains.specs.declared.view.Indexed.{Indexed}
 use Rattle.flows.specs.declared.Pass.{Pass}
 use Rattle.flows.specs.Tally.{FitsAt}
 use Rattle.flows.specs.Flows.{Passed, standing, join_sets}
@@ -28,10 +30,10 @@ call_kind L p i = do
 pub record Returns (m : List ℕ) (c : Counts) (j : ℕ) (r : Opnd) : Type 0 where
   pub is : (s : List ℕ) (o : P.Opnd) → returned (op_of (program_view s m c) j) ≡ some o → opnd_of r ≡ o
 
--- that operand stands at a word; 0 where there is none
-pub record ReturnsAt (m : List ℕ) (c : Counts) (j at : ℕ) : Type 0 where
-  pub is : (at ≡ 0 → ⊥) → Returns m c j (standing m at)
-  pub inside : at + 1 < length m
+-- that operand stands at a word, if there is one
+abbrev pub ReturnsAt : List ℕ → Counts → ℕ → Option ℕ → Type 0
+ReturnsAt m c j (Some at) = Returns m c j (standing m at) × (at + 1 < length m)
+ReturnsAt m c j None = Unit {0}
 
 -- these instructions are Returns, and these are their operands
 unfoldable pub ReturnGives : Program → List ℕ → List P.Opnd → Type 0
@@ -56,6 +58,10 @@ pub record Backs (m : List ℕ) (c : Counts) (z : Sizes) (x : List ℕ) : Type 0
   pub index : Index m c x
   pub sound : ReturnSound (program_view script m c) z.insns
 
+-- the same, of a program with its chains and a state
+abbrev pub BacksOf : Indexed → State → Type 0
+BacksOf c s = Backs c.program.words.now c.program.counts s.sizes c.chains.now
+
 -- i has called none but the n functions from f on
 pub record ReturnAmong (t : List (List 𝔹)) (i f n : ℕ) : Type 0 where
   pub only : (g : ℕ) → marked t g i ≡ true → (f ≤ g) × (g < f + n)
@@ -66,13 +72,6 @@ pub record BackIn (m : List ℕ) (c : Counts) (z : Sizes) (t : List (List 𝔹))
   pub program : p ≡ program_view script m c
   pub sound : ReturnSound (program_view script m c) z.insns
   pub among : ReturnAmong t i f n
-
--- r is the first function from f on that i has called, or e
-pub record NextCalled (t : List (List 𝔹)) (i f e r : ℕ) : Type 0 where
-  pub low : f ≤ r
-  pub high : r ≤ e
-  pub none : (g : ℕ) → f ≤ g → g < r → marked t g i ≡ false
-  pub here : r < e → marked t r i ≡ true
 
 -- a pass over the operands of the Returns of f; over those of all functions that i has called, if they are among n from f on
 pub record PassedBack (m : List ℕ) (c : Counts) (z : Sizes) (w : List ℕ) (f : ℕ) (x y : Pass) : Type 0 where
@@ -90,6 +89,6 @@ ReturnJoins ks l b s None = Unit {0}
 pub record JoinsBack (m : List ℕ) (c : Counts) (z : Sizes) (w : List ℕ) (f : ℕ) (b : 𝔹) (s : ℕ) (r : Option (𝔹 × ℕ)) : Type 0 where
   pub joins : (u : List ℕ) → ReturnJoins (kinds_of z w) (returns (program_view u m c) f) b s r
 
--- r is 0, or the union of the classes of what has flowed back to i, if it has called none but the n functions from f on
-pub record JoinedAll (m : List ℕ) (c : Counts) (z : Sizes) (w : List ℕ) (i f n r : ℕ) : Type 0 where
-  pub joined : 0 < r → ReturnAmong (called_of z w) i f n → (u : List ℕ) → join_sets (kinds_of z w) false 0 (back_from (program_view u m c) (called_of z w) i 0) ≡ Some r
+-- r is the union of the classes of what has flowed back to i, if there are such and it has called none but the n functions from f on
+pub record JoinedAll (m : List ℕ) (c : Counts) (z : Sizes) (w : List ℕ) (i f n : ℕ) (r : Option ℕ) : Type 0 where
+  pub joined : (s : ℕ) → r ≡ Some s → ReturnAmong (called_of z w) i f n → (u : List ℕ) → join_sets (kinds_of z w) false 0 (back_from (program_view u m c) (called_of z w) i 0) ≡ Some s

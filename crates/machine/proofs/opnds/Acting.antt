@@ -1,5 +1,5 @@
 -- The rules of a choice and of a Return. Assumes nothing.
-use mathlib.Core.Bool.{Bool as 𝔹, true, false}
+use mathlib.Core.Bool.{Bool as 𝔹, true, false, not}
 use mathlib.Core.Path.{◌≡◌, refl, sym, ap, ◌∙◌}
 use Prim.Native.Nat.{ℕ}
 use Rattle.std.specs.Prelude.{Result, Ok, Err}
@@ -7,7 +7,7 @@ use Rattle.refusals.specs.declared.Refusal.{Refusal}
 use Rattle.kinds.specs.declared.Kind.{Kind}
 use Rattle.kinds.specs.Kinds.{is_empty}
 use Rattle.kinds.specs.Rules.{admits}
-use Rattle.rules.specs.Actions.{answered, ◌>>◌}
+use Rattle.rules.specs.Actions.{answered, unless, ◌>>◌}
 use Rattle.rules.specs.Program as P
 use Rattle.rules.specs.Program.{Limits, Program, IfTrue, Return, function_of}
 use Rattle.rules.specs.Machine as R
@@ -19,10 +19,14 @@ use Rattle.state.specs.View.{kinds_of}
 use Rattle.state.specs.Changes.{Every, wake_callers}
 use Rattle.state.specs.Methods.{view, Did}
 use Rattle.state.proofs.Methods.{along_start, along_step, along_stop, along_last, along_end}
-use Rattle.machine.specs.opnds.Reads.{kind_in, push_block_if, FunctionIs}
+use Rattle.machine.specs.opnds.Reads.{kind_in, FunctionIs}
 use Rattle.machine.proofs.opnds.Given.{kind_of_lem}
 
 -- ---- a choice
+
+-- a block waits where a test says so
+unfoldable pub push_block_if : Limits → Program → 𝔹 → ℕ → R.Acts (Unit {0})
+push_block_if L p b i = unless (not b) (push_block L p i)
 
 if_yes : (L : Limits) (p : Program) (i : ℕ) (s : R.State) → push_block_if L p true i s ≡ push_block L p i s
 unfolding push_block_if
@@ -36,8 +40,8 @@ module _ (s : State) (b : 𝔹) (i : ℕ) where
   pub block_pushed : {t : State} (r : Result (Unit {0}) Refusal) → b ≡ true → Did Every (λ L p. push_block L p i) s t r → Did Every (λ L p. push_block_if L p b i) s t r
   block_pushed r e d = rw e (along_last (along_start s) r d (λ p v h. h) (λ L room p v h. if_yes L p i (view v s)))
 
-  pub block-passed : b ≡ false → Did Every (λ L p. push_block_if L p b i) s s (Ok tt)
-  block-passed e = rw e (along_end (along_start s) (λ L room p v h. if_no L p i (view v s)))
+  pub block_passed : b ≡ false → Did Every (λ L p. push_block_if L p b i) s s (Ok tt)
+  block_passed e = rw e (along_end (along_start s) (λ L room p v h. if_no L p i (view v s)))
 
 choice_is : (L : Limits) (p : Program) (i t e : ℕ) (v : P.Opnd) (s : R.State)
     → leave L p i (IfTrue v t e) s ≡ (push_block_if L p (admits true (kind_in s.kinds v)) t >> push_block_if L p (admits false (kind_in s.kinds v)) e) s

@@ -29,11 +29,11 @@ unfolding classes_of
 asked_no o s e = let g = ap classes_in (kind_of_lem s o) ∙ e in rw g
 
 module _ (z : Sizes) (m : List ℕ) (o : Opnd) {k : Kind} (ek : k ≡ kind_in (kinds_of z m) (opnd_of o)) where
-  pub is-object : (c : ℕ) → k ≡ Objects c → Receives z m o (Ok c)
-  is-object c h = record { is = λ v q. sym (asked-yes (opnd_of o) (state_view z v m q) c (ap classes_in (sym ek ∙ h))) }
+  pub is_object : (c : ℕ) → k ≡ Objects c → Receives z m o (Ok c)
+  is_object c h = record { is = λ v q. sym (asked-yes (opnd_of o) (state_view z v m q) c (ap classes_in (sym ek ∙ h))) }
 
-  pub is-other : classes_in k ≡ none → Receives z m o (Err NotAnObject)
-  is-other h = record { is = λ v q. sym (asked_no (opnd_of o) (state_view z v m q) (ap classes_in (sym ek) ∙ h)) }
+  pub is_other : classes_in k ≡ none → Receives z m o (Err NotAnObject)
+  is_other h = record { is = λ v q. sym (asked_no (opnd_of o) (state_view z v m q) (ap classes_in (sym ek) ∙ h)) }
 
 pub of_other : (k : Kind) → ((c : ℕ) → k ≡ Objects c → ⊥) → classes_in k ≡ none
 of_other Empty h = refl

@@ -8,7 +8,7 @@ use Rattle.ids.specs.declared.ClassId.{ClassId}
 use Rattle.refusals.specs.declared.Refusal.{Refusal}
 use Rattle.refusals.specs.Refusals.{number_of}
 use Rattle.ids.specs.Sets.{members_of, next_of}
-use Rattle.ids.proofs.Walk.{Step, members_step, members_done}
+use Rattle.ids.proofs.Walk.{Step, members_step}
 use Rattle.kinds.specs.declared.Kind.{Kind}
 use Rattle.kinds.specs.declared.Kind.TheVariants.{Empty}
 use Rattle.kinds.specs.Union.{Joined}
@@ -26,7 +26,7 @@ use Rattle.state.specs.declared.Regs.{Regs}
 use Rattle.state.specs.declared.State.{State}
 use Rattle.state.specs.View.{Attrs, kinds_of, state_view, no_entries}
 use Rattle.state.specs.Methods.{view, Put, Did}
-use Rattle.state.proofs.Methods.{Along, along_start, along_put, along_step, along_stop, along_last, along_end, along_refused}
+use Rattle.state.proofs.Methods.{Along, along_start, along_put, along_step, along_stop, along_last, along_end}
 use Rattle.state.proofs.Pushes.{no_attrs}
 use Rattle.machine.specs.opnds.Reads.{kind_in, StateReads}
 use Rattle.machine.specs.receivers.Receivers.{Receives, ClassesBelow, ReceiverWithin}
@@ -41,9 +41,6 @@ pub record Walking (n s : ℕ) : Type 0 where
 
 pub step : {n s : ℕ} → Walking n s → {r : L.Option (ClassId × ℕ)} → r ≡ next_of s → {c : ClassId} {t : ℕ} → r ≡ L.Some (c, t) → Step s c.0 t
 step {n} {s} w e {c} {t} h = members_step s c t w.fits (sym e ∙ h)
-
-pub none_left : (s : ℕ) {r : L.Option (ClassId × ℕ)} → r ≡ next_of s → r ≡ L.None → members_of s ≡ []
-none_left s e h = members_done s (sym e ∙ h)
 
 module _ {s c t : ℕ} (u : Step s c t) {n : ℕ} (w : Walking n s) where
   pub class-below : c < n
@@ -94,9 +91,6 @@ module _ (z : Sizes) (fits : Program → Attrs → Type 0) (act : Limits → Pro
   pub record Folding (s₀ s : ℕ) (k : Kind) : Type 0 where
     pub same : (L : Limits) (p : Program) (v : Attrs) → fits p v → (q : Regs)
         → fold (act L p) k (members_of s) (state_view z v m q) ≡ fold (act L p) Empty (members_of s₀) (state_view z v m q)
-
-  pub folding_start : (s : ℕ) → Folding s s Empty
-  folding_start s = record { same = λ L p v h q. refl }
 
   module _ {s₀ s : ℕ} {k : Kind} (g : Folding s₀ s k) where
     pick : {c t : ℕ} {j : Joined} → Step s c t → StateReads z fits (λ L p. act L p k c) m j → (L : Limits) (p : Program) (v : Attrs) → fits p v → (q : Regs)
@@ -153,6 +147,3 @@ module _ (z : Sizes) (m : List ℕ) (o : Opnd) {r : Result ℕ Refusal} (d : Rec
 module _ (s : State) (o : Opnd) {r : Result ℕ Refusal} (d : Receives s.sizes s.words.now o r) (fits : Program → Attrs → Type 0) (f : Limits → Program → List ℕ → Acts (Unit {0})) where
   pub did-met : {c : ℕ} {t : State} (a : Result (Unit {0}) Refusal) → r ≡ Ok c → Did fits (λ L p. f L p (members_of c)) s t a → Did fits (λ L p. classes_of (opnd_of o) >>= f L p) s t a
   did-met a e g = along_last (along_start s) a g (λ p v h. h) (λ L room p v h. sym (met s.sizes s.words.now o d (f L p) e v s.regs))
-
-  pub did_unmet : {n : Refusal} → r ≡ Err n → Did fits (λ L p. classes_of (opnd_of o) >>= f L p) s s (Err n)
-  did_unmet {n} e = along_refused (along_start s) n (λ L room p v h. sym (unmet s.sizes s.words.now o d (f L p) e v s.regs))

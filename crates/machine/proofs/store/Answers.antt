@@ -23,20 +23,20 @@ returns-then-eq c =
 pub overflow_add-from-2 : goal.overflow_add-from-2
 overflow_add-from-2 c = let f = start-few c.args.program.now.words.now c.args.program.now.counts c.args.users.now c.requires.users
     c.args.state.now.sizes c.requires.machine_sized c.args.i.0 c.requires.i_lt_insns in
-    record { fits = omega (arith, f.0) }
+    rw c.index-n.ensures (record { fits = omega (arith, f.0) })
 
 pub overflow_add-to-3 : goal.overflow_add-to-3
 overflow_add-to-3 c = let f = start-few c.args.program.now.words.now c.args.program.now.counts c.args.users.now c.requires.users
     c.args.state.now.sizes c.requires.machine_sized c.args.i.0 c.requires.i_lt_insns in
-    record { fits = omega (arith, f.1) }
+    rw c.index-n.ensures (record { fits = omega (arith, f.1) })
 
 pub push_users-requires-clause-listing : goal.push_users-requires-clause-listing
 push_users-requires-clause-listing c =
-    rw c.set_kind.ensures.lent.sizes (users_listed_at c.args.program.now.words.now c.args.program.now.counts c.args.users.now c.requires.users
+    rw (c.set_kind.ensures.lent.sizes, c.index-n.ensures) (users_listed_at c.args.program.now.words.now c.args.program.now.counts c.args.users.now c.requires.users
     c.args.state.now.sizes c.requires.machine_sized c.args.i.0 c.requires.i_lt_insns)
 
 pub returns : goal.returns
 returns c =
     let p = c.args.program.now in
     new_way p.words.now p.counts c.args.users.now c.args.state.now c.requires.users p.ready c.requires.machine_sized c.args.i.0 c.args.k c.requires.i_lt_insns
-    c.kind_at-old.ensures c.union.ensures c.in_ok-union.field-0 c.push_users.result c.in_ok-union.was (ne_same _ _ (search rules)) c.set_kind.ensures c.push_users.ensures
+    c.kind_at-old.ensures c.union.ensures c.in_ok-union.field-0 c.push_users.result c.in_ok-union.was (ne_same _ _ (search rules)) c.set_kind.ensures (rw c.index-n.ensures at c.push_users.ensures)

@@ -1,5 +1,5 @@
 -- The ways through the start. Assumes nothing.
-use mathlib.Core.Bool.{Bool as 𝔹, true, false, cond}
+use mathlib.Core.Bool.{Bool as 𝔹, true, false}
 use mathlib.Core.Path.{◌≡◌, refl, sym, ap, ap₂, ◌∙◌}
 use mathlib.Core.List.{List}
 use Prim.Native.Nat.{ℕ, ◌≤◌, ◌<◌}
@@ -23,7 +23,7 @@ use Rattle.constructors.proofs.Promise.{inside_of}
 use Rattle.state.specs.declared.Sizes.{Sizes}
 use Rattle.state.specs.declared.Regs.{Regs}
 use Rattle.state.specs.Acted.{Acted, On, Refused}
-use Rattle.state.specs.View.{StateReady, StateCleared, no_entries}
+use Rattle.state.specs.View.{StateCleared, no_entries}
 use Rattle.state.specs.Changes.{ReadyAfter, StateDid}
 use Rattle.machine.specs.blocks.Blocks.{HasCode, CodeIs}
 use Rattle.machine.proofs.blocks.Indexed.{has_code, code_is}

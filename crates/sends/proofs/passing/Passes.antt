@@ -1,20 +1,26 @@
 -- One Param, the loop of pass_arguments, and that of count_params. Assumes nothing.
-use mathlib.Core.Bool.{Bool as 𝔹, true, false}
 use mathlib.Core.Path.{◌≡◌, refl, sym, ap, subst, ◌∙◌}
 use mathlib.Core.Option.{none, some}
-use mathlib.Core.List.{List}
-use Prim.Native.Nat.{ℕ, zero, suc, ◌+◌, ◌-◌, ◌*◌, ◌≤◌, ◌<◌}
-use native.Mathlib.Omega.{arith}
-use borrow.Author.Tests.{ne_eqb}
-use mir.Syntax.{w64}
-use mir.Val.{Fits}
+use Prim.Native.Nat.{ℕ, zero, suc, ◌+◌, ◌*◌, ◌<◌}
+use borrow.Author.Tests.{ne_eqb, eqb-true, eqb-false}
+use Rattle.std.proofs.lemmas.Bool.{and_parts}
 use lib.Bits.{bit_or, or_zero_r}
-use lib.ListN.{length, get_or}
-use Rattle.std.specs.Prelude.{Result, Ok, Err, Some as Set}
+use lib.ListN.{get_or}
+use Rattle.std.specs.Prelude.{Some, Result, Ok}
+use mathlib.Core.Bool.{Bool as 𝔹, true, false, ◌&&◌}
+use mathlib.Core.List.{List, [], ◌∷◌}
+use lib.Dec.{eqb}
+use Rattle.std.specs.Bool.{then_some}
+use Rattle.rules.specs.Actions.{each}
+use Rattle.state.proofs.Methods.{along_start, along_step, along_last, along_end}
+use Rattle.chains.specs.Chains.{ChainIs}
+use Rattle.chains.proofs.Remaining.{Within, chain_within, Each}
+use Rattle.machine.proofs.blocks.Walk.{walk_of}
 use Rattle.refusals.specs.declared.Refusal.{Refusal}
 use Rattle.kinds.specs.declared.Kind.{Kind}
 use Rattle.kinds.specs.declared.Kind.TheVariants.{Empty, Nil, Num, Truth, Fun, Class, Int, Bool, Objects, Any}
-use Rattle.kinds.specs.Kinds.{kind_from, same_kind, is_name}
+use Rattle.kinds.specs.Kinds.{kind_from, same_kind, is_empty, is_name, is_set, is_any}
+use Rattle.kinds.proofs.Steps.{empty_is, any-is}
 use Rattle.kinds.specs.Union.{set_of, mix_of, lub, union_of}
 use Rattle.kinds.proofs.Laws.{union-any_l, union_empty_r, union_idem, union-sets}
 use Rattle.kinds.proofs.Same.{same_refl}
@@ -36,18 +42,13 @@ use Rattle.state.specs.View.{Attrs, kinds_of, StateReady}
 use Rattle.state.specs.Changes.{Every}
 use Rattle.state.specs.Methods.{view, Did}
 use Rattle.state.proofs.Wakes.{wake_old, wake_new}
-use Rattle.state.proofs.Methods.{along_start, along_last, along_end}
-use Rattle.chains.specs.Chains.{ChainsChained, at, self, ChainIs, FitsId}
-use Rattle.chains.proofs.Lists.{Starts, chained_below, chained_none, chained_some, chained_low, chained_high, chained_next}
 use Rattle.machine.specs.opnds.Reads.{OperandInside, kind_in}
 use Rattle.machine.proofs.opnds.Given.{kind_of_lem}
 use Rattle.flows.specs.Flows.{Argues, as_set}
 use Rattle.flows.proofs.Callers.{fits-inside}
-use Rattle.machine.proofs.blocks.Walk.{From, Walking, walk-falls, walk-word, walk_more, walk-stop, walk-done}
-use Rattle.memory.specs.Layout.{instructions_most}
+use Rattle.flows.proofs.Standing.{set_tag}
 use Rattle.program.specs.Layout.{insns_at, insn_words}
-use Rattle.chains.specs.Layout.{params_at, param_links_at}
-use Rattle.sends.specs.passing.Passing.{pass_to, HasParams, Caller, ParamPlaced, ArgumentPasses, Widens, Keeps, CallIn, PassIn, PassIdle}
+use Rattle.sends.specs.passing.Passing.{pass_to, HasParams, Caller, ParamPlaced, ArgumentPasses, Widens, Keeps, CallIn, PassIn, PassIdle, CoversTells}
 
 -- ---- one Param
 
@@ -130,42 +131,12 @@ module _ {m : List ℕ} {c : Counts} {s : State} {i j : ℕ} {k a : Kind} (g : A
 
 -- ---- kinds in words
 
-any-from : (s x : ℕ) → 8 < s → kind_from s x ≡ Any
-unfolding kind_from
-any-from zero x h = absurd (omega arith)
-any-from (suc zero) x h = absurd (omega arith)
-any-from (suc (suc zero)) x h = absurd (omega arith)
-any-from (suc (suc (suc zero))) x h = absurd (omega arith)
-any-from (suc (suc (suc (suc zero)))) x h = absurd (omega arith)
-any-from (suc (suc (suc (suc (suc zero))))) x h = absurd (omega arith)
-any-from (suc (suc (suc (suc (suc (suc zero)))))) x h = absurd (omega arith)
-any-from (suc (suc (suc (suc (suc (suc (suc zero))))))) x h = absurd (omega arith)
-any-from (suc (suc (suc (suc (suc (suc (suc (suc zero)))))))) x h = absurd (omega arith)
-any-from (suc (suc (suc (suc (suc (suc (suc (suc (suc n))))))))) x h = refl
-
-pub no_name-from : (s x : ℕ) → (s ≡ 4 → ⊥) → (s ≡ 5 → ⊥) → is_name (kind_from s x) ≡ false
-unfolding kind_from
-no_name-from zero x h4 h5 = refl
-no_name-from (suc zero) x h4 h5 = refl
-no_name-from (suc (suc zero)) x h4 h5 = refl
-no_name-from (suc (suc (suc zero))) x h4 h5 = refl
-no_name-from (suc (suc (suc (suc zero)))) x h4 h5 = absurd (h4 refl)
-no_name-from (suc (suc (suc (suc (suc zero))))) x h4 h5 = absurd (h5 refl)
-no_name-from (suc (suc (suc (suc (suc (suc zero)))))) x h4 h5 = refl
-no_name-from (suc (suc (suc (suc (suc (suc (suc zero))))))) x h4 h5 = refl
-no_name-from (suc (suc (suc (suc (suc (suc (suc (suc zero)))))))) x h4 h5 = refl
-no_name-from (suc (suc (suc (suc (suc (suc (suc (suc (suc n))))))))) x h4 h5 = refl
-
-empty_from : {t : ℕ} (y : ℕ) → t ≡ 0 → kind_from t y ≡ Empty
-unfolding kind_from
-empty_from y e = rw e
-
 pub objects_from : {s : ℕ} (x : ℕ) → s ≡ 8 → kind_from s x ≡ Objects x
 unfolding kind_from
 objects_from x e = rw e
 
 -- a set joined with a kind that is no name and not Any has the classes of both
-set-joins : (s : ℕ) (k : Kind) (u : ℕ) → Set u ≡ as_set k → union_of (Objects s) k ≡ Ok (Objects (bit_or s u))
+set-joins : (s : ℕ) (k : Kind) (u : ℕ) → Some u ≡ as_set k → union_of (Objects s) k ≡ Ok (Objects (bit_or s u))
 unfolding union_of lub mix_of same_kind
 set-joins s Empty u e = let z : u ≡ 0 = cc in rw (z, or_zero_r)
 set-joins s Nil u e = let z : u ≡ set_of Nil = cc in rw z
@@ -182,144 +153,66 @@ other-set : (x y : ℕ) → (x ≡ y → ⊥) → same_kind (Objects x) (Objects
 unfolding same_kind
 other-set x y h = ne_eqb x y h
 
+pub covers_empty : (a k : Kind) → is_empty k ≡ true → union_of a k ≡ Ok a
+covers_empty a k e = ap (union_of a) (empty_is k e) ∙ union_empty_r a
+
+pub covers-any : (a k : Kind) → is_any a ≡ true → union_of a k ≡ Ok a
+covers-any a k e = rw (any-is a e) (union-any_l k)
+
 module _ (s x t y : ℕ) where
-  pub covers_empty : t ≡ 0 → union_of (kind_from s x) (kind_from t y) ≡ Ok (kind_from s x)
-  covers_empty e = ap (union_of (kind_from s x)) (empty_from y e) ∙ union_empty_r (kind_from s x)
+  module _ (h : is_set (kind_from s x) ≡ true) {u : ℕ} (g : Some u ≡ as_set (kind_from t y)) where
+    f : s ≡ 8
+    f = eqb-true s 8 (set_tag s x ∙ h)
 
-  pub covers-any : 8 < s → union_of (kind_from s x) (kind_from t y) ≡ Ok (kind_from s x)
-  covers-any h = rw (any-from s x h) (union-any_l (kind_from t y))
-
-  module _ (f : s ≡ 8) {u : ℕ} (g : Set u ≡ as_set (kind_from t y)) where
     set-union : union_of (kind_from s x) (kind_from t y) ≡ Ok (Objects (bit_or x u))
     set-union = rw (objects_from x f) (set-joins x (kind_from t y) u g)
 
-    pub covers-set : bit_or x u ≡ x → union_of (kind_from s x) (kind_from t y) ≡ Ok (kind_from s x)
+    covers-set : bit_or x u ≡ x → union_of (kind_from s x) (kind_from t y) ≡ Ok (kind_from s x)
     covers-set h = set-union ∙ ap Ok (ap Objects h ∙ sym (objects_from x f))
 
-    pub widens_set : (bit_or x u ≡ x → ⊥) → Widens (kind_from s x) (kind_from t y)
+    widens_set : (bit_or x u ≡ x → ⊥) → Widens (kind_from s x) (kind_from t y)
     widens_set h = record { union = Objects (bit_or x u); is = set-union; other = rw (objects_from x f) (other-set (bit_or x u) x h) }
 
-  pub covers-same : s ≡ t → (s ≡ 4 → ⊥) → (s ≡ 5 → ⊥) → x ≡ y → union_of (kind_from s x) (kind_from t y) ≡ Ok (kind_from s x)
-  covers-same e h4 h5 h = rw (← e, ← h) (union_idem (kind_from s x) (no_name-from s x h4 h5))
+    -- what a set tells of another kind
+    pub set_tells : CoversTells (kind_from s x) (kind_from t y) (Some (eqb (bit_or x u) x))
+    set_tells = go (eqb (bit_or x u) x) refl
+      where
+        go : (b : 𝔹) → eqb (bit_or x u) x ≡ b → CoversTells (kind_from s x) (kind_from t y) (Some b)
+        go true e = covers-set (eqb-true (bit_or x u) x e)
+        go false e = widens_set (eqb-false (bit_or x u) x e)
 
--- the head's word fits
-pub params-word : {n : ℕ} {x : List ℕ} {e : ℕ} → HasParams n x e → FitsId x (params_at + e)
-params-word {n} {x} {e} u =
-    let k = u.few in
-    let r : get_or x (params_at + e) 0 ≤ n = chained_high self (at x param_links_at) n 0 (get_or x (params_at + e) 0) u.list u.held in
-    omega arith
+  -- and one kind of itself
+  pub same_tells : is_name (kind_from s x) ≡ false → (b : 𝔹) → b ≡ (eqb s t && eqb x y) → CoversTells (kind_from s x) (kind_from t y) (then_some b true)
+  same_tells n true e =
+      let p = and_parts (eqb s t) (eqb x y) (sym e) in
+      rw (← eqb-true s t p.0, ← eqb-true x y p.1) (union_idem (kind_from s x) n)
+  same_tells n false e = tt
 
--- ---- pass_arguments at its loop's head
+-- ---- a chain of Params: h is what it has left at first
 
-module _ {m : List ℕ} {c : Counts} {x : List ℕ} {h : ℕ} {s₀ s : State} {i j : ℕ} (g : Walking x param_links_at (λ L p. pass_to L p i) (CallIn m c i) h s₀ s j) (e : ℕ)
-    (eh : h ≡ get_or x (params_at + e) 0) where
-  abbrev z : Sizes
-  z = s₀.sizes
+-- its numbers are below the count
+pub params_within : {n : ℕ} {x h : List ℕ} {e : ℕ} → HasParams n x e → ((l : List ℕ) → ChainIs x n 1 e l → h ≡ l) → Within n h
+params_within {n} {x} {h} {e} u is = rw (is u.list u.held) (chain_within x n 1 e u.list u.held)
 
-  from_head : (l : List ℕ) → ChainIs x z.insns 1 e l → From z.insns x param_links_at h l
-  from_head l d = rw eh d
-
-  held : (f : ℕ) (p : Program) (v : Attrs) → PassIn m c z x i f e p v → CallIn m c i p v × From z.insns x param_links_at h (parameters p f)
-  held f p v u = (u.call, from_head (parameters p f) u.params)
-
-  pub params_fall : {k : ℕ} → HasParams z.insns x e → j < z.insns → k ≡ get_or x (param_links_at + j) 0 → z.insns - k < z.insns - j
-  params_fall u lt ek = walk-falls g u.list (from_head u.list u.held) lt ek
-
-  pub params-next : HasParams z.insns x e → j < z.insns → FitsId x (param_links_at + j)
-  params-next u lt = walk-word g u.list (from_head u.list u.held) lt
-
-  pub params-stop : {t : State} {r : Result (Unit {0}) Refusal} {n : Refusal} → j < z.insns → Did (CallIn m c i) (λ L p. pass_to L p i j) s t r → r ≡ Err n
-      → (f : ℕ) → Did (PassIn m c z x i f e) (λ L p. pass_arguments L p i f) s₀ t (Err n)
+module _ {m : List ℕ} {c : Counts} {x : List ℕ} {i e : ℕ} {s : State} {h : List ℕ} (is : (l : List ℕ) → ChainIs x s.sizes.insns 1 e l → h ≡ l) where
+  -- an action for each of them is what passing arguments to a function with these Params is
+  pub passed_all : {t : State} {r : Result (Unit {0}) Refusal} → Did (CallIn m c i) (λ L p. each h (pass_to L p i)) s t r
+      → (f : ℕ) → Did (PassIn m c s.sizes x i f e) (λ L p. pass_arguments L p i f) s t r
   unfolding pass_arguments pass_to
-  params-stop lt d er f = walk-stop g (λ p. parameters p f) (held f) lt d er
+  passed_all d f = walk_of (λ L p. pass_to L p i) (λ p. parameters p f) (λ p v u. (u.call, is (parameters p f) u.params)) d
 
-  pub params-done : z.insns ≤ j → (f : ℕ) → Did (PassIn m c z x i f e) (λ L p. pass_arguments L p i f) s₀ s (Ok tt)
-  unfolding pass_arguments pass_to
-  params-done le f = walk-done g (λ p. parameters p f) (held f) le
-
--- ---- surely_keeps_all at its loop's head: the same walk from whatever registers, and none of them changes
+-- ---- surely_keeps_all: from whatever registers no Param changes
 
 abbrev pub with_regs : (s : State) (q : Regs) → StateReady s.sizes s.words.now q → State
 with_regs s q r = record { words = s.words; sizes = s.sizes; regs = q; ready = r }
 
-abbrev pub Keeping : List ℕ → Counts → List ℕ → ℕ → State → ℕ → ℕ → Type 0
-Keeping m c x h s i j = (q : Regs) (r : StateReady s.sizes s.words.now q) → Walking x param_links_at (λ L p. pass_to L p i) (CallIn m c i) h (with_regs s q r) (with_regs s q r) j
+kept_each : {m : List ℕ} {c : Counts} {i : ℕ} (s : State) (h : List ℕ) → Each (Keeps m c s.sizes s.words.now i) h
+    → Did (CallIn m c i) (λ L p. each h (pass_to L p i)) s s (Ok tt)
+kept_each s [] k = along_end (along_start s) (λ L room p v u. refl)
+kept_each {i = i} s (x ∷ l) k =
+    along_last (along_step (along_start s) {left' = λ L p. each l (pass_to L p i)} (kept_on s k.0) refl (λ p v u. u) (λ L room p v u. refl)) (Ok tt) (kept_each s l k.1)
+    (λ p v u. u) (λ L room p v u. refl)
 
-module _ {m : List ℕ} {c : Counts} {x : List ℕ} {h : ℕ} (s : State) {i j : ℕ} (g : Keeping m c x h s i j) where
-  pub keeping_walk : Walking x param_links_at (λ L p. pass_to L p i) (CallIn m c i) h (with_regs s s.regs s.ready) (with_regs s s.regs s.ready) j
-  keeping_walk = g s.regs s.ready
-
-  pub keeping_more : {b : 𝔹} {n : ℕ} → j < s.sizes.insns → (b ≡ true → Keeps m c s.sizes s.words.now i j) → b ≡ true → n ≡ get_or x (param_links_at + j) 0 → Keeping m c x h s i n
-  keeping_more {b} lt f t en q r = walk_more (g q r) lt (kept_on (with_regs s q r) (f t)) refl en
-
-  pub keeping_done : (e : ℕ) → h ≡ get_or x (params_at + e) 0 → s.sizes.insns ≤ j → (f : ℕ) → PassIdle s.sizes (PassIn m c s.sizes x i f e) (λ L p. pass_arguments L p i f) s.words.now
-  keeping_done e eh le f = record { is = λ q r. (params-done (g q r) e eh le f).did }
-
-pub no_truth : {A : Type 0} → false ≡ true → A
-no_truth e = let z : ◌≡◌ {A = ℕ} 0 1 = cc in absurd (omega arith)
-
--- ---- count_params at its loop's head: what is left of a chain's list, and how many were counted
-
-pub record Rest (N : ℕ) (x l : List ℕ) (n j : ℕ) : Type 0 where
-  pub list : List ℕ
-  pub chained : ChainsChained self (at x param_links_at) N n j list
-  pub same : length list + n ≡ length l
-
--- h is where the chain starts
-pub record Counting (N : ℕ) (x : List ℕ) (h n j : ℕ) : Type 0 where
-  pub few : n ≤ N
-  pub left : (l : List ℕ) → From N x param_links_at h l → Rest N x l n j
-
-pub count-start : (N : ℕ) (x : List ℕ) (h : ℕ) → Counting N x h 0 h
-count-start N x h = record { few = omega arith; left = λ l d. record { list = l; chained = d; same = omega arith } }
-
-module _ {N : ℕ} {x : List ℕ} {e : ℕ} (u : HasParams N x e) {h n j : ℕ} (g : Counting N x h n j) (eh : h ≡ get_or x (params_at + e) 0) where
-  chain_from : (l : List ℕ) → ChainIs x (N) 1 e l → From N x param_links_at h l
-  chain_from l d = rw eh d
-
-  here : (l : List ℕ) (d : From N x param_links_at h l) → j < N → Starts self (at x param_links_at) N j (g.left l d).list
-  here l d lt = chained_some self (at x param_links_at) N n j (g.left l d).list (g.left l d).chained lt
-
-  counted : n ≤ j
-  counted =
-      let r = g.left u.list (chain_from u.list u.held) in
-      chained_low self (at x param_links_at) N n j r.list r.chained g.few
-
-  pub count_fits : j < N → Fits w64 (n + 1)
-  count_fits lt = let a = counted in let b = u.few in record { fits = omega arith }
-
-  pub count-below : j < N → j < instructions_most
-  count-below lt = let b = u.few in omega arith
-
-  pub count_next : j < N → FitsId x (param_links_at + j)
-  count_next lt =
-      let a = g.left u.list (chain_from u.list u.held) in
-      let b = u.few in
-      let r : get_or x (param_links_at + j) 0 ≤ N = chained_next self (at x param_links_at) N n j a.list a.chained lt in
-      omega arith
-
-  pub count-falls : {k : ℕ} → j < N → k ≡ get_or x (param_links_at + j) 0 → N - k < N - j
-  count-falls {k} lt ek =
-      let s = here u.list (chain_from u.list u.held) lt in
-      let r : suc j ≤ get_or x (param_links_at + j) 0 = chained_low self (at x param_links_at) N (suc j) (get_or x (param_links_at + j) 0) s.rest s.onward (omega arith) in
-      omega arith
-
-  pub count-more : {k : ℕ} → j < N → k ≡ get_or x (param_links_at + j) 0 → Counting N x h (n + 1) k
-  count-more {k} lt ek = record {
-    few = let a = counted in omega arith;
-    left = λ l d.
-        let s = here l d lt in
-        let r = g.left l d in
-        record {
-          list = s.rest;
-          chained = rw ek (chained_below self (at x param_links_at) N (suc j) (n + 1) (get_or x (param_links_at + j) 0) s.rest (let a = counted in omega arith) s.onward);
-          same = let a : length r.list ≡ suc (length s.rest) = ap length s.is in let b = r.same in omega arith;
-        };
-  }
-
-  pub count-done : N ≤ j → (l : List ℕ) → ChainIs x (N) 1 e l → length l ≡ n
-  count-done le l d =
-      let r = g.left l (chain_from l d) in
-      let a : length r.list ≡ 0 = ap length (chained_none self (at x param_links_at) N n j r.list r.chained le) in
-      let b = r.same in
-      omega arith
+pub kept_all : {m : List ℕ} {c : Counts} {x : List ℕ} {i e : ℕ} (s : State) {h : List ℕ} → ((l : List ℕ) → ChainIs x s.sizes.insns 1 e l → h ≡ l) → Each (Keeps m c s.sizes s.words.now i) h
+    → (f : ℕ) → PassIdle s.sizes (PassIn m c s.sizes x i f e) (λ L p. pass_arguments L p i f) s.words.now
+kept_all s {h} is k f = record { is = λ q r. (passed_all {s = with_regs s q r} is (kept_each (with_regs s q r) h k) f).did }

@@ -3,39 +3,34 @@ use mathlib.Core.Path.{◌≡◌}
 use Rattle.std.specs.Prelude.{Err}
 use borrow.Author.Rules.{rules}
 use Rattle.program.specs.Rows.{name_in}
-use Rattle.machine.proofs.receivers.Walk.{step, none_left, walk-on, going_start, going_more, going_stop, going_done}
+use Rattle.ids.proofs.Members.{walk_step}
+use Rattle.machine.proofs.receivers.Walk.{walk-on, going_start, going_more, going_stop, going_done}
 use Rattle.sends.specs.Sends.{CallsIn, send_to}
 use Rattle.sends.proofs.Called.{walking_any}
 use Rattle.sends.proofs.send_each.Goals as goal
 
 pub loop-k-init : goal.loop-k-init
-loop-k-init c = (
+loop-k-init c = rw (c.into_iter-k-iterator.ensures.into_iter_gives, c.classes-k-items.ensures) (
   going_start (CallsIn c.args.code.now.program.script.now c.args.code.now.program.words.now c.args.code.now.program.counts c.args.i.0 c.args.args)
       (λ L p. send_to L p c.args.i.0 (name_in c.args.code.now.program.script.now c.args.n)) c.args.set c.args.state.now,
   walking_any c.ranges.set.fits,
 )
-
-pub send_to-requires : goal.send_to-requires
-send_to-requires c = record { calling = rw c.loop-k.invariant.0.along.lent.sizes c.requires.calling }
 
 pub returns-in_err-send_to : goal.returns-in_err-send_to
 returns-in_err-send_to c =
     let e : c.from_residual.result ≡ Err c.in_err-send_to.field-0.0 = search rules in
     rw e (going_stop (CallsIn c.args.code.now.program.script.now c.args.code.now.program.words.now c.args.code.now.program.counts c.args.i.0 c.args.args)
     (λ L p. send_to L p c.args.i.0 (name_in c.args.code.now.program.script.now c.args.n)) c.loop-k.invariant.0
-    (step c.loop-k.invariant.1 c.smallest.ensures c.in-Some.is) c.send_to.ensures c.in_err-send_to.was)
-
-pub loop-k-smaller : goal.loop-k-smaller
-loop-k-smaller c = (step c.loop-k.invariant.1 c.smallest.ensures c.in-Some.is).falls
+    (walk_step c.loop-k.k-iterator c.next.new.self _ c.in-Some.ensures.steps) c.send_to.ensures c.in_err-send_to.was)
 
 pub loop-k-preserved : goal.loop-k-preserved
 loop-k-preserved c = (
   going_more (CallsIn c.args.code.now.program.script.now c.args.code.now.program.words.now c.args.code.now.program.counts c.args.i.0 c.args.args)
       (λ L p. send_to L p c.args.i.0 (name_in c.args.code.now.program.script.now c.args.n)) c.loop-k.invariant.0
-      (step c.loop-k.invariant.1 c.smallest.ensures c.in-Some.is) c.send_to.ensures c.in_ok-send_to.was,
-  walk-on (step c.loop-k.invariant.1 c.smallest.ensures c.in-Some.is) c.loop-k.invariant.1,
+      (walk_step c.loop-k.k-iterator c.next.new.self _ c.in-Some.ensures.steps) c.send_to.ensures c.in_ok-send_to.was,
+  walk-on (walk_step c.loop-k.k-iterator c.next.new.self _ c.in-Some.ensures.steps) c.loop-k.invariant.1,
 )
 
 pub returns : goal.returns
 returns c = going_done (CallsIn c.args.code.now.program.script.now c.args.code.now.program.words.now c.args.code.now.program.counts c.args.i.0 c.args.args)
-    (λ L p. send_to L p c.args.i.0 (name_in c.args.code.now.program.script.now c.args.n)) c.loop-k.invariant.0 (none_left c.loop-k.left c.smallest.ensures (search rules))
+    (λ L p. send_to L p c.args.i.0 (name_in c.args.code.now.program.script.now c.args.n)) c.loop-k.invariant.0 c.in-None.ensures.steps.0

@@ -6,8 +6,5 @@ use Rattle.sends.proofs.send_each.Given as goal
 
 abbrev pub invariant-loop-k : goal.invariant-loop-k
 invariant-loop-k l = Going (CallsIn l.code.program.script.now l.code.program.words.now l.code.program.counts l.i.0 l.args)
-    (λ L P. send_to L P l.i.0 (name_in l.code.program.script.now l.n)) l.initial.left l.left l.initial.state l.state
-    × Walking 64 l.left
-
-abbrev pub decreases-loop-k : goal.decreases-loop-k
-decreases-loop-k l = l.left
+    (λ L P. send_to L P l.i.0 (name_in l.code.program.script.now l.n)) l.set l.k-iterator.set l.initial.state l.state
+    × Walking 64 l.k-iterator.set

@@ -1,5 +1,5 @@
 -- What passing arguments relies on. Assumes nothing.
-use Rattle.std.specs.Prelude.{true, false, ◌≡◌, List, ℕ, ◌≤◌, ◌<◌, length, get_or, Ok}
+use Rattle.std.specs.Prelude.{Bool as 𝔹, true, false, Option, Some, None, ◌≡◌, List, ℕ, ◌≤◌, ◌<◌, length, get_or, Ok}
 use Rattle.kinds.specs.declared.Kind.{Kind}
 use Rattle.kinds.specs.declared.Kind.TheVariants.{Empty}
 use Rattle.kinds.specs.Kinds.{same_kind}
@@ -10,9 +10,12 @@ use Rattle.rules.specs.Program as P
 use Rattle.rules.specs.Program.{Limits, Program, about, op_of, parameters}
 use Rattle.rules.specs.Machine.{Acts, kind_of, wake_if_wider, place_of, argument}
 use Rattle.program.specs.declared.Counts.{Counts}
+use Rattle.program.specs.declared.reader.Program.{Program as Tables}
 use Rattle.program.specs.View.{program_view, ProgramReady}
 use Rattle.state.specs.declared.Sizes.{Sizes}
 use Rattle.state.specs.declared.Regs.{Regs}
+use Rattle.state.specs.declared.State.{State}
+use Rattle.chains.specs.declared.view.Indexed.{Indexed}
 use Rattle.state.specs.Acted.{On}
 use Rattle.state.specs.View.{Attrs, kinds_of}
 use Rattle.state.specs.View.{StateReady}
@@ -22,8 +25,6 @@ use Rattle.chains.specs.Chains.{ChainIs}
 use Rattle.flows.specs.Tally.{FitsAt}
 use Rattle.memory.specs.Layout.{instructions_most, blocks_room}
 use Rattle.chains.specs.Layout.{chains_size}
-use Rattle.sends.specs.declared.passing.Covers.{Covers}
-use Rattle.sends.specs.declared.passing.Covers.TheVariants.{Yes, No, Unknown}
 
 -- what pass_arguments does for one Param
 unfoldable pub pass_to : Limits → Program → ℕ → ℕ → Acts (Unit {0})
@@ -63,10 +64,10 @@ pub record Widens (a k : Kind) : Type 0 where
   pub other : same_kind union a ≡ false
 
 -- what an answer tells of the union of a with k
-abbrev pub CoversTells : Kind → Kind → Covers → Type 0
-CoversTells a k Yes = union_of a k ≡ Ok a
-CoversTells a k No = Widens a k
-CoversTells a k Unknown = Unit {0}
+abbrev pub CoversTells : Kind → Kind → Option 𝔹 → Type 0
+CoversTells a k (Some true) = union_of a k ≡ Ok a
+CoversTells a k (Some false) = Widens a k
+CoversTells a k None = Unit {0}
 
 -- the kind of the argument that i has for Param j leaves the kind of j as it is
 pub record Keeps (m : List ℕ) (c : Counts) (z : Sizes) (w : List ℕ) (i j : ℕ) : Type 0 where
@@ -88,3 +89,16 @@ pub record PassIn (m : List ℕ) (c : Counts) (z : Sizes) (x : List ℕ) (i f e 
 -- an action that leaves the state as it is, whatever waits
 pub record PassIdle (z : Sizes) (fits : Program → Attrs → Type 0) (f : Limits → Program → Acts (Unit {0})) (m : List ℕ) : Type 0 where
   pub is : (q : Regs) → StateReady z m q → StateDid z fits f m q m (On q)
+
+-- the same of values that are lent
+abbrev pub CallerOf : Tables → State → ℕ → Type 0
+CallerOf p s i = Caller p.words.now p.counts s.sizes i
+
+abbrev pub PassesOf : Tables → State → ℕ → ℕ → Kind → Type 0
+PassesOf p s i j k = ArgumentPasses p.words.now p.counts s.sizes s.words.now i j k
+
+abbrev pub KeepsOf : Tables → State → ℕ → ℕ → Type 0
+KeepsOf p s i j = Keeps p.words.now p.counts s.sizes s.words.now i j
+
+abbrev pub PassOf : Indexed → State → ℕ → ℕ → ℕ → Program → Attrs → Type 0
+PassOf c s i f e = PassIn c.program.words.now c.program.counts s.sizes c.chains.now i f e

@@ -3,4 +3,4 @@ use Rattle.state.proofs.Puts.{ivar_read}
 use Rattle.settled.proofs.ivar_words.Goals as goal
 
 pub returns : goal.returns
-returns c = search ivar_read
+returns c = rw c.index.ensures (search ivar_read)

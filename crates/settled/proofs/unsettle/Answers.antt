@@ -2,7 +2,7 @@
 use mathlib.Core.Path.{ap, ◌∙◌}
 use native.Mathlib.Omega.{arith}
 use Rattle.settled.specs.Reads.{whole}
-use Rattle.settled.proofs.Stamps.{unsettled_start, unsettled_keep, unsettled_put, unsettled_done, whole_long, whole_set, whole_touched}
+use Rattle.settled.proofs.Stamps.{unsettled_start, unsettled_keep, unsettled_put, whole_long, whole_set, whole_touched}
 use Rattle.settled.proofs.unsettle.Goals as goal
 use Rattle.settled.proofs.unsettle.Goals.{then-touched, else-touched}
 
@@ -19,6 +19,3 @@ loop-j-preserved c =
           (ap (whole s) w.stamps-is ∙ whole_set s c.loop-j.stamps c.loop-j.j 0)
       | else-touched w ↦ unsettled_keep c.loop-j.invariant T w.if-touched.false (ap (whole s) w.stamps-is)
     ]
-
-pub returns : goal.returns
-returns c = unsettled_done c.loop-j.invariant (omega arith)

@@ -1,6 +1,6 @@
 -- `steps::visit_insn` meets its contract. Assumes nothing.
 use Rattle.steps.proofs.Kept.{its_operands}
-use Rattle.steps.proofs.Methods.{read_asked, insn_read, insn_set, insn_rest}
+use Rattle.steps.proofs.Methods.{read_asked, insn_read, insn_set, insn_quiet, insn_other}
 use Rattle.steps.proofs.visit_insn.Goals as goal
 
 pub decisive_words-k-requires : goal.decisive_words-k-requires
@@ -9,22 +9,28 @@ decisive_words-k-requires c = record { operands = its_operands c.requires.facing
 pub stamp-requires-clause-state_matches : goal.stamp-requires-clause-state_matches
 stamp-requires-clause-state_matches c =
     (read_asked c.args.tables.now c.args.state.now c.visit_timed.new.state c.args.stamps.now c.visit_timed.new.stamps c.requires.facing
-    c.requires.stamped c.visit_timed.ensures c.if-insn-eq13.true c.decisive_words-k.result c.decisive_words-k.ensures).0
+    c.requires.stamped c.visit_timed.ensures (rw c.in-Read.is at c.access.ensures) c.decisive_words-k.result c.decisive_words-k.ensures).0
 
 pub stamp-requires-clause-classes_below : goal.stamp-requires-clause-classes_below
 stamp-requires-clause-classes_below c =
     (read_asked c.args.tables.now c.args.state.now c.visit_timed.new.state c.args.stamps.now c.visit_timed.new.stamps c.requires.facing
-    c.requires.stamped c.visit_timed.ensures c.if-insn-eq13.true c.decisive_words-k.result c.decisive_words-k.ensures).1
+    c.requires.stamped c.visit_timed.ensures (rw c.in-Read.is at c.access.ensures) c.decisive_words-k.result c.decisive_words-k.ensures).1
 
-pub returns-then-insn-eq13 : goal.returns-then-insn-eq13
-returns-then-insn-eq13 c = insn_read c.args.tables.now c.args.state.now c.visit_timed.new.state c.args.stamps.now c.visit_timed.new.stamps
-    c.requires.facing c.requires.stamped c.visit_timed.ensures c.in_ok-next.was c.if-insn-eq13.true c.stamp.ensures
+pub returns-in-Read : goal.returns-in-Read
+returns-in-Read c = rw c.index.ensures (insn_read c.args.tables.now c.args.state.now c.visit_timed.new.state c.args.stamps.now c.visit_timed.new.stamps
+    c.requires.facing c.requires.stamped c.visit_timed.ensures c.in_ok-next.was (rw c.in-Read.is at c.access.ensures) c.stamp.ensures)
 
-pub returns-then-insn-state : goal.returns-then-insn-state
-returns-then-insn-state c =
+pub returns-then-state-waiting : goal.returns-then-state-waiting
+returns-then-state-waiting c =
     insn_set c.args.tables.now c.args.state.now c.visit_timed.new.state c.args.stamps.now c.visit_timed.new.stamps c.requires.facing
-    c.requires.stamped c.visit_timed.ensures c.in_ok-next.was c.if-insn-state.true c.decisive_words-k.ensures c.unsettle.ensures
+    c.requires.stamped c.visit_timed.ensures c.in_ok-next.was (rw c.in-Setting.is at c.access.ensures) c.decisive_words-k.ensures c.unsettle.ensures
 
-pub returns : goal.returns
-returns c = insn_rest c.args.tables.now c.args.state.now c.visit_timed.new.state c.args.stamps.now c.visit_timed.new.stamps c.requires.facing
-    c.requires.stamped c.visit_timed.ensures c.in_ok-next.was c.if-insn-eq13.false c.if-insn-state.false
+pub returns-else-state-waiting : goal.returns-else-state-waiting
+returns-else-state-waiting c =
+    insn_quiet c.args.tables.now c.args.state.now c.visit_timed.new.state c.args.stamps.now c.visit_timed.new.stamps c.requires.facing
+    c.requires.stamped c.visit_timed.ensures c.in_ok-next.was (rw c.in-Setting.is at c.access.ensures) c.if-state-waiting.false
+
+pub returns-in-Neither : goal.returns-in-Neither
+returns-in-Neither c =
+    insn_other c.args.tables.now c.args.state.now c.visit_timed.new.state c.args.stamps.now c.visit_timed.new.stamps c.requires.facing
+    c.requires.stamped c.visit_timed.ensures c.in_ok-next.was (rw c.in-Neither.is at c.access.ensures)

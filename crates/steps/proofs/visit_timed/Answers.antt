@@ -1,10 +1,13 @@
 -- `steps::visit_timed` meets its contract. Assumes nothing.
-use mathlib.Core.Path.{◌≡◌}
+use mathlib.Core.Bool.{true≢false}
+use Prim.Native.Nat.{◌<◌}
+use mathlib.Core.Path.{◌≡◌, sym, ◌∙◌}
 use borrow.Author.Rules.{rules}
 use Rattle.std.specs.Prelude.{Err}
-use Rattle.rules.proofs.Wellformed.Tests.{or_false_lem}
+use Rattle.rules.proofs.Wellformed.Tests.{or_false_lem, and-true}
 use Rattle.steps.proofs.Methods.{not_other, timed_no, timed_changed, timed_kept, timed_stamped}
 use Rattle.steps.proofs.visit_timed.Goals as goal
+use Rattle.steps.proofs.visit_timed.Goals.{in-Neither, in_default}
 
 pub returns-in_err-step_insn : goal.returns-in_err-step_insn
 returns-in_err-step_insn c =
@@ -14,16 +17,20 @@ returns-in_err-step_insn c =
 pub returns-then-ne-state : goal.returns-then-ne-state
 returns-then-ne-state c = timed_changed c.args.tables.now c.args.state.now c.step_insn.new.state c.args.stamps.now c.requires.dated c.step_insn.ensures c.in_ok-step_insn.was
 
-pub returns-then-insn-state : goal.returns-then-insn-state
-returns-then-insn-state c =
+pub returns-then-matches-state : goal.returns-then-matches-state
+returns-then-matches-state c =
     let n = or_false_lem _ _ c.if-ne-state.false in
     let k = n.0 in
-    timed_stamped c.args.tables.now c.args.state.now c.step_insn.new.state c.args.stamps.now c.requires.dated c.step_insn.ensures c.requires.facing
+    let same : c.insn_words.result ≡ c.insn_words-kind.result = search rules in
+    let b = and-true _ _ c.if-matches-state.true in
+    let plain : c.args.insn.tag < 13 = elim c.match-matches.branch [ in-Neither w ↦ rw w.in-Neither.is at c.access.ensures | in_default w ↦ absurd (true≢false (sym b.0 ∙ w.matches-is)) ] in
+    rw c.index.ensures
+    (timed_stamped c.args.tables.now c.args.state.now c.step_insn.new.state c.args.stamps.now c.requires.dated c.step_insn.ensures c.requires.facing
     c.in_ok-step_insn.was c.insn_words.ensures c.insn_words-kind.ensures
-    (search rules) (not_other _ _ n.1) c.if-insn-state.true
+    same (not_other _ _ n.1) plain b.1)
 
-pub returns : goal.returns
-returns c =
+pub returns-else-matches-state : goal.returns-else-matches-state
+returns-else-matches-state c =
     let n = or_false_lem _ _ c.if-ne-state.false in
     let k = n.0 in
     timed_kept c.args.tables.now c.args.state.now c.step_insn.new.state c.args.stamps.now c.requires.dated c.step_insn.ensures c.requires.facing

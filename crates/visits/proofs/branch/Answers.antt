@@ -5,9 +5,6 @@ use Rattle.visits.proofs.Ruling.{none_given}
 use Rattle.visits.proofs.Ways.{choice_needs, choice_way}
 use Rattle.visits.proofs.branch.Goals as goal
 
-pub operand-o-requires : goal.operand-o-requires
-operand-o-requires c = c.requires.visiting.read.range
-
 pub choose-requires-clause-operand_inside : goal.choose-requires-clause-operand_inside
 choose-requires-clause-operand_inside c = (choice_needs c.requires.visiting c.operand-o.result c.requires.op_value c.operand-o.ensures).0
 

@@ -4,12 +4,6 @@ use Rattle.state.proofs.Methods.{lent_same}
 use Rattle.visits.proofs.Ways.{compute_needs, compute_way}
 use Rattle.visits.proofs.compute.Goals as goal
 
-pub operand-v-requires : goal.operand-v-requires
-operand-v-requires c = c.requires.visiting.read.range
-
-pub operand-w-requires : goal.operand-w-requires
-operand-w-requires c = c.requires.visiting.read.range
-
 pub compute-requires : goal.compute-requires
 compute-requires c = compute_needs c.requires.visiting c.operand-v.result c.operand-w.result c.operand-v.ensures c.operand-w.ensures c.requires.op_value
 

@@ -4,14 +4,7 @@ use Rattle.std.specs.Prelude.{Err}
 use borrow.Author.Rules.{rules}
 use Rattle.state.specs.Acted.{acted_of}
 use Rattle.visits.proofs.Ways.{get_needs, get_within, get_way, get_stop}
-use Rattle.visits.proofs.Given.{matches}
 use Rattle.visits.proofs.get_ivar.Goals as goal
-
-pub operand-o-requires : goal.operand-o-requires
-operand-o-requires c = c.requires.visiting.read.range
-
-pub mark_reads-requires-clause-i_lt_insns : goal.mark_reads-requires-clause-i_lt_insns
-mark_reads-requires-clause-i_lt_insns c = c.requires.visiting.below
 
 pub mark_reads-requires-clause-operand_inside : goal.mark_reads-requires-clause-operand_inside
 mark_reads-requires-clause-operand_inside c = (get_needs c.requires.visiting c.operand-o.result c.requires.op_value c.operand-o.ensures).0
@@ -27,9 +20,6 @@ returns-in_err-mark_reads c =
       rules = get_stop c.requires.visiting c.operand-o.result c.requires.op_value c.operand-o.ensures c.mark_reads.ensures.did
           (ap (acted_of _) c.in_err-mark_reads.was);
     })
-
-pub read_ivar-requires-clause-state_matches : goal.read_ivar-requires-clause-state_matches
-read_ivar-requires-clause-state_matches c = rw c.mark_reads.ensures.lent.sizes (matches c.requires.visiting)
 
 pub read_ivar-requires-clause-operand_inside : goal.read_ivar-requires-clause-operand_inside
 read_ivar-requires-clause-operand_inside c = rw c.mark_reads.ensures.lent.sizes (get_needs c.requires.visiting c.operand-o.result c.requires.op_value c.operand-o.ensures).0

@@ -5,12 +5,6 @@ use Rattle.visits.proofs.Ruling.{none_given}
 use Rattle.visits.proofs.Ways.{return_needs, return_way}
 use Rattle.visits.proofs.give_back.Goals as goal
 
-pub operand-o-requires : goal.operand-o-requires
-operand-o-requires c = c.requires.visiting.read.range
-
-pub function_of-f-requires : goal.function_of-f-requires
-function_of-f-requires c = c.requires.visiting.read.inside
-
 pub give_back-requires-clause-operand_inside : goal.give_back-requires-clause-operand_inside
 give_back-requires-clause-operand_inside c = (return_needs c.requires.visiting c.operand-o.result c.requires.op_value c.operand-o.ensures c.function_of-f.ensures).0
 

@@ -5,9 +5,6 @@ use Rattle.visits.proofs.Ways.{param_way}
 use Rattle.visits.proofs.Given.{callers-known, function-below}
 use Rattle.visits.proofs.param.Goals as goal
 
-pub function_of-f-requires : goal.function_of-f-requires
-function_of-f-requires c = c.requires.visiting.read.inside
-
 pub param-requires-clause-flows_known : goal.param-requires-clause-flows_known
 param-requires-clause-flows_known c = callers-known c.requires.visiting
 

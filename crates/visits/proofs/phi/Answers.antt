@@ -4,12 +4,6 @@ use Rattle.state.proofs.Methods.{lent_same}
 use Rattle.visits.proofs.Ways.{phi-needs, phi_way}
 use Rattle.visits.proofs.phi.Goals as goal
 
-pub operand-v-requires : goal.operand-v-requires
-operand-v-requires c = c.requires.visiting.read.range
-
-pub operand-w-requires : goal.operand-w-requires
-operand-w-requires c = c.requires.visiting.read.range
-
 pub phi-requires-clause-operand_inside : goal.phi-requires-clause-operand_inside
 phi-requires-clause-operand_inside c = (phi-needs c.requires.visiting c.operand-v.result c.operand-w.result c.operand-v.ensures c.operand-w.ensures c.requires.op_value).0
 

@@ -3,12 +3,8 @@ use mathlib.Core.Path.{◌≡◌, refl, ap}
 use Rattle.std.specs.Prelude.{Err}
 use borrow.Author.Rules.{rules}
 use Rattle.state.specs.Acted.{acted_of}
-use native.Mathlib.Omega.{arith}
 use Rattle.visits.proofs.Ways.{send-needs, call_backs, send_way, send-stop}
 use Rattle.visits.proofs.send.Goals as goal
-
-pub operand-o-requires : goal.operand-o-requires
-operand-o-requires c = c.requires.visiting.read.range
 
 pub send_dynamic-requires-clause-calling : goal.send_dynamic-requires-clause-calling
 send_dynamic-requires-clause-calling c = (send-needs c.requires.visiting c.operand-o.result c.requires.op_value c.operand-o.ensures c.listed_in-args.ensures).0
@@ -26,9 +22,6 @@ returns-in_err-send_dynamic c =
 
 pub call_kind-requires-clause-backs : goal.call_kind-requires-clause-backs
 call_kind-requires-clause-backs c = rw c.send_dynamic.ensures.lent.sizes (call_backs c.requires.visiting)
-
-pub call_kind-requires-clause-i_lt_insns : goal.call_kind-requires-clause-i_lt_insns
-call_kind-requires-clause-i_lt_insns c = rw c.send_dynamic.ensures.lent.sizes (c.requires.visiting.below, omega arith)
 
 pub returns : goal.returns
 returns c = record {

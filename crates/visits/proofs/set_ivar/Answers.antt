@@ -3,17 +3,7 @@ use mathlib.Core.Path.{ap, ◌∙◌}
 use Rattle.visits.specs.Visits.{kind_of}
 use Rattle.visits.proofs.Ruling.{none_given}
 use Rattle.visits.proofs.Ways.{set-needs, set_way}
-use Rattle.visits.proofs.Given.{matches}
 use Rattle.visits.proofs.set_ivar.Goals as goal
-
-pub operand-o-requires : goal.operand-o-requires
-operand-o-requires c = c.requires.visiting.read.range
-
-pub operand-v-requires : goal.operand-v-requires
-operand-v-requires c = c.requires.visiting.read.range
-
-pub set_ivar-requires-clause-state_matches : goal.set_ivar-requires-clause-state_matches
-set_ivar-requires-clause-state_matches c = matches c.requires.visiting
 
 pub set_ivar-requires-clause-operand_inside : goal.set_ivar-requires-clause-operand_inside
 set_ivar-requires-clause-operand_inside c = (set-needs c.requires.visiting c.operand-o.result c.operand-v.result c.operand-o.ensures c.operand-v.ensures c.requires.op_value).0

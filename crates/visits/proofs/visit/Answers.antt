@@ -7,28 +7,10 @@ use Rattle.visits.proofs.Ways.{fits-tables}
 use Rattle.visits.proofs.Ruling.{visit_stored, visit_refused}
 use Rattle.visits.proofs.visit.Goals as goal
 
-pub rule-requires : goal.rule-requires
-rule-requires c = record {
-  indexed = c.requires.analysed.indexed;
-  steady = c.requires.steady;
-  ready = c.args.state.now.ready;
-  below = c.requires.i_lt_insns;
-  read = c.requires.reads_insn;
-}
-
 pub returns-in_err-k : goal.returns-in_err-k
 returns-in_err-k c =
     let e : c.from_residual.result ≡ Err c.in_err-k.field-0.0 = search rules in
     rw e (visit_refused c.args.i.0 c.rule.ensures c.in_err-k.was)
-
-pub store-requires-clause-machine_sized : goal.store-requires-clause-machine_sized
-store-requires-clause-machine_sized c = rw c.rule.ensures.lent.sizes c.requires.analysed.indexed.sized
-
-pub store-requires-clause-users : goal.store-requires-clause-users
-store-requires-clause-users c = c.requires.analysed.users
-
-pub store-requires-clause-i_lt_insns : goal.store-requires-clause-i_lt_insns
-store-requires-clause-i_lt_insns c = rw c.rule.ensures.lent.sizes c.requires.i_lt_insns
 
 pub returns : goal.returns
 returns c = visit_stored c.args.i.0 c.rule.ensures c.in_ok-k.was (did_fits c.store.ensures fits-tables)

@@ -1,23 +1,15 @@
 -- `flows::returning::join_called` meets its contract. Assumes nothing.
-use Rattle.flows.proofs.returning.Passes.{calling_fits, calling_below}
-use Rattle.flows.proofs.returning.Sets.{summed_start, summed_more, summed_done, joined-none}
-use borrow.Author.Rules.{rules}
+use native.Mathlib.Omega.{arith}
+use Rattle.flows.proofs.returning.Sets.{summed_more, summed_past, summed_done}
+use Rattle.flows.proofs.returning.join_called.Goals.{then-has_called+in_ok-met, else-has_called}
 use Rattle.flows.proofs.returning.join_called.Goals as goal
 
-pub loop-f-init : goal.loop-f-init
-loop-f-init c = search summed_start
-
-pub overflow_cast-f : goal.overflow_cast-f
-overflow_cast-f c = search calling_fits
-
-pub join_returns-requires-clause-f_lt_functions : goal.join_returns-requires-clause-f_lt_functions
-join_returns-requires-clause-f_lt_functions c = search (rules, calling_below)
-
 pub loop-f-preserved : goal.loop-f-preserved
-loop-f-preserved c = search summed_more
-
-pub returns-then-met : goal.returns-then-met
-returns-then-met c = search summed_done
+loop-f-preserved c = elim c.if-has_called.branch [
+  | then-has_called+in_ok-met w ↦
+      rw (w.met-is, w.s-is) (summed_more c.loop-f.invariant (omega arith) c.has_called.ensures _ _ w.if-has_called.true w.join_returns.ensures w.in_ok-met.was)
+  | else-has_called w ↦ rw (w.met-is, w.s-is) (summed_past c.loop-f.invariant (omega arith) c.has_called.ensures w.if-has_called.false)
+]
 
 pub returns : goal.returns
-returns c = joined-none _ _ _ _ _ _ _
+returns c = summed_done c.loop-f.invariant (omega arith) (omega arith) c.then_some.ensures

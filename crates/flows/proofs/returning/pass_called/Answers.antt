@@ -1,19 +1,14 @@
 -- `flows::returning::pass_called` meets its contract. Assumes nothing.
-use Rattle.flows.proofs.returning.Passes.{calling_start, calling_fits, calling_below, calling_more, calling_done}
-use borrow.Author.Rules.{rules}
+use native.Mathlib.Omega.{arith}
+use Rattle.flows.proofs.returning.Passes.{calling_more, calling_past, calling_done}
+use Rattle.flows.proofs.returning.pass_called.Goals.{then-has_called, else-has_called}
 use Rattle.flows.proofs.returning.pass_called.Goals as goal
 
-pub loop-f-init : goal.loop-f-init
-loop-f-init c = search calling_start
-
-pub overflow_cast-f : goal.overflow_cast-f
-overflow_cast-f c = search calling_fits
-
-pub pass_returns-y-requires-clause-f_lt_functions : goal.pass_returns-y-requires-clause-f_lt_functions
-pass_returns-y-requires-clause-f_lt_functions c = search (rules, calling_below)
-
 pub loop-f-preserved : goal.loop-f-preserved
-loop-f-preserved c = search calling_more
+loop-f-preserved c = elim c.if-has_called.branch [
+  | then-has_called w ↦ rw w.y-is (calling_more c.loop-f.invariant (omega arith) c.has_called.ensures w.if-has_called.true w.pass_returns-y.ensures)
+  | else-has_called w ↦ rw w.y-is (calling_past c.loop-f.invariant (omega arith) c.has_called.ensures w.if-has_called.false)
+]
 
 pub returns : goal.returns
-returns c = search calling_done
+returns c = calling_done c.loop-f.invariant (omega arith) (omega arith)

@@ -8,8 +8,8 @@ use Rattle.sctp.proofs.starts.start.Goals as goal
 pub returns-then-code-eq0 : goal.returns-then-code-eq0
 returns-then-code-eq0 c = (record { words = refl; sizes = refl }, start_none c.requires.indexed c.if-code-eq0.true)
 
-pub invariant_of-flow-2 : goal.invariant_of-flow-2
-invariant_of-flow-2 c = record { inside = jumps_inside c.requires.indexed; entries = entries-inside c.requires.indexed }
+pub invariant_of-flow : goal.invariant_of-flow
+invariant_of-flow c = record { inside = jumps_inside c.requires.indexed; entries = entries-inside c.requires.indexed }
 
 pub returns-in_err-all_first_kinds : goal.returns-in_err-all_first_kinds
 returns-in_err-all_first_kinds c =
@@ -24,5 +24,5 @@ pub returns : goal.returns
 returns c = (
   record { words = c.go_live.ensures.lent.words; sizes = c.go_live.ensures.lent.sizes },
   start-live c.requires.indexed c.requires.state_cleared c.if-code-eq0.false (rw c.in_ok-all_first_kinds.was at c.all_first_kinds.ensures) c.main_entry-b.ensures
-      c.requires.nothing_waits c.go_live.ensures.did,
+      c.no_entries-state.ensures c.go_live.ensures.did,
 )

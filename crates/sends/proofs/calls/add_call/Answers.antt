@@ -13,9 +13,6 @@ returns-in_err-push_block c =
     let e : c.from_residual.result ≡ Err c.in_err-push_block.field-0.0 = search rules in
     rw e (call-stop c.args.state.now c.args.i.0 c.args.f.0 c.args.entry.0 c.args.params c.args.args c.add_caller.ensures c.if-not-add_caller.false c.push_block.ensures c.in_err-push_block.was)
 
-pub push_block-requires : goal.push_block-requires
-push_block-requires c = record { b_lt_blocks = rw c.add_caller.ensures.lent.sizes c.requires.lt_blocks }
-
 pub returns-then-params-args : goal.returns-then-params-args
 returns-then-params-args c = call-new c.args.state.now c.args.i.0 c.args.f.0 c.args.entry.0 c.args.params c.args.args c.add_caller.ensures
     c.if-not-add_caller.false c.push_block.ensures c.in_ok-push_block.was c.if-params-args.true

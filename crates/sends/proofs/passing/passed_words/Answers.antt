@@ -2,9 +2,6 @@
 use Rattle.sends.proofs.passing.Passes.{argument-inside, kind-passed}
 use Rattle.sends.proofs.passing.passed_words.Goals as goal
 
-pub opnd_words-requires-clause-at_in_bounds : goal.opnd_words-requires-clause-at_in_bounds
-opnd_words-requires-clause-at_in_bounds c = c.argument_at-at.ensures.inside
-
 pub opnd_words-requires-clause-operand_inside : goal.opnd_words-requires-clause-operand_inside
 opnd_words-requires-clause-operand_inside c = argument-inside _ c.requires.caller c.argument_at-at.ensures.is
 

@@ -3,4 +3,4 @@ use Rattle.state.proofs.Puts.{read_set}
 use Rattle.state.proofs.State.add_read.Goals as goal
 
 pub returns : goal.returns
-returns c = record { lent = c.add_mark.ensures.lent; regs = c.add_mark.ensures.regs; put = search read_set }
+returns c = let row = rw c.index.ensures at c.row.ensures in record { lent = c.add_mark.ensures.lent; regs = c.add_mark.ensures.regs; put = search read_set }

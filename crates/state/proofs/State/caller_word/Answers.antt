@@ -3,4 +3,4 @@ use Rattle.state.proofs.Puts.{called-word}
 use Rattle.state.proofs.State.caller_word.Goals as goal
 
 pub returns : goal.returns
-returns c = search called-word
+returns c = let row = rw c.index.ensures at c.row.ensures in search called-word

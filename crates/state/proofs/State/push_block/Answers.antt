@@ -6,5 +6,5 @@ use Rattle.state.proofs.State.push_block.Goals as goal
 pub returns : goal.returns
 returns c = record {
   lent = record { words = refl; sizes = refl };
-  did = block_push c.args.self.now.sizes c.args.self.now.words.now c.args.self.now.regs c.args.self.now.ready c.args.b.0 _ _ c.requires.b_lt_blocks c.push.ensures;
+  did = block_push c.args.self.now.sizes c.args.self.now.words.now c.args.self.now.regs c.args.self.now.ready c.args.b.0 _ _ c.requires.b_lt_blocks (rw c.index.ensures at c.push.ensures);
 }

@@ -7,6 +7,6 @@ pub returns : goal.returns
 returns c = record {
   lent = record { words = refl; sizes = refl };
   regs = refl;
-  put = ivar_put c.args.self.now.sizes c.args.self.now.words.now c.args.self.now.ready.held c.args.c.0 c.args.a c.args.k _ _ c.requires.c_lt_classes.0 c.requires.c_lt_classes.1
-      c.tag.ensures c.payload.ensures;
+  put = rw c.index.ensures (ivar_put c.args.self.now.sizes c.args.self.now.words.now c.args.self.now.ready.held c.args.c.0 c.args.a c.args.k _ _ c.requires.c_lt_classes.0 c.requires.c_lt_classes.1
+      c.tag.ensures c.payload.ensures);
 }

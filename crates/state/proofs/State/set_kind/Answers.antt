@@ -7,5 +7,5 @@ pub returns : goal.returns
 returns c = record {
   lent = record { words = refl; sizes = refl };
   regs = refl;
-  put = kind-put c.args.self.now.sizes c.args.self.now.words.now c.args.self.now.ready.held c.args.i.0 c.args.k _ _ c.requires.i_lt_insns c.tag.ensures c.payload.ensures;
+  put = rw c.index-at.ensures (kind-put c.args.self.now.sizes c.args.self.now.words.now c.args.self.now.ready.held c.args.i.0 c.args.k _ _ c.requires.i_lt_insns c.tag.ensures c.payload.ensures);
 }

@@ -7,5 +7,5 @@ pub returns : goal.returns
 returns c = record {
   lent = record { words = refl; sizes = refl };
   regs = refl;
-  put = live-put c.args.self.now.sizes c.args.self.now.words.now c.args.self.now.ready.held c.args.b.0 c.requires.b_lt_blocks;
+  put = rw c.index.ensures (live-put c.args.self.now.sizes c.args.self.now.words.now c.args.self.now.ready.held c.args.b.0 c.requires.b_lt_blocks);
 }

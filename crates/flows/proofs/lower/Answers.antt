@@ -1,1 +1,0 @@
--- `flows::lower` meets its contract. Assumes nothing.
