@@ -1,4 +1,4 @@
--- Laws of tables, of rows of bits, and what the reading functions show. Assumes nothing.
+-- Laws of tables and of rows of bits. Assumes nothing.
 use mathlib.Core.Bool.{Bool as 𝔹, true, false, not}
 use mathlib.Core.Path.{◌≡◌, refl, sym, ap, ap₂, ◌∙◌}
 use mathlib.Core.List.{List, [], ◌∷◌, ◌++◌, map, append-nil, append_assoc}
@@ -9,19 +9,11 @@ use native.Mathlib.Decide.{dec_lt}
 use native.Mathlib.Numerals.{add-one}
 use native.Mathlib.Omega.{arith}
 use lib.Dec.{eqb}
-use lib.ListN.{length, get_or, set, take, drop, length-append, length-drop, take-append-drop, get_or-append}
-use lib.Seq.{sets-eq, take-nil, length-take-le, get_or-append-add, get_or-take, get_or-drop}
+use lib.ListN.{length, get_or, take, drop, length-append, length-drop, take-append-drop, get_or-append}
+use lib.Seq.{take-nil, length-take-le, get_or-append-add, get_or-take, get_or-drop}
 use Rattle.kinds.specs.Kinds.{bit_of}
 use Rattle.rules.specs.Lists.{concat}
-use Rattle.memory.specs.Memory.{over}
-use Rattle.answer.specs.Layout.{answer_length}
 use Rattle.answer.specs.Image.{starts_from, word_of, words_of, listed}
-
--- ---- the functions
-
-pub totals-set : (a : List ℕ) (f b i c : ℕ) → length a ≡ answer_length → set (set (set (set a 0 f) 1 b) 2 i) 3 c ≡ over 0 (f ∷ b ∷ i ∷ c ∷ []) a
-unfolding over
-totals-set a f b i c h = sets-eq (f ∷ b ∷ i ∷ c ∷ []) a 0 (omega arith)
 
 -- ---- lists
 

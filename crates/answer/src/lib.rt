@@ -1,10 +1,10 @@
 // The answer memory: its layout, publishing into it, and reading it.
 #![tactic(auto)]
 
-ghost use Rattle.std.specs.Prelude.{◌≡◌, not, [], ◌∷◌, ◌+◌, ◌*◌, ◌/◌, ◌≤◌, ◌<◌, min, eqb, length};
+ghost use Rattle.std.specs.Prelude.{◌≡◌, [], ◌∷◌, ◌+◌, ◌≤◌, ◌<◌, length};
 ghost use Rattle.memory.specs.Memory.{over};
 ghost use Rattle.memory.specs.Layout.{functions_most, blocks_most, instructions_most, uses_most};
-ghost use Rattle.answer.specs.Layout.{answer_length, live_at, tags_at, payloads_at, starts_at, users_at, callers_at};
+ghost use Rattle.answer.specs.Layout.{answer_length};
 ghost use Rattle.answer.specs.Image.{functions_in, blocks_in, instructions_in, count_in, live_in, tag_in, payload_in, start_in, user_in, bits_in, calls_in};
 
 use ids::{BlockId, FunId, InsnId};
@@ -26,6 +26,7 @@ pub const CALLERS: usize = USERS + memory::USES_MOST;
 pub const ANSWER_LEN: usize = CALLERS + memory::FUNCTIONS_MOST * memory::ROW_WORDS;
 
 // Stores the four totals.
+#[tactic(auto, unfolding(memory::specs::Memory::over))]
 pub fn write_totals(
     answer: &mut [usize],
     functions: usize,
@@ -36,120 +37,116 @@ pub fn write_totals(
     requires { length answer.old ≡ answer_length }
     ensures { answer.new ≡ over 0 (functions ∷ blocks ∷ instructions ∷ count ∷ []) answer.old }
 {
-    answer[0] = functions;
-    answer[1] = blocks;
-    answer[2] = instructions;
-    answer[3] = count;
+    answer[..LIVE].copy_from_slice(&[functions, blocks, instructions, count]);
 }
 
-// A word, or the limit if it is larger.
-fn at_most(word: usize, limit: usize) -> usize
-    ensures { result ≡ min word limit }
-{
-    if word < limit { word } else { limit }
+// An answer memory of the published length, as it is read, whatever it holds. A number above its limit counts as the limit.
+#[derive(Clone, Copy)]
+pub struct Answer<'a> {
+    pub words: &'a [usize],
+    pub ghost sized: { length words.now ≡ answer_length },
 }
 
-pub fn functions(answer: &[usize]) -> usize
-    requires { length answer.now ≡ answer_length }
-    ensures { (result ≡ functions_in answer.now) × (result ≤ functions_most) }
-{
-    at_most(answer[0], memory::FUNCTIONS_MOST)
-}
+impl Answer<'_> {
+    // Stays: three readers of one shape, since each has its own place among the published totals, and its own limit.
+    #[tactic(auto, unfolding(crate::specs::Image::functions_in))]
+    pub fn functions(&self) -> usize
+        ensures { (result ≡ functions_in self.now.words.now) × (result ≤ functions_most) }
+    {
+        self.words[0].min(memory::FUNCTIONS_MOST)
+    }
 
-pub fn blocks(answer: &[usize]) -> usize
-    requires { length answer.now ≡ answer_length }
-    ensures { (result ≡ blocks_in answer.now) × (result ≤ blocks_most) }
-{
-    at_most(answer[1], memory::BLOCKS_MOST)
-}
+    #[tactic(auto, unfolding(crate::specs::Image::blocks_in))]
+    pub fn blocks(&self) -> usize
+        ensures { (result ≡ blocks_in self.now.words.now) × (result ≤ blocks_most) }
+    {
+        self.words[1].min(memory::BLOCKS_MOST)
+    }
 
-pub fn instructions(answer: &[usize]) -> usize
-    requires { length answer.now ≡ answer_length }
-    ensures { (result ≡ instructions_in answer.now) × (result ≤ instructions_most) }
-{
-    at_most(answer[2], memory::INSTRUCTIONS_MOST)
-}
+    #[tactic(auto, unfolding(crate::specs::Image::instructions_in))]
+    pub fn instructions(&self) -> usize
+        ensures { (result ≡ instructions_in self.now.words.now) × (result ≤ instructions_most) }
+    {
+        self.words[2].min(memory::INSTRUCTIONS_MOST)
+    }
 
-pub fn count(answer: &[usize]) -> usize
-    requires { length answer.now ≡ answer_length }
-    ensures { result ≡ count_in answer.now }
-{
-    answer[3]
-}
+    #[tactic(auto, unfolding(crate::specs::Image::count_in))]
+    pub fn count(&self) -> usize
+        ensures { result ≡ count_in self.now.words.now }
+    {
+        self.words[3]
+    }
 
-pub fn live(answer: &[usize], b: BlockId) -> bool
-    requires answer_len { length answer.now ≡ answer_length }
-    requires b_lt_blocks_most { b.0 < blocks_most }
-    ensures { result ≡ live_in answer.now b.0 }
-{
-    let n = b.0 as usize;
-    answer[LIVE + n] != 0
-}
+    // Stays: that the number of a block, an instruction, a place or a function is below its table's length is asked, here and below: an answer may hold any
+    // words, so its reader tests each number against a total.
+    #[tactic(auto, unfolding(crate::specs::Image::live_in))]
+    pub fn live(&self, b: BlockId) -> bool
+        requires { b.0 < blocks_most }
+        ensures { result ≡ live_in self.now.words.now b.0 }
+    {
+        self.words[LIVE + b.index()] != 0
+    }
 
-pub fn tag(answer: &[usize], i: InsnId) -> usize
-    requires answer_len { length answer.now ≡ answer_length }
-    requires i_lt_instructions_most { i.0 < instructions_most }
-    ensures { result ≡ tag_in answer.now i.0 }
-{
-    let n = i.0 as usize;
-    answer[TAGS + n]
-}
+    #[tactic(auto, unfolding(crate::specs::Image::tag_in))]
+    pub fn tag(&self, i: InsnId) -> usize
+        requires { i.0 < instructions_most }
+        ensures { result ≡ tag_in self.now.words.now i.0 }
+    {
+        self.words[TAGS + i.index()]
+    }
 
-pub fn payload(answer: &[usize], i: InsnId) -> usize
-    requires answer_len { length answer.now ≡ answer_length }
-    requires i_lt_instructions_most { i.0 < instructions_most }
-    ensures { result ≡ payload_in answer.now i.0 }
-{
-    let n = i.0 as usize;
-    answer[PAYLOADS + n]
-}
+    #[tactic(auto, unfolding(crate::specs::Image::payload_in))]
+    pub fn payload(&self, i: InsnId) -> usize
+        requires { i.0 < instructions_most }
+        ensures { result ≡ payload_in self.now.words.now i.0 }
+    {
+        self.words[PAYLOADS + i.index()]
+    }
 
-// Where the users of an instruction start and end.
-pub fn users_start(answer: &[usize], i: InsnId) -> usize
-    requires answer_len { length answer.now ≡ answer_length }
-    requires i_lt_instructions_most { i.0 < instructions_most }
-    ensures { (result ≡ start_in answer.now i.0) × (result ≤ uses_most) }
-{
-    let n = i.0 as usize;
-    at_most(answer[STARTS + n], memory::USES_MOST)
-}
+    // Where the users of an instruction start and end.
+    #[tactic(auto, unfolding(crate::specs::Image::start_in))]
+    pub fn users_start(&self, i: InsnId) -> usize
+        requires { i.0 < instructions_most }
+        ensures { (result ≡ start_in self.now.words.now i.0) × (result ≤ uses_most) }
+    {
+        self.words[STARTS + i.index()].min(memory::USES_MOST)
+    }
 
-pub fn users_end(answer: &[usize], i: InsnId) -> usize
-    requires answer_len { length answer.now ≡ answer_length }
-    requires i_lt_instructions_most { i.0 < instructions_most }
-    ensures { (result ≡ start_in answer.now (i.0 + 1)) × (result ≤ uses_most) }
-{
-    let n = i.0 as usize;
-    at_most(answer[STARTS + (n + 1)], memory::USES_MOST)
-}
+    // Stays: beside `users_start`, which can't be asked for the place behind the last instruction, where the last one's users end.
+    #[tactic(auto, unfolding(crate::specs::Image::start_in))]
+    pub fn users_end(&self, i: InsnId) -> usize
+        requires { i.0 < instructions_most }
+        ensures { (result ≡ start_in self.now.words.now (i.0 + 1)) × (result ≤ uses_most) }
+    {
+        self.words[STARTS + (i.index() + 1)].min(memory::USES_MOST)
+    }
 
-// The user at a place of their table.
-pub fn user(answer: &[usize], j: usize) -> InsnId
-    requires answer_len { length answer.now ≡ answer_length }
-    requires j_lt_uses_most { j < uses_most }
-    ensures { result.0 ≡ user_in answer.now j }
-{
-    let n = at_most(answer[USERS + j], memory::INSTRUCTIONS_MOST);
-    InsnId(n as u32)
-}
+    // The user at a place of their table.
+    #[tactic(auto, unfolding(crate::specs::Image::user_in))]
+    pub fn user(&self, j: usize) -> InsnId
+        requires { j < uses_most }
+        ensures { result.0 ≡ user_in self.now.words.now j }
+    {
+        let n = self.words[USERS + j].min(memory::INSTRUCTIONS_MOST);
+        InsnId(n as u32)
+    }
 
-// The callers of a function from an instruction on, as bits of one word.
-pub fn callers_from(answer: &[usize], f: FunId, i: InsnId) -> usize
-    requires answer_len { length answer.now ≡ answer_length }
-    requires f_lt_functions_most { f.0 < functions_most }
-    requires i_lt_instructions_most { i.0 < instructions_most }
-    ensures { result ≡ bits_in answer.now f.0 i.0 }
-{
-    let g = f.0 as usize;
-    let n = i.0 as usize;
-    answer[CALLERS + (g * memory::ROW_WORDS + n / 64)] >> (n % 64)
-}
+    // The callers of a function from an instruction on, as bits of one word.
+    #[tactic(auto, unfolding(crate::specs::Image::word_in))]
+    pub fn callers_from(&self, f: FunId, i: InsnId) -> usize
+        requires f_lt_functions_most { f.0 < functions_most }
+        requires i_lt_instructions_most { i.0 < instructions_most }
+        ensures { result ≡ bits_in self.now.words.now f.0 i.0 }
+    {
+        let n = i.index();
+        self.words[CALLERS + (f.index() * memory::ROW_WORDS + n / 64)] >> (n % 64)
+    }
 
-pub fn calls(answer: &[usize], f: FunId, i: InsnId) -> bool
-    requires answer_len { length answer.now ≡ answer_length }
-    requires f_lt_functions_most { f.0 < functions_most }
-    requires i_lt_instructions_most { i.0 < instructions_most }
-    ensures { result ≡ calls_in answer.now f.0 i.0 }
-{
-    callers_from(answer, f, i) % 2 != 0
+    pub fn calls(&self, f: FunId, i: InsnId) -> bool
+        requires f_lt_functions_most { f.0 < functions_most }
+        requires i_lt_instructions_most { i.0 < instructions_most }
+        ensures { result ≡ calls_in self.now.words.now f.0 i.0 }
+    {
+        self.callers_from(f, i) % 2 != 0
+    }
 }

@@ -1,5 +1,4 @@
 -- The ways through the call. Assumes nothing.
-use mathlib.Core.Bool.{Bool as 𝔹, true, false}
 use mathlib.Core.Path.{◌≡◌, refl, sym, ap, ◌∙◌, subst}
 use mathlib.Core.Option.{some}
 use mathlib.Core.List.{List, ◌++◌}
@@ -7,7 +6,6 @@ use Prim.Native.Nat.{ℕ, ◌≤◌, ◌<◌}
 use native.Mathlib.Omega.{arith}
 use lib.ListN.{length, get_or, take, drop}
 use lib.Seq.{take_at, length-take-le}
-use lib.Dec.{leb}
 use borrow.Author.Tests.{le-leb, lt-leb}
 use native.Mathlib.Decide.{dec_lt}
 use Rattle.rules.specs.Actions.{Answer, answered, refused, if_answered}
@@ -18,7 +16,7 @@ use Rattle.rules.specs.Bound.{bound}
 use Rattle.rules.specs.Frames.{Analysis, analyze}
 use Rattle.rules.proofs.Exactness.Answers as Answers
 use Rattle.memory.specs.Memory.{zeros, Blank}
-use Rattle.memory.proofs.Laws.{zeros-at, blank}
+use Rattle.memory.proofs.Laws.{zeros-at}
 use Rattle.program.specs.View.{program_view}
 use Rattle.program.specs.declared.Counts.{Counts}
 use Rattle.state.specs.declared.Regs.{Regs}
@@ -45,7 +43,7 @@ use Rattle.parser.specs.Outcomes.{ReadsScript}
 use Rattle.parser.proofs.Laws.{read-ready, read-finished}
 use Rattle.memory.specs.Layout.{script_most, blocks_most, instructions_most}
 use Rattle.program.specs.Layout.{program_size}
-use Rattle.state.specs.Layout.{state_size, state_length}
+use Rattle.state.specs.Layout.{state_length}
 use Rattle.chains.specs.Layout.{program_length}
 use Rattle.call.specs.Call.{number_of, Lent, lent, left, answer_of, ended, after}
 use Rattle.call.specs.Parts.{front_of, imaged, analyzed, found, Parsed, PartsSized, PartsFresh, PartsAnalyzed, kept_of, PartsCleared, PartsRan}
@@ -80,9 +78,9 @@ module _ (s p : List ℕ) (c : Counts) (u u₁ m : List ℕ) {r : Acted} (h : Pa
   image : Answer State → Answer (List ℕ)
   image y = if_answered y (λ e. answered (image_of (answer_record P e)))
 
-  pub program-refused : (x : Refusal) (a : List ℕ) → r ≡ No (number x) → found (Err x) a ≡ analyzed P
+  pub program-refused : {x : Refusal} {o : Result (Unit {0}) Refusal} (a : List ℕ) → r ≡ No (number x) → o ≡ Err x → found o a ≡ analyzed P
   unfolding analyzed image
-  program-refused x a e = ap image (rw e at ends)
+  program-refused a e f = rw f (ap image (rw e at ends))
 
   module _ {q : Regs} (e : r ≡ On q) where
     rested : Rested s t c (sizes_of c) m q
@@ -135,14 +133,17 @@ imaged_no : (s : List ℕ) (n : ℕ) → parse_program limits s ≡ refused n �
 unfolding analyze
 imaged_no s n e = rw e
 
--- the tables that were lent and came back
-pub reads-tables : (s t p : List ℕ) {r : Result Counts Refusal} → ReadsScript s t r → length t ≡ length (take program_size p)
-    → program_size ≤ length p → ReadsScript s (front_of (t ++ drop program_size p)) r
-reads-tables s t p {r} g e h = subst (λ x. ReadsScript s x r) (sym (tables_back t (drop program_size p) (e ∙ length-take-le program_size p h))) g
+module _ {a p w : List ℕ} (sized : PartsSized a p w) where
+  -- the tables that are lent, and the program part with those that came back
+  pub tables_room : length (take program_size p) ≡ program_size
+  tables_room = length-take-le program_size p (omega (arith, sized.program))
+
+  pub tables_read : {s t : List ℕ} {r : Result Counts Refusal} → ReadsScript s t r → length t ≡ length (take program_size p) → ReadsScript s (front_of (t ++ drop program_size p)) r
+  tables_read {s} {t} {r} g e = subst (λ x. ReadsScript s x r) (sym (tables_back t (drop program_size p) (e ∙ tables_room))) g
 
 module _ (s t : List ℕ) {r : Result Counts Refusal} (g : ReadsScript s t r) where
-  pub reading_refused : (x : Refusal) (a : List ℕ) → r ≡ Err x → found (Err x) a ≡ imaged (analyze limits s)
-  reading_refused x a e = sym (imaged_no s (number x) (sym (rw e at g).is))
+  pub reading_refused : {x : Refusal} {o : Result (Unit {0}) Refusal} (a : List ℕ) → r ≡ Err x → o ≡ Err x → found o a ≡ imaged (analyze limits s)
+  reading_refused {x} a e f = rw f (sym (imaged_no s (number x) (sym (rw e at g).is)))
 
   module _ {c : Counts} (e : r ≡ Ok c) where
     pub parsed : Parsed s t c
@@ -158,8 +159,8 @@ module _ (s t : List ℕ) {r : Result Counts Refusal} (g : ReadsScript s t r) wh
     pub reading_finished : (o : Result (Unit {0}) Refusal) (a : List ℕ) → found o a ≡ analyzed (program_view s t c) → found o a ≡ imaged (analyze limits s)
     reading_finished o a f = f ∙ sym (imaged-on s (program_view s t c) (sym (rw e at g).is))
 
-pub sized-kept : {a p p' w w' : List ℕ} → PartsSized a p w → length p' ≡ length p → length w' ≡ length w → PartsSized a p' w'
-sized-kept f k l = record { answer = f.answer; program = k ∙ f.program; state = l ∙ f.state }
+pub sized_kept : {a p p' w w' : List ℕ} → PartsSized a p w → length p' ≡ length p → length w' ≡ length w → PartsSized a p' w'
+sized_kept f k l = record { answer = f.answer; program = k ∙ f.program; state = l ∙ f.state }
 
 -- ---- analyze_parts
 
@@ -182,17 +183,17 @@ module _ (s a p w : List ℕ) where
   unfolding after
   too_long h = rw (lt-leb (length s) script_most h)
 
-  pub short-answer : length s ≤ script_most → length a < answer_length → after s (lent a p w) ≡ left (some 2) (lent a p w)
+  pub short_answer : length s ≤ script_most → length a < answer_length → after s (lent a p w) ≡ left (some 2) (lent a p w)
   unfolding after
-  short-answer h i = rw (le-leb (length s) script_most h, lt-leb answer_length (length a) i)
+  short_answer h i = rw (le-leb (length s) script_most h, lt-leb answer_length (length a) i)
 
-  pub short-program : length s ≤ script_most → answer_length ≤ length a → length p < program_length → after s (lent a p w) ≡ left (some 2) (lent a p w)
+  pub short_program : length s ≤ script_most → answer_length ≤ length a → length p < program_length → after s (lent a p w) ≡ left (some 2) (lent a p w)
   unfolding after
-  short-program h i j = rw (le-leb (length s) script_most h, le-leb answer_length (length a) i, lt-leb program_length (length p) j)
+  short_program h i j = rw (le-leb (length s) script_most h, le-leb answer_length (length a) i, lt-leb program_length (length p) j)
 
-  pub short-state : length s ≤ script_most → answer_length ≤ length a → program_length ≤ length p → length w < state_length → after s (lent a p w) ≡ left (some 2) (lent a p w)
+  pub short_state : length s ≤ script_most → answer_length ≤ length a → program_length ≤ length p → length w < state_length → after s (lent a p w) ≡ left (some 2) (lent a p w)
   unfolding after
-  short-state h i j k = rw (le-leb (length s) script_most h, le-leb answer_length (length a) i, le-leb program_length (length p) j, lt-leb state_length (length w) k)
+  short_state h i j k = rw (le-leb (length s) script_most h, le-leb answer_length (length a) i, le-leb program_length (length p) j, lt-leb state_length (length w) k)
 
   pub ran_through : {r : Result (Unit {0}) Refusal} {a' p' w' : List ℕ} → length s ≤ script_most → answer_length ≤ length a
       → program_length ≤ length p → state_length ≤ length w → PartsRan s r a' p' w'

@@ -1,11 +1,8 @@
 // The call: a script, and three lent parts of memory.
 #![tactic(auto)]
 
-ghost use Rattle.std.specs.Prelude.{◌≡◌, ◌≤◌, length};
+ghost use Rattle.std.specs.Prelude.{◌≡◌};
 ghost use Rattle.program.specs.View.{program_view};
-ghost use Rattle.parser.specs.Outcomes.{ReadsScript};
-ghost use Rattle.program.specs.Layout.{program_size};
-ghost use Rattle.cursor.specs.Layout.{scratch_size};
 ghost use Rattle.call.specs.Call.{number_of, lent, left, after};
 ghost use Rattle.call.specs.Parts.{front_of, found, analyzed, Parsed, PartsSized, PartsFresh, PartsAnalyzed, PartsCleared, PartsRan};
 
@@ -26,19 +23,9 @@ pub const SCRIPT_MOST: usize = memory::SCRIPT_MOST;
 // The program's tables; its index stands behind them.
 const TABLES: usize = program::SIZE;
 
-fn read_tables(
-    script: &[u8],
-    program: &mut [usize],
-    scratch: &mut [usize],
-) -> Result<Counts, Refusal>
-    requires program_size_in_bounds { program_size ≤ length program.old }
-    requires scratch_size_in_bounds { scratch_size ≤ length scratch.old }
-    ensures { ReadsScript script.now (front_of program.new) result }
-{
-    parser::read(script, &mut program[..TABLES], scratch)
-}
-
 // The analysis of a program that was read.
+// Stays: here and below the parts are lent apart, as the call lends them: of a struct that held the three, each function would have to promise that it still
+// holds the same ones.
 fn analyze_program(
     script: &[u8],
     answer: &mut [usize],
@@ -71,7 +58,7 @@ fn analyze_script(
     requires { PartsSized answer.old program.old state.old }
     ensures { PartsAnalyzed script.now result answer.new program.new state.new }
 {
-    let counts = read_tables(script, program, state)?;
+    let counts = parser::read(script, &mut program[..TABLES], state)?;
     memory::clear(answer);
     analyze_program(script, answer, program, state, counts)
 }
@@ -107,6 +94,7 @@ fn analyze_parts(
 }
 
 // Which blocks of a script can run. No demand is made of the script or of the memory: what it gives and leaves is `after`.
+#[tactic(auto, using(crate::proofs::Laws::too_long, crate::proofs::Laws::short_answer, crate::proofs::Laws::short_program, crate::proofs::Laws::short_state))]
 pub fn analyze(
     script: &[u8],
     answer: &mut [usize],

@@ -5,6 +5,8 @@ ghost use Rattle.call.specs.Call.{after, lent};
 ghost use Rattle.dinqosa.specs.Exported.{Gives};
 
 // 0 for an answer, else the number of the refusal.
+// Stays: the parts are lent apart, as the C interface lends them.
+#[tactic(auto, using(crate::proofs::Laws::gives_answer, crate::proofs::Laws::gives_refusal))]
 pub fn dinqosa_analyze(
     script: &[u8],
     answer: &mut [usize],

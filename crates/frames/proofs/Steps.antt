@@ -1,13 +1,13 @@
 -- What each step of a cursor writes: the laws of the functions `step_..`. Assumes nothing.
 use mathlib.Core.Bool.{Bool as 𝔹}
-use mathlib.Core.Path.{◌≡◌, refl, sym, ap, ◌∙◌}
+use mathlib.Core.Path.{◌≡◌, sym, ap, ◌∙◌}
 use mathlib.Core.List.{List, [], ◌∷◌, ◌++◌, append_assoc, append-nil}
 use Prim.Native.Nat.{ℕ, zero, suc, ◌+◌, ◌-◌, ◌*◌, ◌/◌, ◌%◌, ◌^◌, ◌≤◌, ◌<◌}
 use native.Mathlib.Nat.{div-eq_of_lt, div-lt_iff_lt-mul, pow-le-pow_right, one-le-pow}
-use native.Mathlib.Decide.{dec_lt, ℕ_discrete}
+use native.Mathlib.Decide.{dec_lt}
 use native.Mathlib.Numerals.{add-one}
 use native.Mathlib.Omega.{arith}
-use Rattle.std.specs.Prelude.{Option, None, Some, OnSome}
+use Rattle.std.specs.Prelude.{Option, None, Some}
 use lib.ListN.{length, take, drop, length-append, length-drop, drop_of_length-le}
 use lib.Seq.{take_at, drop_at, drop-drop, take_all, length-take-le, take-append-add, drop-append-add}
 use borrow.Rule.Slice.PartMut.{mid_of, put_mid}
@@ -40,7 +40,7 @@ use Rattle.frames.specs.Text.{
   left_at,
   line_most,
 }
-use Rattle.frames.specs.Text.{Wrote, Stepped, Gives, Piece}
+use Rattle.frames.specs.Text.{Wrote, Stepped, Gives}
 
 -- ---- lists
 
@@ -66,31 +66,31 @@ listed-skip g (suc k) i n h = go (dec_lt i n) (listed-skip g k (i + 1) n (λ m p
 -- ---- totals, blocks, kinds
 
 module _ {a : List ℕ} where
-  pub totals-step : {f b i k : ℕ} → (f ≡ functions_in a) × (f ≤ functions_most) → (b ≡ blocks_in a) × (b ≤ blocks_most)
+  pub totals_step : {f b i k : ℕ} → (f ≡ functions_in a) × (f ≤ functions_most) → (b ≡ blocks_in a) × (b ≤ blocks_most)
       → (i ≡ instructions_in a) × (i ≤ instructions_most) → k ≡ count_in a
       → Stepped a Totals (Some (F.Totals (record { functions = f; blocks = b; instructions = i; count = k }))) (Some (Block (record { 0 = 0 })))
   unfolding totals_line
-  totals-step f b i k = record { text = rw (f.0, b.0, i.0, k); falls = omega arith }
+  totals_step f b i k = record { text = rw (f.0, b.0, i.0, k); falls = omega arith }
 
-  pub block-end : {b : BlockId} {r : ℕ} → (r ≡ blocks_in a) × (r ≤ blocks_most) → r ≤ b.0 → Stepped a (Block b) None (Some (Instruction (record { 0 = 0 })))
+  pub block_end : {b : BlockId} {r n : ℕ} → (r ≡ blocks_in a) × (r ≤ blocks_most) → n ≡ b.0 → r ≤ n → Stepped a (Block b) None (Some (Instruction (record { 0 = 0 })))
   unfolding from_block
-  block-end {b} r h = record { text = rw (listed-none (block_line a) b.0 (blocks_in a) (omega (arith, r.0))); falls = omega arith }
+  block_end {b} r e h = record { text = rw (listed-none (block_line a) b.0 (blocks_in a) (omega (arith, r.0))); falls = omega arith }
 
-  pub block_more : {b : BlockId} {r : ℕ} {l : 𝔹} → (r ≡ blocks_in a) × (r ≤ blocks_most) → b.0 < r → l ≡ live_in a b.0
+  pub block_more : {b : BlockId} {r n : ℕ} {l : 𝔹} → (r ≡ blocks_in a) × (r ≤ blocks_most) → n ≡ b.0 → n < r → l ≡ live_in a b.0
       → Stepped a (Block b) (Some (F.Live b l)) (Some (Block (record { 0 = b.0 + 1 })))
   unfolding from_block block_line
-  block_more {b} is h e =
+  block_more {b} is x h e =
       record { text = rw (listed_more (block_line a) b.0 (blocks_in a) (omega (arith, is.0)), e, append_assoc); falls = omega (arith, is.1) }
 
-  pub kind-end : {i : InsnId} {r s : ℕ} → (r ≡ instructions_in a) × (r ≤ instructions_most) → r ≤ i.0 → (s ≡ start_in a 0) × (s ≤ uses_most)
+  pub kind_end : {i : InsnId} {r n s : ℕ} → (r ≡ instructions_in a) × (r ≤ instructions_most) → n ≡ i.0 → r ≤ n → (s ≡ start_in a 0) × (s ≤ uses_most)
       → Stepped a (Instruction i) None (Some (Use (record { 0 = 0 }) s))
   unfolding from_kind
-  kind-end {i} r h s = record { text = rw (listed-none (kind_line a) i.0 (instructions_in a) (omega (arith, r.0)), s.0); falls = omega arith }
+  kind_end {i} r e h s = record { text = rw (listed-none (kind_line a) i.0 (instructions_in a) (omega (arith, r.0)), s.0); falls = omega arith }
 
-  pub kind-more : {i : InsnId} {r t p : ℕ} → (r ≡ instructions_in a) × (r ≤ instructions_most) → i.0 < r → t ≡ tag_in a i.0 → p ≡ payload_in a i.0
+  pub kind_more : {i : InsnId} {r n t p : ℕ} → (r ≡ instructions_in a) × (r ≤ instructions_most) → n ≡ i.0 → n < r → t ≡ tag_in a i.0 → p ≡ payload_in a i.0
       → Stepped a (Instruction i) (Some (F.Kind i t p)) (Some (Instruction (record { 0 = i.0 + 1 })))
   unfolding from_kind kind_line
-  kind-more {i} r h t p =
+  kind_more {i} r e h t p =
       record { text = rw (listed_more (kind_line a) i.0 (instructions_in a) (omega (arith, r.0)), t, p, append_assoc); falls = omega (arith, r.1) }
 
 -- ---- uses
@@ -120,14 +120,14 @@ module _ (a : List ℕ) where
   unfolding from_use
   more-uses i j lt h = rw (lt-ltb i (instructions_in a) lt, listed_more (use_line a i) j (start_in a (suc i)) (rw add-one at h)) (simp append_assoc)
 
-module _ {a : List ℕ} {i : InsnId} {j : ℕ} {r : ℕ} (is : (r ≡ instructions_in a) × (r ≤ instructions_most)) where
-  pub use_end : r ≤ i.0 → Stepped a (Use i j) None (Some (Caller (record { 0 = 0 }) (record { 0 = 0 })))
+module _ {a : List ℕ} {i : InsnId} {j : ℕ} {r n : ℕ} (is : (r ≡ instructions_in a) × (r ≤ instructions_most)) (x : n ≡ i.0) where
+  pub use_end : r ≤ n → Stepped a (Use i j) None (Some (Caller (record { 0 = 0 }) (record { 0 = 0 })))
   use_end h = record { text = past-uses a i.0 j (omega (arith, is.0)); falls = omega arith }
 
-  pub use_next : {e : ℕ} → i.0 < r → (e ≡ start_in a (i.0 + 1)) × (e ≤ uses_most) → e ≤ j → Stepped a (Use i j) None (Some (Use (record { 0 = i.0 + 1 }) e))
+  pub use_next : {e : ℕ} → n < r → (e ≡ start_in a (i.0 + 1)) × (e ≤ uses_most) → e ≤ j → Stepped a (Use i j) None (Some (Use (record { 0 = i.0 + 1 }) e))
   use_next h e k = record { text = rw e.0 (next-uses a i.0 j (omega (arith, is.0)) (omega (arith, e.0))); falls = omega (arith, is.1, e.1) }
 
-  pub use_more : {e : ℕ} {u : InsnId} → i.0 < r → (e ≡ start_in a (i.0 + 1)) × (e ≤ uses_most) → j < e → u.0 ≡ user_in a j
+  pub use_more : {e : ℕ} {u : InsnId} → n < r → (e ≡ start_in a (i.0 + 1)) × (e ≤ uses_most) → j < e → u.0 ≡ user_in a j
       → Stepped a (Use i j) (Some (F.User i u)) (Some (Use i (j + 1)))
   unfolding use_line
   use_more h e k u = record { text = more-uses a i.0 j (omega (arith, is.0)) (omega (arith, e.0)) ∙ rw u; falls = omega (arith, e.1) }
@@ -184,33 +184,33 @@ module _ (a : List ℕ) where
   unfolding caller_line
   a_line f m h = rw (ne_eqb (bits_in a f m % 2) 0 h)
 
-module _ {a : List ℕ} {f : FunId} {i : InsnId} {q : ℕ} (fs : (q ≡ functions_in a) × (q ≤ functions_most)) where
-  pub caller-end : q ≤ f.0 → Stepped a (Caller f i) None None
-  caller-end h = record { text = past-callers a f.0 i.0 (omega (arith, fs.0)); falls = omega arith }
+module _ {a : List ℕ} {f : FunId} {i : InsnId} {q m : ℕ} (fs : (q ≡ functions_in a) × (q ≤ functions_most)) (x : m ≡ f.0) where
+  pub caller_end : q ≤ m → Stepped a (Caller f i) None None
+  caller_end h = record { text = past-callers a f.0 i.0 (omega (arith, fs.0)); falls = omega arith }
 
-  module _ {r : ℕ} (lt : f.0 < q) (is : (r ≡ instructions_in a) × (r ≤ instructions_most)) where
-    pub caller-next : r ≤ i.0 → Stepped a (Caller f i) None (Some (Caller (record { 0 = f.0 + 1 }) (record { 0 = 0 })))
-    caller-next h = record { text = next-callers a f.0 i.0 (omega (arith, fs.0)) (omega (arith, is.0)); falls = omega (arith, fs.1) }
+  module _ {r n : ℕ} (lt : m < q) (is : (r ≡ instructions_in a) × (r ≤ instructions_most)) (y : n ≡ i.0) where
+    pub caller_next : r ≤ n → Stepped a (Caller f i) None (Some (Caller (record { 0 = f.0 + 1 }) (record { 0 = 0 })))
+    caller_next h = record { text = next-callers a f.0 i.0 (omega (arith, fs.0)) (omega (arith, is.0)); falls = omega (arith, fs.1) }
 
-    module _ {w : ℕ} (more : i.0 < r) (bits : w ≡ bits_in a f.0 i.0) where
-      pub caller-skip : w ≡ 0 → Stepped a (Caller f i) None (Some (Caller f (record { 0 = (i.0 / 64 + 1) * 64 })))
-      caller-skip z =
-          let n = i.0 in
-          let n' = (n / 64 + 1) * 64 in
-          let e : n + (n' - n) ≡ n' = omega arith in
-          let none : (m : ℕ) → n ≤ m → m < n + (n' - n) → caller_line a f.0 m ≡ [] =
-          λ m le l. no_line a f.0 m (rw (no_bits a f.0 n m (sym bits ∙ z) le (omega arith))) in
-          record { text = rw e at (skip-callers a f.0 n (n' - n) (omega (arith, fs.0)) none); falls = omega (arith, is.1) }
+    module _ {w : ℕ} (more : n < r) (bits : w ≡ bits_in a f.0 i.0) where
+      pub caller_skip : w ≡ 0 → Stepped a (Caller f i) None (Some (Caller f (record { 0 = (i.0 / 64 + 1) * 64 })))
+      caller_skip z =
+          let k = i.0 in
+          let k' = (k / 64 + 1) * 64 in
+          let e : k + (k' - k) ≡ k' = omega arith in
+          let none : (j : ℕ) → k ≤ j → j < k + (k' - k) → caller_line a f.0 j ≡ [] =
+          λ j le l. no_line a f.0 j (rw (no_bits a f.0 k j (sym bits ∙ z) le (omega arith))) in
+          record { text = rw e at (skip-callers a f.0 k (k' - k) (omega (arith, fs.0)) none); falls = omega (arith, is.1) }
 
-      pub caller-none : w % 2 ≡ 0 → Stepped a (Caller f i) None (Some (Caller f (record { 0 = i.0 + 1 })))
-      caller-none z =
+      pub caller_none : w % 2 ≡ 0 → Stepped a (Caller f i) None (Some (Caller f (record { 0 = i.0 + 1 })))
+      caller_none z =
           record {
             text = more-callers a f.0 i.0 (omega (arith, fs.0)) (omega (arith, is.0)) ∙ rw (no_line a f.0 i.0 (rw bits at z));
             falls = omega (arith, is.1);
           }
 
-      pub caller-more : (w % 2 ≡ 0 → ⊥) → Stepped a (Caller f i) (Some (F.Call f i)) (Some (Caller f (record { 0 = i.0 + 1 })))
-      caller-more z =
+      pub caller_more : (w % 2 ≡ 0 → ⊥) → Stepped a (Caller f i) (Some (F.Call f i)) (Some (Caller f (record { 0 = i.0 + 1 })))
+      caller_more z =
           record {
             text = more-callers a f.0 i.0 (omega (arith, fs.0)) (omega (arith, is.0)) ∙ rw (a_line a f.0 i.0 (rw bits at z));
             falls = omega (arith, is.1);

@@ -1,44 +1,12 @@
 -- The script that was read, and texts put one behind the other. Assumes nothing.
-use Rattle.std.proofs.Common.{
-  ◌≡◌,
-  ℕ,
-  ◌+◌,
-  ◌≤◌,
-  ◌<◌,
-  List,
-  ◌++◌,
-  Option,
-  None,
-  Some,
-  Result,
-  Ok,
-  Err,
-  IfSome,
-  ◌⊎◌,
-  inl,
-  inr,
-  arith,
-  length,
-  take,
-  sym,
-  ap,
-  ◌∙◌,
-  append-nil,
-  length-append,
-  length-take-le,
-  take_all,
-}
+use Rattle.std.proofs.Common.{◌≡◌, ℕ, ◌+◌, ◌≤◌, ◌<◌, List, ◌++◌, Option, None, Some, IfSome, ◌⊎◌, inl, inr, arith, length, take, sym, ap, ◌∙◌, append-nil, length-append, length-take-le, take_all}
 use Rattle.std.specs.Io.KnownBytes.{Appends, Consumes, IsAtEnd}
 use borrow.Author.Tests.{lt-leb}
-use Rattle.rules.specs.Actions.{Answer, answered, refused}
 use Rattle.rules.specs.Program.{limits}
-use Rattle.rules.specs.Frames.{Analysis, analyze, live}
-use Rattle.rules.specs.Steps as Steps
+use Rattle.rules.specs.Frames.{analyze, live}
 use Rattle.rules.proofs.Wellformed.Tests.{lt_or_le}
-use Rattle.rules.proofs.Demand.{limits_usable, answers, long-refused}
-use Rattle.streams.specs.declared.Unwritten.{Unwritten}
+use Rattle.rules.proofs.Demand.{long-refused}
 use Rattle.streams.specs.Moved.{taken_of}
-use Rattle.printing.specs.declared.Told.{Told}
 use Rattle.printing.specs.Sent.{number_in, SentTells}
 use Rattle.live.specs.declared.Ran.{Ran}
 use Rattle.refusals.specs.declared.Refusal.{Refusal}

@@ -1,11 +1,9 @@
 -- What the program does with its input. Assumes nothing.
-use Rattle.std.specs.Prelude.{List, ℕ, ◌≤◌, Option, Result, Ok, Err, IfOk, IfSome, length, take}
+use Rattle.std.specs.Prelude.{List, ℕ, ◌≤◌, Option, Result, Ok, Err, length, take}
 use Rattle.std.specs.Io.KnownBytes.{Appends, Keeps}
 use Rattle.rules.specs.Program.{limits}
 use Rattle.rules.specs.Frames.{analyze, live}
-use Rattle.streams.specs.declared.Unwritten.{Unwritten}
 use Rattle.streams.specs.Moved.{taken_of}
-use Rattle.printing.specs.declared.Told.{Told}
 use Rattle.printing.specs.Sent.{number_in, SentTells}
 use Rattle.live.specs.declared.Ran.{Ran}
 

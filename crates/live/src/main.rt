@@ -36,6 +36,7 @@ fn run<R: Read, W: Write>(from: &mut R, to: &mut W, script: &mut [u8]) -> io::Re
 
 // ---- standard error
 
+// Stays: a macro, since only a macro makes one literal of several: a table would repeat these words in each of its lines.
 macro_rules! line {
     ($words:literal) => {
         concat!("live: question ", $words, "\n")
@@ -43,6 +44,7 @@ macro_rules! line {
 }
 
 // The line of a refusal, with the number and the words of its question.
+// Stays: no `Display`, since the words are this program's and `Refusal` is of a crate below.
 fn line(e: Refusal) -> &'static str
     ensures { result.now ≡ line_of (number_of e) }
 {

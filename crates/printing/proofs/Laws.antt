@@ -1,8 +1,8 @@
 -- Pieces handed over one behind the other are all the frames, and these are the rules' frames of the script. Assumes nothing.
-use Rattle.std.proofs.Common.{true, ◌≡◌, ℕ, ◌+◌, ◌*◌, ◌≤◌, ◌<◌, List, Option, None, Some, Result, Ok, Err, arith, length, take, drop, sym, ap, ◌∙◌, subst, refl, le_refl}
+use Rattle.std.proofs.Common.{true, ◌≡◌, ℕ, ◌+◌, ◌*◌, ◌≤◌, ◌<◌, List, Option, None, Some, Result, Ok, Err, arith, length, take, drop, sym, ap, ◌∙◌, subst, refl, le_refl, MatchResult, IsErrAnd, IfErr}
 use Rattle.std.specs.Io.KnownBytes.{Appends}
 use Rattle.std.proofs.KnownBytes.{Appends-trans}
-use lib.ListN.{length-append}
+use lib.ListN.{replicate, length-append, length-replicate}
 use lib.Seq.{drop-drop, drop_at, take-add, take-append-le}
 use Rattle.frames.specs.declared.NextFrame.{NextFrame}
 use Rattle.frames.specs.declared.NextFrame.TheVariants.{Totals}
@@ -11,6 +11,7 @@ use Rattle.streams.specs.declared.Unwritten.{Unwritten}
 use Rattle.streams.specs.Moved.{taken_of}
 use Rattle.std.proofs.Math.Option.{none, some}
 use lib.Seq.{take_all}
+use lib.Dec.{leb}
 use borrow.Author.Tests.{le-leb}
 use Rattle.rules.specs.Actions.{Answer, answered, refused}
 use Rattle.rules.specs.Program.{limits}
@@ -20,7 +21,7 @@ use Rattle.answer.proofs.Answered.{answer-published}
 use Rattle.frames.proofs.Written.{image_frames}
 use Rattle.refusals.specs.declared.Refusal.{Refusal}
 use Rattle.refusals.specs.Refusals.{number_of as number-is}
-use Rattle.call.specs.Call.{number_of, CallLeft, lent, left, long_enough, after}
+use Rattle.call.specs.Call.{number_of, Lent, CallLeft, lent, left, long_enough, after}
 use Rattle.call.proofs.Facts as Facts
 use Rattle.call.proofs.Written.{refusal_frame_lem}
 use Rattle.state.specs.Layout.{state_length}
@@ -74,6 +75,16 @@ module _ {a out : List ℕ} {c : Option NextFrame} {done : ℕ} (g : Sending a o
         ap (take k) (g.rest ∙ p.text) ∙ take-append-le k (take n out') (rest_at a c') (omega (arith, h, p.count)) in
         subst (Appends x z) (sym (take-add done k T)) (Appends-trans x y z _ _ q (rw (← e) at r))
 
+    -- where writing the piece failed, with what the whole then answers
+    pub sending_cut : {V : Type 0} (x y z : Option (List ℕ)) (w : Result V Unwritten) (r : Result ℕ Unwritten)
+        → MatchResult w (λ v. ⊥) (λ e. IsErrAnd r (λ d. d.taken ≡ done + e.taken)) → IfErr w (λ e. e.taken < length (take n out'))
+        → Appends x y (take done (rest_of a Totals)) → Appends y z (take (taken_of (take n out') w) (take n out'))
+        → Appends x z (take (taken_of (rest_of a Totals) r) (rest_of a Totals))
+    sending_cut x y z (Ok v) r m s q d = absurd m
+    sending_cut x y z (Err e) (Ok v) m s q d = absurd m
+    sending_cut x y z (Err e) (Err f) m s q d =
+        subst (λ j. Appends x z (take j (rest_of a Totals))) (sym m) (sending_appends x y z e.taken (omega (arith, s, p.count)) q d)
+
     -- and where all of the piece was taken
     pub sending_appends_all : (x y z : Option (List ℕ)) → Appends x y (take done (rest_of a Totals)) → Appends y z (take (length (take n out')) (take n out'))
         → Appends x z (take (done + n) (rest_of a Totals))
@@ -89,51 +100,57 @@ told_taken : (o : Option Refusal) (t : List ℕ) (r : Result ℕ Unwritten) → 
 told_taken o t (Ok n) = refl
 told_taken o t (Err e) = refl
 
-module _ (s a p w : List ℕ) {a' p' w' : List ℕ} (x : Result (Unit {0}) Refusal) (la : length a ≡ answer_length) (lp : length p ≡ program_length) (lw : length w ≡ state_length)
-    (e : after s (lent a p w) ≡ left (number_of x) (lent a' p' w')) where
-  long : long_enough (lent a p w) ≡ true
-  long = rw (le-leb answer_length (length a) (omega arith), le-leb program_length (length p) (omega arith), le-leb state_length (length w) (omega arith))
+-- cleared parts of the published lengths
+abbrev pub parts : Lent
+parts = lent (replicate answer_length 0) (replicate program_length 0) (replicate state_length 0)
 
-  number : (after s (lent a p w)).number ≡ number_of x
+room : (n : ℕ) → leb n (length {A = ℕ} (replicate n 0)) ≡ true
+room n = rw length-replicate (le-leb n n (le_refl n))
+
+module _ (s : List ℕ) {a' p' w' : List ℕ} (x : Result (Unit {0}) Refusal) (e : after s parts ≡ left (number_of x) (lent a' p' w')) where
+  long : long_enough parts ≡ true
+  long = rw (room answer_length, room program_length, room state_length)
+
+  number : (after s parts).number ≡ number_of x
   number = ap (λ (l : CallLeft). l.number) e
 
   -- the rules' number
   rules-none : x ≡ Ok tt → number_in (analyze limits s) ≡ None
-  rules-none q = go (analyze limits s) (sym (Facts.number_is s (lent a p w) long) ∙ number ∙ ap number_of q)
+  rules-none q = go (analyze limits s) (sym (Facts.number_is s parts long) ∙ number ∙ ap number_of q)
     where
-      go : (y : Answer Analysis) → Facts.number_in s (lent a p w) y ≡ none → number_in y ≡ None
+      go : (y : Answer Analysis) → Facts.number_in s parts y ≡ none → number_in y ≡ None
       go (answered y) h = refl
       go (refused m) h = let z : ◌≡◌ {A = ℕ} 0 1 = cc in absurd (omega arith)
 
   rules-some : {n : Refusal} → x ≡ Err n → number_in (analyze limits s) ≡ Some (number-is n)
-  rules-some {n} q = go (analyze limits s) (sym (Facts.number_is s (lent a p w) long) ∙ number ∙ ap number_of q)
+  rules-some {n} q = go (analyze limits s) (sym (Facts.number_is s parts long) ∙ number ∙ ap number_of q)
     where
-      go : (y : Answer Analysis) → Facts.number_in s (lent a p w) y ≡ some (number-is n) → number_in y ≡ Some (number-is n)
+      go : (y : Answer Analysis) → Facts.number_in s parts y ≡ some (number-is n) → number_in y ≡ Some (number-is n)
       go (answered y) h = let z : ◌≡◌ {A = ℕ} 0 1 = cc in absurd (omega arith)
       go (refused m) h = let z : m ≡ number-is n = cc in rw z
 
   answer_text : x ≡ Ok tt → length a' ≡ answer_length → rest_of a' Totals ≡ live s
   unfolding live
   answer_text q l =
-      let z = Facts.answered_exactly s (lent a p w) (number ∙ ap number_of q) in
+      let z = Facts.answered_exactly s parts (number ∙ ap number_of q) in
       let u = answer-published s z.0 z.1.is in
       let i : analyze limits s ≡ answered z.0 = z.1.is in
-      let h : a' ≡ take answer_length (after s (lent a p w)).lent.answer =
+      let h : a' ≡ take answer_length (after s parts).lent.answer =
       sym (take_all answer_length a' (omega arith)) ∙ sym (ap (λ (l : CallLeft). take answer_length l.lent.answer) e) in
       let f : rest_of a' Totals ≡ frames z.0.program z.0.state =
       ap (λ (m : List ℕ). rest_of m Totals) (h ∙ z.1.held) ∙ image_frames z.0.program z.0.state u.shaped u.legal in
       rw i f
 
   refusal_text : {n : Refusal} → x ≡ Err n → refusal_frame (number-is n) ≡ live s
-  refusal_text {n} q = refusal_frame_lem s (lent a p w) (number-is n) long (number ∙ ap number_of q)
+  refusal_text {n} q = refusal_frame_lem s parts (number-is n) long (number ∙ ap number_of q)
 
   -- an answer's frames were written, or a refusal's: m tells it, and the output holds as many bytes
   module _ (m : Result Told Unwritten) (r : Result ℕ Unwritten) where
-    pub answer-told : m ≡ told_of None r → x ≡ Ok tt → length a' ≡ answer_length → Sends (rest_of a' Totals) r → SentTells (number_in (analyze limits s)) (live s) m
-    answer-told e q l g = rw (e, rules-none q, ← answer_text q l) (told_tells None (rest_of a' Totals) r g)
+    pub answer_told : m ≡ told_of None r → x ≡ Ok tt → length a' ≡ answer_length → Sends (rest_of a' Totals) r → SentTells (number_in (analyze limits s)) (live s) m
+    answer_told e q l g = rw (e, rules-none q, ← answer_text q l) (told_tells None (rest_of a' Totals) r g)
 
-    pub refusal-told : {n : Refusal} → m ≡ told_of (Some n) r → x ≡ Err n → Sends (refusal_frame (number-is n)) r → SentTells (number_in (analyze limits s)) (live s) m
-    refusal-told {n} e q g = rw (e, rules-some q, ← refusal_text q) (told_tells (Some n) (refusal_frame (number-is n)) r g)
+    pub refusal_told : {n : Refusal} → m ≡ told_of (Some n) r → x ≡ Err n → Sends (refusal_frame (number-is n)) r → SentTells (number_in (analyze limits s)) (live s) m
+    refusal_told {n} e q g = rw (e, rules-some q, ← refusal_text q) (told_tells (Some n) (refusal_frame (number-is n)) r g)
 
     module _ (b c : Option (List ℕ)) where
       pub answer_appends : m ≡ told_of None r → x ≡ Ok tt → length a' ≡ answer_length → Appends b c (take (taken_of (rest_of a' Totals) r) (rest_of a' Totals))

@@ -1,16 +1,16 @@
 // Frames on an output.
 #![tactic(auto)]
 
-ghost use Rattle.std.specs.Prelude.{◌≡◌, length, take, None, Some};
+ghost use Rattle.std.specs.Prelude.{◌≡◌, take, None, Some};
 ghost use Rattle.std.specs.Io.KnownBytes.{Appends};
 ghost use Rattle.rules.specs.Program.{limits};
 ghost use Rattle.rules.specs.Frames.{refusal_frame, analyze, live};
-ghost use Rattle.answer.specs.Layout.{answer_length};
 ghost use Rattle.frames.specs.Text.{rest_of};
 ghost use Rattle.refusals.specs.Refusals.{number_of};
 ghost use Rattle.streams.specs.Moved.{taken_of};
 ghost use Rattle.printing.specs.Sent.{Sends, number_in, SentTells, told_of};
 
+use answer::Answer;
 use frames::{Frame, Frames, NextFrame};
 use refusals::Refusal;
 use std::io::Write;
@@ -24,24 +24,23 @@ pub struct Told {
 }
 
 // Writes all frames of an answer, up to the first write that fails.
-pub fn write_frames<W: Write>(to: &mut W, answer: &[usize]) -> Result<usize, Unwritten>
-    requires { length answer.now ≡ answer_length }
-    ensures sends { Sends (rest_of answer.now NextFrame.Totals) result }
-    ensures appends { let all = rest_of answer.now NextFrame.Totals in
+pub fn write_frames<W: Write>(to: &mut W, answer: Answer) -> Result<usize, Unwritten>
+    ensures sends { Sends (rest_of answer.entry.words.now NextFrame.Totals) result }
+    ensures appends { let all = rest_of answer.entry.words.now NextFrame.Totals in
         Appends (W.contents to.old) (W.contents to.new) (take (taken_of all result) all) }
 {
     let mut frames = Frames::of(answer);
     let mut out = [0u8; 65536];
     let mut done = 0;
+    // Stays: a loop that is left where `fill` answers 0, since an iterator over pieces would have to lend each out of the one memory that it fills.
     loop {
         let len = frames.fill(&mut out);
         if len == 0 {
             return Ok(done);
         }
-        if let Err(e) = streams::write(to, &out[..len]) {
-            let taken = done + e.taken;
-            return Err(Unwritten { taken });
-        }
+        streams::write(to, &out[..len]).map_err(|e| Unwritten {
+            taken: done + e.taken,
+        })?;
         done += len;
     }
 }
@@ -73,7 +72,7 @@ pub fn write_answer<W: Write>(to: &mut W, script: &[u8]) -> Result<Told, Unwritt
     let mut program = [0usize; call::PROGRAM_LEN];
     let mut state = [0usize; call::STATE_LEN];
     match call::analyze(script, &mut answer, &mut program, &mut state) {
-        Ok(()) => tell(None, write_frames(to, &answer)),
+        Ok(()) => tell(None, write_frames(to, Answer { words: &answer })),
         Err(e) => tell(Some(e), write_refusal(to, e)),
     }
 }

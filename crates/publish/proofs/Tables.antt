@@ -1,5 +1,5 @@
 -- The tables of the final state, place by place. Assumes nothing.
-use mathlib.Core.Bool.{Bool as 𝔹, true, false}
+use mathlib.Core.Bool.{Bool as 𝔹, false}
 use mathlib.Core.Path.{◌≡◌, refl, sym, ap, ◌∙◌}
 use mathlib.Core.List.{List, [], ◌∷◌, map}
 use Prim.Native.Nat.{ℕ, zero, suc, ◌+◌, ◌*◌, ◌/◌, ◌%◌, ◌≤◌, ◌<◌}
@@ -10,21 +10,21 @@ use lib.Seq.{take_all, get_or-drop}
 use mir.Val.{bool_byte}
 use Rattle.kinds.specs.declared.Kind.{Kind}
 use Rattle.kinds.specs.declared.Kind.TheVariants.{Empty}
-use Rattle.kinds.specs.Kinds.{bit_of, tag_of, payload_of, fits_of}
+use Rattle.kinds.specs.Kinds.{bit_of, tag_of, payload_of}
 use Rattle.kinds.proofs.Same.{bit_of_lem}
 use Rattle.memory.specs.Memory.{over}
-use Rattle.memory.proofs.Laws.{Writing, writing_start, writing_more, writing_done}
+use Rattle.memory.proofs.Laws.{Writing, writing_start, writing_more}
 use Rattle.memory.specs.tables.Tables.{rows}
 use Rattle.memory.specs.tables.Bits.{RowWord}
 use Rattle.memory.proofs.tables.Listed.{listed-length}
 use Rattle.state.specs.declared.Sizes.{Sizes}
-use Rattle.state.specs.View.{kinds_of, live_of, called_of, StateHeld}
+use Rattle.state.specs.View.{kinds_of, live_of, called_of}
 use Rattle.state.proofs.Tables.{called-length}
-use Rattle.answer.specs.Layout.{answer_length, live_at, tags_at, payloads_at, callers_at}
+use Rattle.answer.specs.Layout.{live_at, tags_at, payloads_at, callers_at}
 use Rattle.answer.specs.Image.{word_of, words_of}
 use Rattle.answer.proofs.Laws.{in_table, words-length, word-known, rows-length, map_at}
-use Rattle.memory.specs.Layout.{blocks_most, row_words}
-use Rattle.publish.specs.Final.{caller_words, with_state}
+use Rattle.memory.specs.Layout.{row_words}
+use Rattle.publish.specs.Final.{GivenBy, caller_words, with_state}
 
 module _ (z : Sizes) (m : List ℕ) where
   pub live-length : length (live_of z m) ≡ z.blocks
@@ -35,57 +35,30 @@ module _ (z : Sizes) (m : List ℕ) where
   unfolding kinds_of
   kinds-length = listed-length z.insns _
 
--- ---- live flags
+-- ---- the words that a function gives, one behind the other
 
-abbrev pub Lives : Sizes → List ℕ → List ℕ → List ℕ → ℕ → Type 0
-Lives z m a₀ a b = Writing (map bit_of (live_of z m)) a₀ a live_at b
+module _ {gives : ℕ → ℕ → Type 0} {n at : ℕ} {a : List ℕ} where
+  pub each_start : at + n ≤ length a → (t : List ℕ) → GivenBy gives n t → Writing t a a at 0
+  each_start h t g = writing_start t a at (omega (arith, g.len))
 
-module _ (z : Sizes) (m : List ℕ) where
-  lives : length (map bit_of (live_of z m)) ≡ z.blocks
-  lives = length-map (live_of z m) bit_of ∙ live-length z m
+  pub each_more : {a₀ : List ℕ} {i w : ℕ} → ((t : List ℕ) → GivenBy gives n t → Writing t a₀ a at i) → i < n → gives i w → (t : List ℕ) → GivenBy gives n t → Writing t a₀ (set a (at + i) w) at (i + 1)
+  each_more {i = i} {w = w} m h e t g = writing_more (m t g) (omega (arith, g.len)) (g.each i w h e)
 
-  pub live-start : {a : List ℕ} → (length a ≡ answer_length) × (z.blocks ≤ blocks_most) → Lives z m a a 0
-  live-start {a} h = writing_start (map bit_of (live_of z m)) a live_at (omega (arith, lives, h.0, h.1))
-
-  pub live_more : {a₀ a : List ℕ} {b : ℕ} {t : 𝔹} → Lives z m a₀ a b → b < z.blocks → t ≡ get_or (live_of z m) b false → Lives z m a₀ (set a (live_at + b) (bool_byte t)) (b + 1)
-  live_more {a₀} {a} {b} {t} g h e = writing_more g (omega (arith, lives)) (bit_of_lem t ∙ ap bit_of e ∙ sym (get_or-map bit_of (live_of z m) b false))
-
-  pub live-done : {a₀ a : List ℕ} {b : ℕ} → Lives z m a₀ a b → z.blocks ≤ b → a ≡ over live_at (map bit_of (live_of z m)) a₀
-  live-done g h = writing_done g (omega (arith, lives))
-
--- ---- kinds
-
-abbrev pub Tags : Sizes → List ℕ → List ℕ → List ℕ → ℕ → Type 0
-Tags z m a₀ a i = Writing (map tag_of (kinds_of z m)) a₀ a tags_at i
-
-abbrev pub Payloads : Sizes → List ℕ → List ℕ → List ℕ → ℕ → Type 0
-Payloads z m a₀ a i = Writing (map payload_of (kinds_of z m)) a₀ a payloads_at i
+-- ---- live flags and kinds
 
 module _ (z : Sizes) (m : List ℕ) where
-  tags : length (map tag_of (kinds_of z m)) ≡ z.insns
-  tags = length-map (kinds_of z m) tag_of ∙ kinds-length z m
+  pub lives-length : length (map bit_of (live_of z m)) ≡ z.blocks
+  lives-length = length-map (live_of z m) bit_of ∙ live-length z m
 
-  payloads : length (map payload_of (kinds_of z m)) ≡ z.insns
-  payloads = length-map (kinds_of z m) payload_of ∙ kinds-length z m
+  pub live_word : (b : ℕ) {w : ℕ} {t : 𝔹} → t ≡ get_or (live_of z m) b false → w ≡ bool_byte t → w ≡ get_or (map bit_of (live_of z m)) b 0
+  live_word b {t = t} e f = f ∙ bit_of_lem t ∙ ap bit_of e ∙ sym (get_or-map bit_of (live_of z m) b false)
 
-  pub tags_start : {a : List ℕ} → length a ≡ answer_length → StateHeld z m → Tags z m a a 0
-  tags_start {a} e h = writing_start (map tag_of (kinds_of z m)) a tags_at (omega (arith, tags, h.insns))
+  module _ (f : Kind → ℕ) where
+    pub mapped-length : length (map f (kinds_of z m)) ≡ z.insns
+    mapped-length = length-map (kinds_of z m) f ∙ kinds-length z m
 
-  pub tags_more : {a₀ a : List ℕ} {i x : ℕ} {k : Kind} → Tags z m a₀ a i → i < z.insns → k ≡ get_or (kinds_of z m) i Empty → x ≡ tag_of k → Tags z m a₀ (set a (tags_at + i) x) (i + 1)
-  tags_more {i = i} g h e f = writing_more g (omega (arith, tags)) (f ∙ ap tag_of e ∙ sym (get_or-map tag_of (kinds_of z m) i Empty))
-
-  pub tags_done : {a₀ a : List ℕ} {i : ℕ} → Tags z m a₀ a i → z.insns ≤ i → a ≡ over tags_at (map tag_of (kinds_of z m)) a₀
-  tags_done g h = writing_done g (omega (arith, tags))
-
-  pub payloads_start : {a : List ℕ} → length a ≡ answer_length → StateHeld z m → Payloads z m a a 0
-  payloads_start {a} e h = writing_start (map payload_of (kinds_of z m)) a payloads_at (omega (arith, payloads, h.insns))
-
-  pub payloads_more : {a₀ a : List ℕ} {i x : ℕ} {k : Kind} → Payloads z m a₀ a i → i < z.insns → k ≡ get_or (kinds_of z m) i Empty → (x ≡ payload_of k) × (fits_of k ≡ true)
-      → Payloads z m a₀ (set a (payloads_at + i) x) (i + 1)
-  payloads_more {i = i} g h e f = writing_more g (omega (arith, payloads)) (f.0 ∙ ap payload_of e ∙ sym (get_or-map payload_of (kinds_of z m) i Empty))
-
-  pub payloads_done : {a₀ a : List ℕ} {i : ℕ} → Payloads z m a₀ a i → z.insns ≤ i → a ≡ over payloads_at (map payload_of (kinds_of z m)) a₀
-  payloads_done g h = writing_done g (omega (arith, payloads))
+    pub kind_word : f Empty ≡ 0 → (i : ℕ) {w : ℕ} {k : Kind} → k ≡ get_or (kinds_of z m) i Empty → w ≡ f k → w ≡ get_or (map f (kinds_of z m)) i 0
+    kind_word o i e q = q ∙ ap f e ∙ sym (get_or-map f (kinds_of z m) i Empty) ∙ ap (get_or (map f (kinds_of z m)) i) o
 
 -- ---- callers
 
@@ -122,21 +95,12 @@ row_word rows j w h g =
     ∙ sym (word_at rows (j / row_words) q h (omega arith))
     ∙ ap (λ (n : ℕ). get_or (caller_words rows) n 0) e
 
-abbrev pub Callers : Sizes → List ℕ → List ℕ → List ℕ → ℕ → Type 0
-Callers z m a₀ a j = Writing (caller_words (called_of z m)) a₀ a callers_at j
-
 module _ (z : Sizes) (m : List ℕ) where
-  callers : length (caller_words (called_of z m)) ≡ z.functions * row_words
-  callers = words-total (called_of z m) ∙ ap (λ (n : ℕ). n * row_words) (called-length z m)
+  pub callers-length : length (caller_words (called_of z m)) ≡ z.functions * row_words
+  callers-length = words-total (called_of z m) ∙ ap (λ (n : ℕ). n * row_words) (called-length z m)
 
-  pub callers-start : {a : List ℕ} → length a ≡ answer_length → StateHeld z m → Callers z m a a 0
-  callers-start {a} e h = writing_start (caller_words (called_of z m)) a callers_at (omega (arith, callers, h.functions))
-
-  pub callers-more : {a₀ a : List ℕ} {j w : ℕ} → Callers z m a₀ a j → j < z.functions * 32 → RowWord (get_or (called_of z m) (j / 32) []) (j % 32) w → Callers z m a₀ (set a (callers_at + j) w) (j + 1)
-  callers-more {j = j} {w = w} g h r = writing_more g (omega (arith, callers)) (row_word (called_of z m) j w (omega (arith, called-length z m)) r)
-
-  pub callers-done : {a₀ a : List ℕ} {j : ℕ} → Callers z m a₀ a j → z.functions * 32 ≤ j → a ≡ over callers_at (caller_words (called_of z m)) a₀
-  callers-done g h = writing_done g (omega (arith, callers))
+  pub caller_word : (j : ℕ) {w x : ℕ} → j < z.functions * 32 → RowWord (get_or (called_of z m) (j / 32) []) (j % 32) x → w ≡ x → w ≡ get_or (caller_words (called_of z m)) j 0
+  caller_word j {x = x} h r e = e ∙ row_word (called_of z m) j x (omega (arith, called-length z m)) r
 
 -- ---- all of them
 

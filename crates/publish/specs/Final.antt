@@ -1,5 +1,5 @@
 -- The answer memory with the final state in it. Assumes nothing.
-use Rattle.std.specs.Prelude.{Bool as 𝔹, List, [], ◌∷◌, map, ℕ}
+use Rattle.std.specs.Prelude.{Bool as 𝔹, ◌≡◌, List, [], ◌∷◌, map, ℕ, ◌<◌, length, get_or}
 use Rattle.kinds.specs.Kinds.{bit_of, tag_of, payload_of}
 use Rattle.rules.specs.Lists.{concat}
 use Rattle.memory.specs.Memory.{over}
@@ -21,3 +21,8 @@ with_state z m count a =
     (over tags_at (map tag_of (kinds_of z m))
     (over live_at (map bit_of (live_of z m))
     (over 0 (z.functions ∷ z.blocks ∷ z.insns ∷ count ∷ []) a))))
+
+-- t is the n words that a function gives for 0, 1 and so on: what it gives for i is word i
+pub record GivenBy (gives : ℕ → ℕ → Type 0) (n : ℕ) (t : List ℕ) : Type 0 where
+  pub len : length t ≡ n
+  pub each : (i w : ℕ) → i < n → gives i w → w ≡ get_or t i 0

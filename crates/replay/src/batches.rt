@@ -7,6 +7,7 @@ use std::io::{self, Read};
 use streams::Unwritten;
 
 // Why the program stops before the batch's end.
+// Stays: four ways to stop, each with its line: the error of a `Result`, no shape of one.
 #[derive(Clone, Copy, PartialEq, Eq, Debug)]
 pub enum Stop {
     Unread,

@@ -1,5 +1,4 @@
 -- `call::analyze_program` meets its contract. Assumes nothing.
-use Rattle.std.specs.Prelude.{Err, ◌≡◌}
 use mathlib.Core.Path.{ap, ◌∙◌}
 use native.Mathlib.Omega.{arith}
 use borrow.Author.Rules.{rules}
@@ -14,9 +13,7 @@ sctp-requires c = given _ _ _ _ c.args.state.now _ c.requires.parsed c.requires.
 
 pub returns-in_err-sctp : goal.returns-in_err-sctp
 returns-in_err-sctp c =
-    let e : c.from_residual.result ≡ Err c.in_err-sctp.field-0.0 = search rules in
-    rw e
-    (program-refused _ _ _ _ _ _ c.requires.parsed c.sctp.ensures.1 _ c.sctp.new.users (ap (acted_of _) c.in_err-sctp.was))
+    program-refused _ _ _ _ _ _ c.requires.parsed c.sctp.ensures.1 c.sctp.new.users (ap (acted_of _) c.in_err-sctp.was) (search rules)
 
 pub write_state-requires : goal.write_state-requires
 write_state-requires c =

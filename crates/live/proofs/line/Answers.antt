@@ -1,5 +1,5 @@
 -- `live::line` meets its contract. Assumes nothing.
-use Rattle.std.proofs.Common.{◌≡◌, refl}
+use Rattle.std.proofs.Common.{refl}
 use Rattle.live.proofs.Laws.{line_is}
 use Rattle.live.specs.Questions.{questions, words_of, line_of}
 use Rattle.live.proofs.line.Goals as goal

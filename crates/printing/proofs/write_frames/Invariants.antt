@@ -8,8 +8,8 @@ use Rattle.printing.proofs.write_frames.Given as goal
 
 abbrev pub invariant-loop-frames : goal.invariant-loop-frames
 invariant-loop-frames g l =
-    Sending l.answer l.out l.frames.next l.done × (l.frames.answer.now ≡ l.answer)
-    × Appends (g.W.Write.contents l.initial.to) (g.W.Write.contents l.to) (take l.done (rest_of l.answer Totals))
+    Sending l.answer.words.now l.out l.frames.next l.done × (l.frames.answer.words.now ≡ l.answer.words.now)
+    × Appends (g.W.Write.contents l.initial.to) (g.W.Write.contents l.to) (take l.done (rest_of l.answer.words.now Totals))
 
 abbrev pub decreases-loop-frames : goal.decreases-loop-frames
 decreases-loop-frames g l = left_at l.frames.next

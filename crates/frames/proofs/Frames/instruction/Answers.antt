@@ -1,9 +1,6 @@
 -- `frames::Frames::instruction` meets its contract. Assumes nothing.
-use Rattle.frames.proofs.Steps.{kind-end, kind-more}
+use Rattle.frames.proofs.Steps.{kind_end}
 use Rattle.frames.proofs.Frames.instruction.Goals as goal
 
-pub returns-then-instructions-i : goal.returns-then-instructions-i
-returns-then-instructions-i c = search kind-end
-
-pub returns : goal.returns
-returns c = search kind-more
+pub returns-then-instructions-index : goal.returns-then-instructions-index
+returns-then-instructions-index c = search kind_end
