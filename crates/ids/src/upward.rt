@@ -6,7 +6,8 @@ use crate::{ClassId, smallest};
 // What is left of a set, as an iterator over its classes in rising order.
 #[derive(Drop)]
 pub struct ClassWalk {
-    set: u64,
+    // the classes that are left
+    pub set: u64,
     ghost fits: { set < 2 ^ 64 },
 }
 

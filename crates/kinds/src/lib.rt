@@ -1,6 +1,9 @@
 // The kinds of values that the analysis tells apart, their union, and arithmetic on them.
 #![tactic(auto)]
 
+pub mod tags;
+pub mod words;
+
 ghost use Rattle.std.specs.Prelude.{◌≡◌, true, false, ◌||◌, ◌<◌};
 ghost use Rattle.ids.specs.Sets.{one_of, two_of};
 ghost use Rattle.kinds.specs.Kinds.{tag_of, payload_of, fits_of, kind_from, is_empty, is_number, is_truth, is_name, is_any};
@@ -9,6 +12,7 @@ ghost use Rattle.kinds.specs.Rules.{kind_of, result_of, wide_of, by_unions, arit
 
 use ids::{ClassId, FunId};
 use refusals::Refusal;
+pub use words::Words;
 
 #[derive(Clone, Copy, PartialEq, Eq)]
 pub enum Kind {
@@ -56,16 +60,16 @@ impl Kind {
         ensures { result ≡ tag_of self }
     {
         match self {
-            Kind::Empty => 0,
-            Kind::Nil => 1,
-            Kind::Num(_) => 2,
-            Kind::Truth(_) => 3,
-            Kind::Fun(_) => 4,
-            Kind::Class(_) => 5,
-            Kind::Int => 6,
-            Kind::Bool => 7,
-            Kind::Objects(_) => 8,
-            Kind::Any => 9,
+            Kind::Empty => tags::EMPTY,
+            Kind::Nil => tags::NIL,
+            Kind::Num(_) => tags::NUM,
+            Kind::Truth(_) => tags::TRUTH,
+            Kind::Fun(_) => tags::FUN,
+            Kind::Class(_) => tags::CLASS,
+            Kind::Int => tags::INT,
+            Kind::Bool => tags::BOOL,
+            Kind::Objects(_) => tags::OBJECTS,
+            Kind::Any => tags::ANY,
         }
     }
 
@@ -146,15 +150,15 @@ pub fn kind_from(tag: usize, bits: usize) -> Kind
     ensures { result ≡ kind_from tag bits }
 {
     match tag {
-        0 => Kind::Empty,
-        1 => Kind::Nil,
-        2 => Kind::Num(numbers::number_of(bits as u64)),
-        3 => Kind::Truth(bits != 0),
-        4 => Kind::Fun(FunId(ids::number_in(bits))),
-        5 => Kind::Class(ClassId(ids::number_in(bits))),
-        6 => Kind::Int,
-        7 => Kind::Bool,
-        8 => Kind::Objects(bits as u64),
+        tags::EMPTY => Kind::Empty,
+        tags::NIL => Kind::Nil,
+        tags::NUM => Kind::Num(numbers::number_of(bits as u64)),
+        tags::TRUTH => Kind::Truth(bits != 0),
+        tags::FUN => Kind::Fun(FunId(ids::number_in(bits))),
+        tags::CLASS => Kind::Class(ClassId(ids::number_in(bits))),
+        tags::INT => Kind::Int,
+        tags::BOOL => Kind::Bool,
+        tags::OBJECTS => Kind::Objects(bits as u64),
         _ => Kind::Any,
     }
 }

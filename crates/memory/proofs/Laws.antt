@@ -2,10 +2,10 @@
 use Prim.Native.Nat.{ℕ, zero, suc, ◌+◌, ◌-◌, ◌≤◌, ◌<◌}
 use mathlib.Core.Path.{◌≡◌, refl, sym, ap, ◌∙◌}
 use mathlib.Core.List.{List, [], ◌∷◌, ◌++◌, append_assoc, append-nil}
-use native.Mathlib.Decide.{ℕ_discrete, dec_lt}
+use native.Mathlib.Decide.{dec_lt}
 use native.Mathlib.Omega.{arith}
-use lib.ListN.{length, get_or, set, take, drop, length-set, length-replicate, length-append, length-take, length-drop, replicate-append-replicate, take-append-drop, get_or-append}
-use lib.Seq.{get_or-set_same, get_or-set_other, take_at, drop_at, get_or-drop, get_or-take, get_or-append-add, length-take-le, ext_get_or}
+use lib.ListN.{length, get_or, take, drop, length-replicate, length-append, length-take, length-drop, replicate-append-replicate, get_or-append}
+use lib.Seq.{take_at, drop_at, get_or-drop, get_or-take, get_or-append-add, length-take-le, ext_get_or}
 use Rattle.memory.specs.Memory.{zeros, Blank, over, filled}
 
 -- ---- cleared places
@@ -140,43 +140,3 @@ over_apart i j l t d h k =
         let e : q ≡ i + r = omega arith in
         ap (λ (x : ℕ). get_or (over i l (over j t d)) x 0) e ∙ over_in i l (over j t d) r (omega (arith, n)) (omega arith)
         ∙ sym (ap (λ (x : ℕ). get_or (over i l d) x 0) e ∙ over_in i l d r (omega arith) (omega arith))
-
--- ---- tables written place by place
-
--- at a loop's head the first i numbers of the table t stand in the places from `at` on
-pub record Writing (t d₀ d : List ℕ) (at i : ℕ) : Type 0 where
-  pub in_range : i ≤ length t
-  pub room : at + length t ≤ length d₀
-  pub len_same : length d ≡ length d₀
-  pub is : d ≡ over at (take i t) d₀
-
-pub writing_start : (t d : List ℕ) (at : ℕ) → at + length t ≤ length d → Writing t d d at 0
-unfolding over
-writing_start t d at h = record { in_range = omega arith; room = h; len_same = refl; is = let e : at + 0 ≡ at = omega arith in rw e (sym (take-append-drop at d)) }
-
-module _ {t d₀ d : List ℕ} {at i : ℕ} (g : Writing t d₀ d at i) where
-  pub writing_more : {x : ℕ} → i < length t → x ≡ get_or t i 0 → Writing t d₀ (set d (at + i) x) at (i + 1)
-  writing_more {x} lt e =
-      let q : length (take i t) ≡ i = length-take-le i t (omega arith) in
-      let r : length (take (i + 1) t) ≡ i + 1 = length-take-le (i + 1) t (omega arith) in
-      let l : length (set d (at + i) x) ≡ length d₀ = length-set d (at + i) x ∙ g.len_same in
-      record {
-        in_range = omega arith;
-        room = g.room;
-        len_same = l;
-        is =
-            over-known at (take (i + 1) t) d₀ (set d (at + i) x) (omega (arith, g.room)) l
-            (λ j h. elim (ℕ_discrete j i) [
-              | yes z ↦ rw z (get_or-set_same d (at + i) x 0 (omega (arith, g.room, g.len_same)) ∙ e ∙ sym (get_or-take (i + 1) t i 0 (omega arith)))
-              | no z ↦
-                  get_or-set_other d (at + i) (at + j) x 0 (λ y. z (omega arith))
-                  ∙ ap (λ (y : List ℕ). get_or y (at + j) 0) g.is
-                  ∙ over_in at (take i t) d₀ j (omega (arith, g.room)) (omega (arith, z))
-                  ∙ get_or-take i t j 0 (omega (arith, z))
-                  ∙ sym (get_or-take (i + 1) t j 0 (omega arith))
-            ])
-            (λ j out. let o : at ≤ j → j < at + length (take i t) → ⊥ = λ a b. out a (omega (arith, q, r)) in
-            get_or-set_other d (at + i) j x 0 (λ y. out (omega arith) (omega (arith, r)))
-            ∙ ap (λ (y : List ℕ). get_or y j 0) g.is
-            ∙ over_out at (take i t) d₀ j (omega (arith, g.room)) o);
-      }

@@ -12,7 +12,8 @@ pub struct Lowest {
 }
 
 // Bit i of the row that starts at base.
-// Stays: a row is told by where it starts, since it is a part of memory that a state lends whole.
+// Stays: a row goes by where it starts and is no slice: the contracts tell the state's tables by the bits of its whole memory, and `set_bit` promises that all
+// other words stay.
 #[tactic(auto, unfolding(crate::specs::tables::Bits::bit_at))]
 pub fn test_bit(words: &[usize], base: usize, i: usize) -> bool
     requires { base + i / 64 < length words.now }
@@ -44,10 +45,7 @@ pub fn next_bit(words: &[usize], base: usize, from: usize, n: usize) -> Option<u
         let rest = words[base + i / 64] >> passed;
         if rest != 0 {
             let j = i + rest.trailing_zeros() as usize;
-            if j < n {
-                return Some(j);
-            }
-            return None;
+            return (j < n).then_some(j);
         }
         i = i - passed + 64;
     }
@@ -73,7 +71,7 @@ pub fn row_word(words: &[usize], base: usize, n: usize, k: usize) -> usize
 }
 
 // The lowest bit of a word that has one.
-// Stays: beside `ids::smallest`, which gives a class of a set of 64 bits: here it is a place in a word of lent memory.
+// Stays: beside `ids::smallest`, which gives a class of a set: here it is a place in a word of lent memory, and a number of one sort is never used for another's.
 #[tactic(auto, using(crate::proofs::tables::Words::lowest_bits))]
 pub fn lowest_bit(w: usize) -> Lowest
     requires { 0 < w }
