@@ -3,7 +3,7 @@ use mathlib.Core.Path.{◌≡◌, refl, sym, ap, ◌∙◌, subst}
 use mathlib.Core.List.{List, [], ◌∷◌, map}
 use Prim.Native.Nat.{ℕ, zero, suc, ◌+◌, ◌-◌, ◌*◌, ◌^◌, ◌≤◌, ◌<◌}
 use native.Mathlib.Omega.{arith}
-use lib.ListN.{length, get_or, take, drop}
+use lib.ListN.{length, get_or, take, drop, length-take, length-drop}
 use Rattle.std.proofs.lemmas.List.Edits.{get_or-between}
 use denote.Param.Members.{Mut}
 use mathlib.Core.Bool.{Bool, true}
@@ -15,30 +15,45 @@ use Rattle.std.specs.Iterator.{Drains, YieldsFirstBy, ChecksAll, CallableAtEachT
 use Rattle.std.proofs.lemmas.Iterator.Adapters.{serves_from_places}
 use Rattle.std.proofs.lemmas.Iterator.Consumers.{YieldsList-from_first}
 use Rattle.ids.specs.declared.InsnId.{InsnId}
-use Rattle.memory.specs.Layout.{blocks_room}
-use Rattle.chains.specs.Layout.{sort_words}
-use Rattle.chains.specs.Chains.{ChainsChained, at, self, link_in, cells_from, ChainIs}
+use Rattle.memory.specs.Layout.{instructions_most, blocks_room}
+use Rattle.chains.specs.Layout.{sort_words, chains_size}
+use Rattle.chains.specs.Chains.{ChainsChained, Chained, at, self, link_in, cells_from, ChainIs}
 use Rattle.chains.specs.Left.{left}
 use Rattle.chains.specs.declared.cells.Chain.{Chain}
-use Rattle.chains.proofs.Lists.{chained_same, chained_here, cells_is}
+use Rattle.chains.proofs.Lists.{chained_same, chained_here, cells_is, cells_none, cells_more, cells_held}
 
-module _ (w : List ℕ) (n p k : ℕ) (few : n ≤ sort_words - blocks_room) where
+module _ (w : List ℕ) (n p k : ℕ) (few : n ≤ instructions_most) (low : p < 3) (room : chains_size ≤ length w) where
   abbrev links : List ℕ
-  links = take (sort_words * p + sort_words - (sort_words * p + blocks_room)) (drop (sort_words * p + blocks_room) w)
+  links = take (sort_words * p + blocks_room + n - (sort_words * p + blocks_room)) (drop (sort_words * p + blocks_room) w)
 
   abbrev head : ℕ
   head = get_or w (sort_words * p + k) 0
 
-  in_links : (l : List ℕ) → ChainIs w n p k l → ChainsChained self (link_in links) n 0 head l
+  many : length links ≡ n
+  many = simp (length-take, length-drop) (omega arith)
+
+  in_links : (l : List ℕ) → ChainIs w n p k l → ChainsChained self (link_in links) (length links) 0 head l
   in_links l d =
-      chained_same self (at w (sort_words * p + blocks_room)) self (link_in links) n 0 0 head l (omega arith)
-      (λ i g h. (refl, get_or-between w _ _ i 0 (omega arith))) d
+      rw many
+      (chained_same self (at w (sort_words * p + blocks_room)) self (link_in links) n 0 0 head l (omega arith)
+      (λ i g h. (refl, get_or-between w _ _ i 0 (omega arith))) d)
 
-  pub left_is : (l : List ℕ) → ChainIs w n p k l → cells_from (link_in links) n (n - head) head ≡ l
-  left_is l d = cells_is (link_in links) n (n - head) head head l (chained_here self (link_in links) n 0 head l (in_links l d)) (omega arith)
+  pub left_is : (l : List ℕ) → ChainIs w n p k l → cells_from (link_in links) (length links) (length links - head) head ≡ l
+  left_is l d = cells_is (link_in links) (length links) (length links - head) head head l (chained_here self (link_in links) (length links) 0 head l (in_links l d)) (omega arith)
 
-  pub left_held : (l : List ℕ) → ChainIs w n p k l → ChainsChained self (link_in links) n head head (cells_from (link_in links) n (n - head) head)
-  left_held l d = rw (left_is l d) (chained_here self (link_in links) n 0 head l (in_links l d))
+  pub left_held : (l : List ℕ) → ChainIs w n p k l → Chained links head
+  left_held l d = rw (left_is l d) (chained_here self (link_in links) (length links) 0 head l (in_links l d))
+
+-- a chain that has come to its end, and one that goes on with its next instruction
+pub nothing_left : (c : Chain) → length c.links.now ≤ c.at → left c ≡ []
+nothing_left c h = cells_none (link_in c.links.now) (length c.links.now) (length c.links.now - c.at) c.at h
+
+module _ (c : Chain) (h : c.at < length c.links.now) {next : ℕ} (e : next ≡ link_in c.links.now c.at) where
+  pub next_left : left c ≡ c.at ∷ cells_from (link_in c.links.now) (length c.links.now) (length c.links.now - next) next
+  next_left = rw e (cells_more (link_in c.links.now) (length c.links.now) c.at h c.held)
+
+  pub next_held : Chained c.links.now next
+  next_held = rw e (cells_held (link_in c.links.now) (length c.links.now) c.at h c.held)
 
 -- the numbers of a list are below n
 abbrev pub Within : ℕ → List ℕ → Type 0
@@ -71,7 +86,7 @@ drained c (x ∷ xs) d = ap (λ l. x.0 ∷ l) (drained d.1.1.0 xs (d.0, (d.1.0, 
 
 -- what is left is so short that it can be counted
 pub left_fits : (c : Chain) → 0 + length (left c) < 2 ^ 64
-left_fits c = let f = c.few in omega (arith, chained_long (link_in c.links.now) c.count c.at c.at (left c) c.held)
+left_fits c = let f = c.few in omega (arith, chained_long (link_in c.links.now) (length c.links.now) c.at c.at (left c) c.held)
 
 -- P holds of each number of a list
 abbrev pub Each : (ℕ → Type 0) → List ℕ → Type 0

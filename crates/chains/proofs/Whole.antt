@@ -14,7 +14,6 @@ use Rattle.program.specs.Rows.{insn_at, block_at, instruction_at, op_in, opnd_of
 use Rattle.program.specs.View.{program_view, ProgramReady, instructions_of}
 use Rattle.program.specs.declared.Counts.{Counts}
 use Rattle.program.specs.declared.Op.{Op}
-use Rattle.program.specs.declared.Op.TheVariants.{Jump, IfTrue, Return, SendStatic, SendDynamic, Compute, Phi, Param, SelfParam, New, GetIvar, SetIvar}
 use Rattle.program.proofs.Reading.{instruction-is}
 use Rattle.memory.specs.Layout.{instructions_most, blocks_room}
 use Rattle.program.specs.Layout.{opnds_at}
@@ -24,32 +23,10 @@ use Rattle.chains.proofs.Laws.{block-is}
 use Rattle.chains.proofs.Lists.{pick_ext, keep-pick, places-tab, chained_same}
 
 param_is : (s : List ℕ) (o : Op) (l : List P.Opnd) → has (P.about (op_in s o l)).place ≡ is_param o
-param_is s (Jump b) l = refl
-param_is s (IfTrue b e) l = refl
-param_is s Return l = refl
-param_is s (SendStatic f) l = refl
-param_is s (SendDynamic n) l = refl
-param_is s (Compute o) l = refl
-param_is s (Phi b e) l = refl
-param_is s (Param n) l = refl
-param_is s (SelfParam c) l = refl
-param_is s (New c) l = refl
-param_is s (GetIvar n) l = refl
-param_is s (SetIvar n) l = refl
+param_is s o l = grind arith
 
 return_is : (s : List ℕ) (o : Op) (l : List P.Opnd) → has (P.returned (op_in s o l)) ≡ is_return o
-return_is s (Jump b) l = refl
-return_is s (IfTrue b e) l = refl
-return_is s Return l = refl
-return_is s (SendStatic f) l = refl
-return_is s (SendDynamic n) l = refl
-return_is s (Compute o) l = refl
-return_is s (Phi b e) l = refl
-return_is s (Param n) l = refl
-return_is s (SelfParam c) l = refl
-return_is s (New c) l = refl
-return_is s (GetIvar n) l = refl
-return_is s (SetIvar n) l = refl
+return_is s o l = grind arith
 
 module _ (s m : List ℕ) (c : Counts) where
   pub code_is : (b : ℕ) → code (program_view s m c) b ≡ pick (λ j. eqb (insn_at m j).block.0 b) 0 c.insns

@@ -83,9 +83,9 @@ self i = i
 abbrev pub link_in : List ℕ → ℕ → ℕ
 link_in w i = get_or w i 0
 
--- h is a chain's cell, or its end
-abbrev pub Chained : List ℕ → ℕ → ℕ → Type 0
-Chained w n h = ChainsChained self (link_in w) n h h (cells_from (link_in w) n (n - h) h)
+-- h is a cell of a chain through the words of w, or its end
+abbrev pub Chained : List ℕ → ℕ → Type 0
+Chained w h = ChainsChained self (link_in w) (length w) h h (cells_from (link_in w) (length w) (length w - h) h)
 
 -- the words of a memory from a place on
 abbrev pub at : List ℕ → ℕ → ℕ → ℕ

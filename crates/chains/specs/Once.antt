@@ -1,5 +1,5 @@
 -- A chain and an index are held in one way at most. Assumes nothing.
-use Rattle.std.specs.Prelude.{List, [], ◌∷◌, ℕ, suc, ◌-◌}
+use Rattle.std.specs.Prelude.{List, [], ◌∷◌, ℕ, suc, ◌-◌, length}
 use Rattle.std.specs.Coded.{le_prop}
 use native.Mathlib.Nat.{ℕ_set}
 use Rattle.program.specs.declared.Counts.{Counts}
@@ -16,8 +16,8 @@ ChainsChained-prop item link n k h (x ∷ l) =
       ChainsChained-prop item link n (suc h) (link h) l u.3 v.3 i,
     )
 
-pub Chained-prop : (w : List ℕ) (n h : ℕ) → IsProp (Chained w n h)
-Chained-prop w n h = ChainsChained-prop self (link_in w) n h h (cells_from (link_in w) n (n - h) h)
+pub Chained-prop : (w : List ℕ) (h : ℕ) → IsProp (Chained w h)
+Chained-prop w h = ChainsChained-prop self (link_in w) (length w) h h (cells_from (link_in w) (length w) (length w - h) h)
 
 pub Index-prop : (m : List ℕ) (c : Counts) (w : List ℕ) → IsProp (Index m c w)
 Index-prop m c w x y =

@@ -7,15 +7,14 @@ ghost use Rattle.chains.specs.Once.{Chained-prop};
 use crate::{HEADS, SORT, Sort};
 use ids::InsnId;
 
-// What is left of a chain, in rising order: a link that is not below the count ends it.
+// What is left of a chain, in rising order: a link that leads to none of the instructions ends it.
 #[derive(Drop)]
 pub struct Chain<'a> {
+    // of each instruction, the next one of its chain
     links: &'a [usize],
-    count: usize,
     at: usize,
-    ghost few: { count ≤ instructions_most },
-    ghost long: { count ≤ length links.now },
-    ghost held: { Chained links.now count at } by { Chained-prop links.now count at },
+    ghost few: { length links.now ≤ instructions_most },
+    ghost held: { Chained links.now at } by { Chained-prop links.now at },
 }
 
 impl<'a> Chain<'a> {
@@ -32,8 +31,7 @@ impl<'a> Chain<'a> {
     {
         let heads = SORT * sort.place();
         Chain {
-            links: &chains[heads + HEADS..heads + SORT],
-            count: n,
+            links: &chains[heads + HEADS..heads + HEADS + n],
             at: chains[heads + k],
         }
     }
@@ -51,10 +49,8 @@ impl<'a> Iterator for Chain<'a> {
 
     fn next(&mut self) -> Option<InsnId> {
         let at = self.at;
-        if self.count <= at {
-            return None;
-        }
-        self.at = self.links[at];
+        let &next = self.links.get(at)?;
+        self.at = next;
         Some(InsnId(at as u32))
     }
 }

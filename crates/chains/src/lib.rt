@@ -15,6 +15,7 @@ use program::{Counts, Op, Program};
 pub use view::Indexed;
 
 // A sort's heads, the words of a sort, and of all three: the code, the Params and the Returns.
+// Stays: there is no heap, so a chain is linked numbers in lent memory, and the number of instructions ends it.
 const HEADS: usize = memory::BLOCKS_ROOM;
 
 const SORT: usize = HEADS + memory::INSTRUCTIONS_MOST;
@@ -86,7 +87,7 @@ pub fn fill(scratch: &mut [usize], at: usize, n: usize, v: usize)
 
 // The chains of a sort, from the last instruction down: each instruction goes in front.
 fn chain(program: &Program, scratch: &mut [usize], sort: Sort)
-    // Stays: the memory is lent; a struct that says how long it is would be made for this one call, and taken apart behind it.
+    // Stays: the words are lent; a struct that says how long they are would be made in build_index alone, and taken apart behind it.
     requires { chains_size ≤ length scratch.old }
     ensures { Chains program.now.words.now program.now.counts.insns (place_of sort) scratch.old scratch.new }
 {

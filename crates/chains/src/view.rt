@@ -34,8 +34,8 @@ impl<'a> Indexed<'a> {
         )
     }
 
-    // Stays: beside `code`, since both are one call of `Chain::new`, by an id of another sort and with another list as their promise.
     // The Returns of function f.
+    // Stays: beside `code`, since both are one call of `Chain::new`, by an id of another sort and with another list as their promise.
     pub fn returns(&self, f: FunId) -> Chain<'a>
         requires { f.0 < blocks_room }
         ensures { (s : List ℕ) → left result ≡ returns_of (program_view s self.now.program.words.now self.now.program.counts) f.0 }

@@ -6,11 +6,12 @@ use Prim.Native.Nat.{ℕ, suc, ◌+◌, ◌-◌, ◌*◌, ◌/◌, ◌%◌, ◌^
 use native.Mathlib.Decide.{ℕ_discrete}
 use native.Mathlib.Nat.{div_self, div-eq_of_lt}
 use native.Mathlib.Omega.{arith}
-use borrow.Author.Tests.{eq-eqb, ne_eqb, lt-ltb, le-ltb}
+use borrow.Author.Tests.{eq-eqb, ne_eqb, eqb-true, lt-ltb, le-ltb}
 use lib.Bits.{bit_or, shifted_even}
 use lib.Pow.{pow_pos, pow-lt, pow-add, shl-shr}
 use lib.Dec.{eqb, ltb}
 use Rattle.std.specs.Prelude as R
+use Rattle.std.specs.Bool.{then_some}
 use Rattle.lexer.specs.Names.{name}
 use Rattle.rules.specs.Lists.{any, same, has, first, places_from, places}
 use Rattle.rules.specs.Program as P
@@ -146,8 +147,9 @@ module _ {s m : List ℕ} {k bits a : ℕ} {n : Name} (c : Counts) (z : Naming s
   here : (x : ℕ) → x < 64 → holds x bits ≡ (ltb x (ivars_of m k) && same (ivar_in s m k x) (name_in s n))
   here x l = z.places x l ∙ ap (λ y. ltb x y && same (ivar_in s m k x) (name_in s n)) e
 
-  pub name_none : bits ≡ 0 → NamedIs s m c k n R.None
-  name_none f = record { places = λ x l. sym (ap (holds x) f) ∙ here x l; declared = asked ∙ ap not (eq-eqb bits 0 f) }
+  name_by : (t : 𝔹) → eqb bits 0 ≡ t → NamedIs s m c k n (then_some (not t) bits)
+  name_by true f = record { places = λ x l. sym (ap (holds x) (eqb-true bits 0 f)) ∙ here x l; declared = asked ∙ ap not f }
+  name_by false f = record { places = here; declared = asked ∙ ap not f }
 
-  pub name_some : (bits ≡ 0 → ⊥) → NamedIs s m c k n (R.Some bits)
-  name_some f = record { places = here; declared = asked ∙ ap not (ne_eqb bits 0 f) }
+  pub name_told : {r : R.Option ℕ} → r ≡ then_some (not (eqb bits 0)) bits → NamedIs s m c k n r
+  name_told e = rw e (name_by (eqb bits 0) refl)

@@ -11,6 +11,7 @@ use lib.ListN.{length, get_or, set, length-set}
 use lib.Seq.{get_or-set_same, get_or-set_other}
 use Rattle.std.specs.Prelude as R
 use Rattle.refusals.specs.declared.Refusal.{Refusal}
+use Rattle.refusals.specs.declared.Refusal.TheVariants.{UndeclaredAttribute}
 use Rattle.rules.specs.Lists.{any, all, same, has, to_list, concat}
 use Rattle.rules.specs.Program as P
 use Rattle.rules.specs.Program.{Program, about, op_of, code, ivar_named, returned_by}
@@ -124,6 +125,15 @@ module _ {s m : List ℕ} {c : Counts} {k b bits : ℕ} {left : List ℕ} (z : S
                   ∙ (or_assoc (holds a bits) (same (ivar_in s m k a) (name_in s n)) (any (same (ivar_in s m k a)) (names_of (program_view s m c) rest))
                   ∙ (sym (ap (λ (y : List (List ℕ)). holds a bits || any (same (ivar_in s m k a)) y) o) ∙ z.sets a l));
               asked = sym (ap (all_declared s m c k) o ∙ ap (λ y. y && all_declared s m c k (names_of (program_view s m c) rest)) (d.declared ∙ ap R.is_some f)) ∙ z.asked;
+            }
+
+        -- an attribute of that name isn't declared
+        pub set_stop : p ≡ R.None → SetsIs s m c k b (R.Err UndeclaredAttribute)
+        set_stop f =
+            record {
+              asked = sym (sym (ap (all_declared s m c k) o ∙ ap (λ y. y && all_declared s m c k (names_of (program_view s m c) rest)) (d.declared ∙ ap R.is_some f)) ∙ z.asked);
+              bits = λ y e. absurd (let w : ◌≡◌ {A = ℕ} 0 1 = cc in omega arith);
+              refuses = λ e q. let w : UndeclaredAttribute ≡ e = cc in sym w;
             }
 
 -- ---- all blocks

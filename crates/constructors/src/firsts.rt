@@ -2,7 +2,7 @@
 ghost use Rattle.std.specs.Prelude.{◌≡◌, ℕ, ◌+◌, ◌*◌, ◌≤◌, ◌<◌, length};
 ghost use Rattle.memory.specs.Layout.{classes_most, ivars_most};
 ghost use Rattle.constructors.specs.Layout.{walk_size};
-ghost use Rattle.constructors.specs.firsts.Firsts.{PutsKinds, FirstIs, FirstsAre};
+ghost use Rattle.constructors.specs.firsts.Firsts.{PutsKinds, Entries, FirstIs, FirstsAre};
 
 use crate::Flow;
 use ids::ClassId;
@@ -10,17 +10,18 @@ use kinds::Kind;
 use refusals::Refusal;
 
 // The first kinds of n attributes: nothing for those in a set, else Nil. The bytes stand from one place on, the payloads from another.
-// Stays: bytes and payloads are two parts of the state's one lent memory, told apart by where they start, here and below.
-fn put_kinds(users: &mut [usize], tags: usize, payloads: usize, n: usize, bits: usize)
+// Stays: the contracts say of the state's whole memory what changed, so the parts of the bytes and of the payloads go by their places in it, and not as two
+// slices, here and below.
+fn put_kinds(words: &mut [usize], tags: usize, payloads: usize, n: usize, bits: usize)
     requires n_le_ivars_most { n ≤ ivars_most }
-    requires n_bound { (tags + n ≤ payloads) × (payloads + n ≤ length users.old) }
-    ensures { PutsKinds tags payloads n bits users.old users.new }
+    requires n_bound { (tags + n ≤ payloads) × (payloads + n ≤ length words.old) }
+    ensures { PutsKinds tags payloads n bits words.old words.new }
 {
-    chains::fill(users, payloads, n, 0);
+    chains::fill(words, payloads, n, 0);
     for a in 0..n {
         let is_set = (bits >> a) % 2 != 0;
         let kind = if is_set { Kind::Empty } else { Kind::Nil };
-        users[tags + a] = kind.tag();
+        words[tags + a] = kind.tag();
     }
 }
 
@@ -28,14 +29,15 @@ fn put_kinds(users: &mut [usize], tags: usize, payloads: usize, n: usize, bits: 
 pub fn first_kinds(
     flow: &Flow,
     scratch: &mut [usize],
-    users: &mut [usize],
+    words: &mut [usize],
     tags: usize,
     payloads: usize,
     k: ClassId,
 ) -> Result<(), Refusal>
+    requires entries { Entries flow.now.indexed.program.words.now flow.now.indexed.program.counts }
     requires walk_size_in_bounds { (walk_size ≤ length scratch.old) × (k.0 < flow.now.indexed.program.counts.classes) }
-    requires ivars_most_bound { (tags + (classes_most * ivars_most) ≤ payloads) × (payloads + (classes_most * ivars_most) ≤ length users.old) }
-    ensures { FirstIs flow.now.indexed.program.script.now flow.now.indexed.program.words.now flow.now.indexed.program.counts k.0 tags payloads users.old users.new result }
+    requires ivars_most_bound { (tags + (classes_most * ivars_most) ≤ payloads) × (payloads + (classes_most * ivars_most) ≤ length words.old) }
+    ensures { FirstIs flow.now.indexed.program.script.now flow.now.indexed.program.words.now flow.now.indexed.program.counts k.0 tags payloads words.old words.new result }
 {
     let program = flow.indexed.program;
     let n = lookups::ivars_of(&program, k);
@@ -44,7 +46,7 @@ pub fn first_kinds(
         None => 0,
     };
     let row = memory::IVARS_MOST * k.index();
-    put_kinds(users, tags + row, payloads + row, n, bits);
+    put_kinds(words, tags + row, payloads + row, n, bits);
     Ok(())
 }
 
@@ -52,16 +54,17 @@ pub fn first_kinds(
 pub fn all_first_kinds(
     flow: &Flow,
     scratch: &mut [usize],
-    users: &mut [usize],
+    words: &mut [usize],
     tags: usize,
     payloads: usize,
 ) -> Result<(), Refusal>
+    requires entries { Entries flow.now.indexed.program.words.now flow.now.indexed.program.counts }
     requires walk_size_in_bounds { walk_size ≤ length scratch.old }
-    requires ivars_most_bound { (tags + (classes_most * ivars_most) ≤ payloads) × (payloads + (classes_most * ivars_most) ≤ length users.old) }
-    ensures { FirstsAre flow.now.indexed.program.script.now flow.now.indexed.program.words.now flow.now.indexed.program.counts tags payloads users.old users.new result }
+    requires ivars_most_bound { (tags + (classes_most * ivars_most) ≤ payloads) × (payloads + (classes_most * ivars_most) ≤ length words.old) }
+    ensures { FirstsAre flow.now.indexed.program.script.now flow.now.indexed.program.words.now flow.now.indexed.program.counts tags payloads words.old words.new result }
 {
     for k in 0..flow.indexed.program.counts.classes {
-        first_kinds(flow, scratch, users, tags, payloads, ClassId(k as u32))?;
+        first_kinds(flow, scratch, words, tags, payloads, ClassId(k as u32))?;
     }
     Ok(())
 }

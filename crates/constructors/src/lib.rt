@@ -71,6 +71,14 @@ impl Ends {
 
 // ---- the walk
 
+// The work memory, and how many blocks were left behind so far.
+#[derive(Drop)]
+struct Order<'a> {
+    words: &'a mut [usize],
+    done: usize,
+    ghost long: { walk_size ≤ length words.now },
+}
+
 impl<'a> Flow<'a> {
     // How block b ends: by its last instruction.
     fn end_of(&self, b: BlockId) -> Ends
@@ -85,42 +93,56 @@ impl<'a> Flow<'a> {
     }
 
     // Visits block b unless it was visited.
-    // Stays: there is no heap; the blocks done stand in lent memory, and their number goes through the walk's results.
     #[cycle(walk)]
-    fn visit(&self, scratch: &mut [usize], n: usize, b: BlockId) -> usize
-        requires walk_good { WalkGood self.now.indexed.program.counts.blocks scratch.old n }
+    fn visit(&self, order: &mut Order, b: BlockId)
+        requires walk_good { WalkGood self.now.indexed.program.counts.blocks order.old.words.now order.old.done }
         requires b_lt_blocks { b.0 < self.now.indexed.program.counts.blocks }
-        ensures { WalkDid (visit_of self.now.indexed.program.words.now self.now.indexed.program.counts b.0) self.now.indexed.program.counts.blocks
-            scratch.old n scratch.new result }
+        ensures loan { order.new.words.ghost_name ≡ order.old.words.ghost_name }
+        ensures did { WalkDid (visit_of self.now.indexed.program.words.now self.now.indexed.program.counts b.0) self.now.indexed.program.counts.blocks
+            order.old.words.now order.old.done order.new.words.now order.new.done }
     {
-        if scratch[b.index()] == 0 {
-            self.walk(scratch, n, b)
-        } else {
-            n
+        if order.words[b.index()] == 0 {
+            self.walk(order, b);
         }
     }
 
     // Visits block b, which was not visited, and what it leads to; then leaves it behind.
     #[cycle(walk)]
-    fn walk(&self, scratch: &mut [usize], n: usize, b: BlockId) -> usize
-        requires walk_good { WalkGood self.now.indexed.program.counts.blocks scratch.old n }
+    fn walk(&self, order: &mut Order, b: BlockId)
+        requires walk_good { WalkGood self.now.indexed.program.counts.blocks order.old.words.now order.old.done }
         requires b_lt_blocks { b.0 < self.now.indexed.program.counts.blocks }
-        requires b_value { get_or scratch.old b.0 0 ≡ 0 }
-        ensures { WalkDid (walk_of self.now.indexed.program.words.now self.now.indexed.program.counts b.0) self.now.indexed.program.counts.blocks
-            scratch.old n scratch.new result }
+        requires b_value { get_or order.old.words.now b.0 0 ≡ 0 }
+        ensures loan { order.new.words.ghost_name ≡ order.old.words.ghost_name }
+        ensures did { WalkDid (walk_of self.now.indexed.program.words.now self.now.indexed.program.counts b.0) self.now.indexed.program.counts.blocks
+            order.old.words.now order.old.done order.new.words.now order.new.done }
     {
         let at = b.index();
-        scratch[at] = 1;
-        let k = match self.end_of(b) {
-            Ends::Return | Ends::Open => n,
-            Ends::Jump(t) => self.visit(scratch, n, t),
+        order.words[at] = 1;
+        match self.end_of(b) {
+            Ends::Return | Ends::Open => {}
+            Ends::Jump(t) => self.visit(order, t),
             Ends::IfTrue(t, u) => {
-                let m = self.visit(scratch, n, t);
-                self.visit(scratch, m, u)
+                self.visit(order, t);
+                self.visit(order, u);
             }
+        }
+        order.words[ORDER + order.done] = at;
+        order.done += 1;
+    }
+
+    // The blocks that a block leads to, in post-order.
+    fn order_from<'s>(&self, scratch: &'s mut [usize], b: BlockId) -> Order<'s>
+        requires walk_size_in_bounds { (walk_size ≤ length scratch.old) × (b.0 < self.now.indexed.program.counts.blocks) }
+        ensures loan { result.words.ghost_name ≡ scratch.entry.ghost_name }
+        ensures walked { Walked self.now.indexed.program.words.now self.now.indexed.program.counts b.0 result.words.now result.done }
+    {
+        chains::fill(scratch, 0, ORDER, 0);
+        let mut order = Order {
+            words: scratch,
+            done: 0,
         };
-        scratch[ORDER + k] = at;
-        k + 1
+        self.walk(&mut order, b);
+        order
     }
 
     // The blocks that a block leads to, in post-order; how many there are.
@@ -128,8 +150,7 @@ impl<'a> Flow<'a> {
         requires walk_size_in_bounds { (walk_size ≤ length scratch.old) × (b.0 < self.now.indexed.program.counts.blocks) }
         ensures { Walked self.now.indexed.program.words.now self.now.indexed.program.counts b.0 scratch.new result }
     {
-        chains::fill(scratch, 0, ORDER, 0);
-        self.walk(scratch, 0, b)
+        self.order_from(scratch, b).done
     }
 }
 
@@ -137,16 +158,16 @@ impl<'a> Flow<'a> {
 
 impl<'a> Flow<'a> {
     // The attributes that are set at the end of all blocks done, from place i of the order on, that lead to block b; none where there is no such block.
-    fn before(&self, scratch: &[usize], n: usize, i: usize, b: BlockId) -> usize
-        requires flow_placed { FlowPlaced self.now.indexed.program.counts.blocks scratch.now n }
-        requires walk_size_in_bounds { (walk_size ≤ length scratch.now) × (i ≤ n) }
-        ensures { Before self.now.indexed.program.words.now self.now.indexed.program.counts scratch.now n i b.0 result }
+    fn before(&self, order: &Order, i: usize, b: BlockId) -> usize
+        requires flow_placed { FlowPlaced self.now.indexed.program.counts.blocks order.now.words.now order.now.done }
+        requires i_le_done { i ≤ order.now.done }
+        ensures { Before self.now.indexed.program.words.now self.now.indexed.program.counts order.now.words.now order.now.done i b.0 result }
     {
         let mut bits = None;
-        for q in (i..n).rev() {
-            let d = BlockId(scratch[ORDER + q] as u32);
+        for q in (i..order.done).rev() {
+            let d = BlockId(order.words[ORDER + q] as u32);
             if self.end_of(d).leads(b) {
-                bits = Some(scratch[OUTS + q] & bits.unwrap_or(usize::MAX));
+                bits = Some(order.words[OUTS + q] & bits.unwrap_or(usize::MAX));
             }
         }
         bits.unwrap_or(0)
@@ -165,7 +186,7 @@ impl<'a> Flow<'a> {
                 bits |= 1 << a;
             }
         }
-        if bits == 0 { None } else { Some(bits) }
+        (bits != 0).then_some(bits)
     }
 
     // The attributes of class k that a block sets, or that one of them is not declared.
@@ -183,20 +204,20 @@ impl<'a> Flow<'a> {
         Ok(bits)
     }
 
-    // The attributes that are set at every return, or that a block reached sets one that is not declared: one pass over the n blocks of the order, the last
-    // left behind first.
-    fn surely(&self, scratch: &mut [usize], n: usize, k: ClassId) -> Result<usize, Refusal>
-        requires flow_placed { FlowPlaced self.now.indexed.program.counts.blocks scratch.old n }
-        requires walk_size_in_bounds { (walk_size ≤ length scratch.old) × (k.0 < self.now.indexed.program.counts.classes) }
-        ensures { Surely self.now.indexed.program.script.now self.now.indexed.program.words.now self.now.indexed.program.counts k.0 scratch.old n result }
+    // The attributes that are set at every return, or that a block reached sets one that is not declared: one pass over the order, the last left behind first.
+    fn surely(&self, order: &mut Order, k: ClassId) -> Result<usize, Refusal>
+        requires flow_placed { FlowPlaced self.now.indexed.program.counts.blocks order.old.words.now order.old.done }
+        requires k_lt_classes { k.0 < self.now.indexed.program.counts.classes }
+        ensures { Surely self.now.indexed.program.script.now self.now.indexed.program.words.now self.now.indexed.program.counts k.0
+            order.old.words.now order.old.done result }
     {
         let mut set = usize::MAX;
-        for i in (0..n).rev() {
-            let b = BlockId(scratch[ORDER + i] as u32);
-            let ins = self.before(scratch, n, i + 1, b);
+        for i in (0..order.done).rev() {
+            let b = BlockId(order.words[ORDER + i] as u32);
+            let ins = self.before(order, i + 1, b);
             let own = self.sets_of(k, b)?;
             let out = own | ins;
-            scratch[OUTS + i] = out;
+            order.words[OUTS + i] = out;
             if self.end_of(b).returns() {
                 set = out & set;
             }
@@ -214,7 +235,7 @@ impl<'a> Flow<'a> {
         requires walk_size_in_bounds { (walk_size ≤ length scratch.old) × ((k.0 < self.now.indexed.program.counts.classes) × (b.0 < self.now.indexed.program.counts.blocks)) }
         ensures { FlowAnalyzed self.now.indexed.program.script.now self.now.indexed.program.words.now self.now.indexed.program.counts k.0 b.0 result }
     {
-        let n = self.walk_from(scratch, b);
-        self.surely(scratch, n, k)
+        let mut order = self.order_from(scratch, b);
+        self.surely(&mut order, k)
     }
 }

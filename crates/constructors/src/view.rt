@@ -1,6 +1,5 @@
-// A program whose blocks lead to blocks, and whose functions begin at blocks.
+// A program whose blocks lead to blocks.
 ghost use Rattle.constructors.specs.Walks.{WalkInside};
-ghost use Rattle.constructors.specs.firsts.Firsts.{Entries};
 
 use chains::Indexed;
 
@@ -8,5 +7,4 @@ use chains::Indexed;
 pub struct Flow<'a> {
     pub indexed: Indexed<'a>,
     pub ghost inside: { WalkInside indexed.program.words.now indexed.program.counts },
-    pub ghost entries: { Entries indexed.program.words.now indexed.program.counts },
 }

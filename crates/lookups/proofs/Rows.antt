@@ -26,13 +26,21 @@ use Rattle.program.specs.declared.Name.{Name}
 use Rattle.program.specs.declared.Function.{Function}
 use Rattle.program.proofs.Tables.{tab-at, tab-take}
 use Rattle.program.proofs.Viewing.{classes-length}
-use Rattle.program.specs.Layout.{blocks_at, functions_at, function_words}
+use Rattle.program.specs.Layout.{blocks_at, functions_at, ivars_at, function_words, ivar_row_words}
 use Rattle.lookups.specs.Look.{name_at, fun_row, ivar_row, is_fun, is_method, is_main, is_class, is_ivar, LookKnown, Constructs, LookTells, fun_found, ivar_found}
 use Rattle.lexer.proofs.Texts.{same_eq}
 
 -- ---- tests
 
 module _ (s m n : List ℕ) where
+  pub is_fun_lem : (i : ℕ) {r : Bool} → r ≡ same (name_in s (name_at m (functions_at + function_words * i))) n → r ≡ is_fun n (fun_row s m i)
+  unfolding is_fun fun_row fun_at
+  is_fun_lem i e = e
+
+  pub is_ivar_lem : (k j : ℕ) {r : Bool} → r ≡ same (name_in s (name_at m (ivars_at + ivar_row_words * k + 2 * j))) n → r ≡ is_ivar n (ivar_row s m k j)
+  unfolding is_ivar ivar_row
+  is_ivar_lem k j e = e
+
   module _ (i k : ℕ) {o : Bool} (e : o ≡ is_just (owner_in (owner_from (get_or m (functions_at + function_words * i + 2) 0))) k) where
     pub method_here : {r : Bool} → o ≡ true → r ≡ same (name_in s (name_at m (functions_at + function_words * i))) n → r ≡ is_method k n (fun_row s m i)
     unfolding is_method fun_row fun_at

@@ -30,7 +30,7 @@ fn spells_at(program: &Program, at: usize, wanted: &[u8]) -> bool
     lexer::same_bytes(name, wanted)
 }
 
-#[tactic(auto, unfolding(crate::specs::Look::is_fun, crate::specs::Look::fun_row, program::specs::Rows::fun_at))]
+#[tactic(auto, using(crate::proofs::Rows::is_fun_lem))]
 fn is_fun(program: &Program, f: FunId, wanted: &[u8]) -> bool
     requires { f.0 < functions_most }
     ensures { result ≡ is_fun wanted.now (fun_row program.now.script.now program.now.words.now f.0) }
@@ -62,7 +62,7 @@ fn is_class(program: &Program, k: ClassId, wanted: &[u8]) -> bool
     spells_at(program, CLASSES + CLASS_WORDS * k.index(), wanted)
 }
 
-#[tactic(auto, unfolding(crate::specs::Look::is_ivar, crate::specs::Look::ivar_row))]
+#[tactic(auto, using(crate::proofs::Rows::is_ivar_lem))]
 pub fn is_ivar(program: &Program, k: ClassId, j: usize, wanted: &[u8]) -> bool
     requires { (k.0 < classes_most) × (j < ivars_most) }
     ensures { result ≡ is_ivar wanted.now (ivar_row program.now.script.now program.now.words.now k.0 j) }
@@ -72,6 +72,8 @@ pub fn is_ivar(program: &Program, k: ClassId, j: usize, wanted: &[u8]) -> bool
 }
 
 // ---- look-ups
+// Stays: a search makes the id of a number in its test, and once more of the number found. Tried: with the ids made first, by `map`, the check no longer finds
+// that each of them has a row, and each search wants an answer for it.
 
 // The latest function of a name, methods too.
 pub fn function_named(program: &Program, n: Name) -> Option<FunId>
@@ -170,7 +172,8 @@ pub fn is_terminated(program: &Program, b: BlockId) -> bool
 
 // ---- attributes
 
-// Stays: it writes into a lent slice, so it asks that the tables fit in it, as the writers of program's rows do.
+// Stays: it writes a row into a lent slice, so it asks that the tables fit in it, as the writers of program's rows do. Written out in `push_ivar` it was tried: the
+// proof closes, with answers twice as long.
 
 #[tactic(auto, using(crate::proofs::Ivars::ivar_put))]
 fn put_ivar(words: &mut [usize], k: ClassId, j: usize, n: Name)

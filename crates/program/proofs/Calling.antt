@@ -1,9 +1,10 @@
 -- What is pushed: the operands given, and behind them those of another memory. Assumes nothing.
 use mathlib.Core.Path.{◌≡◌, sym, ap, ap₂, ◌∙◌}
-use mathlib.Core.List.{List, [], ◌∷◌, ◌++◌, append-nil}
+use mathlib.Core.List.{List, [], ◌++◌, append-nil}
 use Prim.Native.Nat.{ℕ, ◌+◌, ◌-◌, ◌*◌, ◌/◌, ◌≤◌, ◌<◌}
 use native.Mathlib.Omega.{arith}
-use lib.ListN.{length, get_or, take, drop, length-append, length-take, length-drop}
+use lib.ListN.{length, get_or, drop, length-append, length-take, length-drop}
+use Rattle.std.specs.Prelude.{slice_range}
 use Rattle.std.proofs.lemmas.List.{get_or-take, get_or-drop}
 use Rattle.ids.specs.declared.FunId.{FunId}
 use Rattle.rules.specs.Program as P
@@ -16,30 +17,27 @@ use Rattle.program.specs.declared.bounds.Limits.{Limits}
 use Rattle.program.specs.declared.Name.{Name}
 use Rattle.program.specs.declared.Opnd.{Opnd}
 use Rattle.program.specs.declared.Op.{Op}
-use Rattle.program.specs.declared.Op.TheVariants.{SendStatic, SendDynamic}
 use Rattle.program.specs.declared.Given.{Given}
+use Rattle.program.specs.declared.Callee.{Callee}
 use Rattle.program.specs.declared.Callee.TheVariants.{Static, Dynamic}
 use Rattle.program.proofs.Tables.{tab_ext}
 use Rattle.program.proofs.Areas.{puts_then, opnds-length}
 use Rattle.program.proofs.Viewing.{ready-keep, free_opnds, flags-same}
 use Rattle.program.proofs.Pushing.{room_of, ready-puts, adds-is, push-stop, push-grew}
 
--- the words of n operands, cut out of a memory from word a on
-abbrev cut : List ℕ → ℕ → ℕ → List ℕ
-cut m a n = take (a + 2 * n - a) (drop a m)
-
+-- the words of n operands, cut out of a memory from word a on, are the operands that stand there
 module _ (m : List ℕ) (a n : ℕ) (h : a + 2 * n ≤ length m) where
-  cut-half : length (cut m a n) / 2 ≡ n
-  cut-half = simp (length-take, length-drop) (omega arith)
+  half : length (slice_range m a (a + 2 * n)) / 2 ≡ n
+  half = simp (length-take, length-drop) (omega arith)
 
-  opnds-cut : opnds_in (cut m a n) 0 (length (cut m a n) / 2) ≡ opnds_in m a n
+  opnds_part : opnds_in (slice_range m a (a + 2 * n)) 0 (length (slice_range m a (a + 2 * n)) / 2) ≡ opnds_in m a n
   unfolding opnds_in
-  opnds-cut =
-      rw cut-half
-      (tab_ext (λ j. opnd_at (cut m a n) (0 + 2 * j)) (λ j. opnd_at m (a + 2 * j)) n
+  opnds_part =
+      rw half
+      (tab_ext (λ j. opnd_at (slice_range m a (a + 2 * n)) (0 + 2 * j)) (λ j. opnd_at m (a + 2 * j)) n
       (λ j l. ap₂ opnd_from (word (0 + 2 * j) (a + 2 * j) (omega arith) (omega arith)) (word (0 + 2 * j + 1) (a + 2 * j + 1) (omega arith) (omega arith))))
     where
-      word : (k i : ℕ) → k < 2 * n → a + k ≡ i → get_or (cut m a n) k 0 ≡ get_or m i 0
+      word : (k i : ℕ) → k < 2 * n → a + k ≡ i → get_or (slice_range m a (a + 2 * n)) k 0 ≡ get_or m i 0
       word k i l e = get_or-take (a + 2 * n - a) (drop a m) k 0 (omega arith) ∙ get_or-drop a m k 0 ∙ ap (λ (j : ℕ). get_or m j 0) e
 
 -- the operands given, and behind them n of another memory
@@ -93,14 +91,19 @@ module _ (L : P.Limits) (b : ℕ) {m : List ℕ} {c : Counts} {m' : List ℕ} {r
   unfolding opnds_in tab
   pushed_bare o g d = let e : length (given g) + 0 ≡ length (given g) = omega arith in rw (append-nil (given g), e) at d
 
-  module _ (args : List ℕ) (a n : ℕ) (h : a + 2 * n ≤ length args) where
-    pub pushed_static : (f : FunId)
-        → ProgramDid (pushing_of L b (SendStatic f) (opnds_in (cut args a n) 0 (length (cut args a n) / 2))) unchanged c.insns (more_insns (SendStatic f) (0 + length (cut args a n) / 2) c) m c m' r
-        → ProgramDid (call_of L b (Static f) (opnds_in args a n)) unchanged c.insns (more_calls (Static f) n c) m c m' r
-    pushed_static f d = let e : 0 + length (cut args a n) / 2 ≡ n = omega (arith, cut-half args a n h) in rw (opnds-cut args a n h, e) at d
+-- a call whose n arguments are a part of a memory, from word a on
+pub pushed_part : (L : P.Limits) (b : ℕ) (k : Callee) (args : List ℕ) (a n : ℕ) → a + 2 * n ≤ length args → {x : ℕ} {m : List ℕ} {c : Counts} {m' : List ℕ} {r : Grew}
+    → ProgramDid (call_of L b k (opnds_in (slice_range args a (a + 2 * n)) 0 (length (slice_range args a (a + 2 * n)) / 2))) unchanged x
+    (more_calls k (length (slice_range args a (a + 2 * n)) / 2) c) m c m' r
+    → ProgramDid (call_of L b k (opnds_in args a n)) unchanged x (more_calls k n c) m c m' r
+pushed_part L b k args a n h d = rw (opnds_part args a n h, half args a n h) at d
 
-    pub pushed_dynamic : (v : Opnd) (x : Name)
-        → ProgramDid (pushing_of L b (SendDynamic x) (v ∷ opnds_in (cut args a n) 0 (length (cut args a n) / 2))) unchanged c.insns
-        (more_insns (SendDynamic x) (1 + length (cut args a n) / 2) c) m c m' r
-        → ProgramDid (call_of L b (Dynamic v x) (opnds_in args a n)) unchanged c.insns (more_calls (Dynamic v x) n c) m c m' r
-    pushed_dynamic v x d = rw (opnds-cut args a n h, cut-half args a n h) at d
+-- whichever call it is
+module _ {m m' : List ℕ} {c : Counts} (l : Limits) (b : ℕ) (os : List Opnd) (n : ℕ) (g : Grew) {callee : Callee} where
+  pub call_static_lem : {f : FunId} → callee ≡ Static f → ProgramDid (call_of (limits_of l) b (Static f) os) unchanged c.insns (more_calls (Static f) n c) m c m' g
+      → ProgramDid (call_of (limits_of l) b callee os) unchanged c.insns (more_calls callee n c) m c m' g
+  call_static_lem e d = rw e d
+
+  pub call_dynamic : {v : Opnd} {x : Name} → callee ≡ Dynamic v x → ProgramDid (call_of (limits_of l) b (Dynamic v x) os) unchanged c.insns (more_calls (Dynamic v x) n c) m c m' g
+      → ProgramDid (call_of (limits_of l) b callee os) unchanged c.insns (more_calls callee n c) m c m' g
+  call_dynamic e d = rw e d

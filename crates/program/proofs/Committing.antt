@@ -22,7 +22,6 @@ use Rattle.program.specs.View.{program_view, ProgramReady, PutsRow, ProgramRoom,
 use Rattle.program.specs.declared.Counts.{Counts}
 use Rattle.program.specs.declared.Row.{Row}
 use Rattle.program.specs.declared.Op.{Op}
-use Rattle.program.specs.declared.Op.TheVariants.{Jump, IfTrue, Return, SendStatic, SendDynamic, Compute, Phi, Param, SelfParam, New, GetIvar, SetIvar}
 use Rattle.program.proofs.Areas.{Same, opnds-same, given-length, same_above}
 use Rattle.program.proofs.Viewing.{Keeps, ready-keep, keeps_then, insn_keep, ivars-keep, firsts-keep, instructions-keep, functions-keep, classes-keep, blocks-keep, free_insns, opnds-end, flags-same}
 use Rattle.program.proofs.Viewing.{instructions-more}
@@ -43,32 +42,10 @@ unfolding listed_count
 listed_more p x = sum_snoc (λ (y : P.Instruction). length (about y.op).listed) p.instructions x
 
 pub ends_is : (s : List ℕ) (o : Op) (l : List P.Opnd) → is_terminator (op_in s o l) ≡ ends_block o
-ends_is s (Jump b) l = refl
-ends_is s (IfTrue b e) l = refl
-ends_is s Return l = refl
-ends_is s (SendStatic f) l = refl
-ends_is s (SendDynamic n) l = refl
-ends_is s (Compute o) l = refl
-ends_is s (Phi b e) l = refl
-ends_is s (Param n) l = refl
-ends_is s (SelfParam c) l = refl
-ends_is s (New c) l = refl
-ends_is s (GetIvar n) l = refl
-ends_is s (SetIvar n) l = refl
+ends_is s o l = grind arith
 
 pub listed-is : (s : List ℕ) (o : Op) (l : List P.Opnd) → length (about (op_in s o l)).listed ≡ listed_in o (length l)
-listed-is s (Jump b) l = refl
-listed-is s (IfTrue b e) l = refl
-listed-is s Return l = refl
-listed-is s (SendStatic f) l = refl
-listed-is s (SendDynamic n) l = length-drop 1 l
-listed-is s (Compute o) l = refl
-listed-is s (Phi b e) l = refl
-listed-is s (Param n) l = refl
-listed-is s (SelfParam c) l = refl
-listed-is s (New c) l = refl
-listed-is s (GetIvar n) l = refl
-listed-is s (SetIvar n) l = refl
+listed-is s o l = grind (arith, length-drop)
 
 -- ---- truths
 

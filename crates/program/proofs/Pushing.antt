@@ -5,7 +5,7 @@ use mathlib.Core.List.{List, [], map}
 use Prim.Native.Nat.{ℕ, ◌+◌, ◌-◌, ◌*◌, ◌≤◌, ◌<◌}
 use native.Mathlib.Omega.{arith}
 use lib.Dec.{eqb, ltb, leb}
-use lib.ListN.{length, get_or, set, length-map}
+use lib.ListN.{length, get_or, length-map}
 use borrow.Author.Tests.{lt-ltb, le-ltb, le-leb, lt-leb, ltb-true, leb-true}
 use Rattle.kinds.specs.Kinds.{bit_of}
 use Rattle.rules.specs.Actions.{answered, refused}
@@ -13,43 +13,14 @@ use Rattle.rules.specs.Program as P
 use Rattle.rules.specs.Program.{about, terminated, listed_count}
 use Rattle.rules.specs.Reading.{Parser, with_program, push_insn}
 use Rattle.program.specs.Layout.{opnds_at, blocks_at}
-use Rattle.program.specs.Rows.{opnd_at, opnds_in, opnd_of, op_in, listed_in, flag_at}
+use Rattle.program.specs.Rows.{opnds_in, opnd_of, op_in, listed_in, flag_at}
 use Rattle.program.specs.View.{program_view, ProgramReady, limits_of, Puts, ProgramRoom, Commits, ProgramAdds, Asks, ProgramDid, grew, stopped, pushing_of, push_asks, more_insns, unchanged}
 use Rattle.program.specs.declared.Counts.{Counts}
 use Rattle.program.specs.declared.bounds.Limits.{Limits}
 use Rattle.program.specs.declared.Opnd.{Opnd}
 use Rattle.program.specs.declared.Op.{Op}
-use Rattle.program.proofs.Areas.{puts_none, puts_one, puts_then, opnds-length, opnds-add, opnds_one}
 use Rattle.program.proofs.Viewing.{Keeps, view_keep, ready-keep, free_opnds, flags-same, instructions-length}
 use Rattle.program.proofs.Committing.{listed-is}
-
--- ---- operands copied
-
-pub record Copying (args : List ℕ) (n at : ℕ) (m₀ m : List ℕ) (i : ℕ) : Type 0 where
-  pub high : i ≤ n
-  pub puts : Puts at (opnds_in args 0 i) m₀ m
-  pub len_same : length m ≡ length m₀
-
-pub copy_start : (args : List ℕ) (n at : ℕ) (m : List ℕ) → Copying args n at m m 0
-unfolding opnds_in Rattle.program.specs.Tab.tab
-copy_start args n at m = record { high = omega arith; puts = puts_none at m; len_same = refl }
-
-module _ {args : List ℕ} {n at : ℕ} {m₀ m : List ℕ} {i : ℕ} (g : Copying args n at m₀ m i) where
-  pub copy_more : i < n → at + 2 * n ≤ length m₀
-      → Copying args n at m₀ (set (set m (at + 2 * i) (get_or args (2 * i) 0)) (at + 2 * i + 1) (get_or args (2 * i + 1) 0)) (i + 1)
-  copy_more h long =
-      let same = g.len_same in
-      let here : 0 + 2 * i ≡ 2 * i = omega arith in
-      let one = puts_one m (at + 2 * i) (get_or args (2 * i) 0) (get_or args (2 * i + 1) 0) {o = opnd_at args (2 * i)} refl (omega arith) in
-      let all = puts_then g.puts (ap (λ (k : ℕ). at + 2 * k) (sym (opnds-length args 0 i))) one in
-      record {
-        high = omega arith;
-        puts = rw (opnds-add args 0 i 1, here, opnds_one args (2 * i)) all;
-        len_same = all.only.len_same;
-      }
-
-  pub copy_done : n ≤ i → Puts at (opnds_in args 0 n) m₀ m
-  copy_done h = let e : i ≡ n = omega (arith, g.high) in rw e at g.puts
 
 -- ---- questions
 

@@ -136,11 +136,45 @@ pub struct Counts {
 // ---- stored forms
 // Stays: the layout of the words is published; a struct for two or three of them, with `From`, would only name the tuple again.
 
+// The sorts of instructions, as a row's first word has them.
+const JUMP: usize = 0;
+
+const IF_TRUE: usize = 1;
+
+const RETURN: usize = 2;
+
+const SEND_STATIC: usize = 3;
+
+pub const SEND_DYNAMIC: usize = 4;
+
+const ADD: usize = 5;
+
+const SUB: usize = 6;
+
+const MUL: usize = 7;
+
+const LESS: usize = 8;
+
+const PHI: usize = 9;
+
+pub const PARAM: usize = 10;
+
+const SELF_PARAM: usize = 11;
+
+const NEW: usize = 12;
+
+pub const GET_IVAR: usize = 13;
+
+const SET_IVAR: usize = 14;
+
+// The tag of an operand that is an instruction's result; that of a constant is its kind's.
+pub const INSN_TAG: usize = 10;
+
 #[tactic(auto, unfolding(crate::specs::Rows::opnd_from))]
 pub fn opnd_from(tag: usize, bits: usize) -> Opnd
     ensures { result ≡ opnd_from tag bits }
 {
-    if tag == 10 {
+    if tag == INSN_TAG {
         Opnd::Insn(InsnId(ids::number_in(bits)))
     } else {
         Opnd::Const(kinds::kind_from(tag, bits))
@@ -153,7 +187,7 @@ pub fn opnd_words(o: Opnd) -> (usize, usize)
 {
     match o {
         Opnd::Const(k) => (k.tag(), k.payload()),
-        Opnd::Insn(i) => (10, i.index()),
+        Opnd::Insn(i) => (INSN_TAG, i.index()),
     }
 }
 
@@ -162,20 +196,20 @@ pub fn op_from(tag: usize, x: usize, y: usize) -> Op
     ensures { result ≡ op_from tag x y }
 {
     match tag {
-        0 => Op::Jump(BlockId(ids::number_in(x))),
-        1 => Op::IfTrue(BlockId(ids::number_in(x)), BlockId(ids::number_in(y))),
-        2 => Op::Return,
-        3 => Op::SendStatic(FunId(ids::number_in(x))),
-        4 => Op::SendDynamic(Name { start: x, len: y }),
-        5 => Op::Compute(Arith::Add),
-        6 => Op::Compute(Arith::Sub),
-        7 => Op::Compute(Arith::Mul),
-        8 => Op::Compute(Arith::Less),
-        9 => Op::Phi(BlockId(ids::number_in(x)), BlockId(ids::number_in(y))),
-        10 => Op::Param(x),
-        11 => Op::SelfParam(ClassId(ids::number_in(x))),
-        12 => Op::New(ClassId(ids::number_in(x))),
-        13 => Op::GetIvar(Name { start: x, len: y }),
+        JUMP => Op::Jump(BlockId(ids::number_in(x))),
+        IF_TRUE => Op::IfTrue(BlockId(ids::number_in(x)), BlockId(ids::number_in(y))),
+        RETURN => Op::Return,
+        SEND_STATIC => Op::SendStatic(FunId(ids::number_in(x))),
+        SEND_DYNAMIC => Op::SendDynamic(Name { start: x, len: y }),
+        ADD => Op::Compute(Arith::Add),
+        SUB => Op::Compute(Arith::Sub),
+        MUL => Op::Compute(Arith::Mul),
+        LESS => Op::Compute(Arith::Less),
+        PHI => Op::Phi(BlockId(ids::number_in(x)), BlockId(ids::number_in(y))),
+        PARAM => Op::Param(x),
+        SELF_PARAM => Op::SelfParam(ClassId(ids::number_in(x))),
+        NEW => Op::New(ClassId(ids::number_in(x))),
+        GET_IVAR => Op::GetIvar(Name { start: x, len: y }),
         _ => Op::SetIvar(Name { start: x, len: y }),
     }
 }
@@ -185,21 +219,21 @@ fn op_words(op: Op) -> (usize, usize, usize)
     ensures { op_from result.0 result.1 result.2 ≡ op }
 {
     match op {
-        Op::Jump(b) => (0, b.index(), 0),
-        Op::IfTrue(b, e) => (1, b.index(), e.index()),
-        Op::Return => (2, 0, 0),
-        Op::SendStatic(f) => (3, f.index(), 0),
-        Op::SendDynamic(n) => (4, n.start, n.len),
-        Op::Compute(Arith::Add) => (5, 0, 0),
-        Op::Compute(Arith::Sub) => (6, 0, 0),
-        Op::Compute(Arith::Mul) => (7, 0, 0),
-        Op::Compute(Arith::Less) => (8, 0, 0),
-        Op::Phi(b, e) => (9, b.index(), e.index()),
-        Op::Param(n) => (10, n, 0),
-        Op::SelfParam(c) => (11, c.index(), 0),
-        Op::New(c) => (12, c.index(), 0),
-        Op::GetIvar(n) => (13, n.start, n.len),
-        Op::SetIvar(n) => (14, n.start, n.len),
+        Op::Jump(b) => (JUMP, b.index(), 0),
+        Op::IfTrue(b, e) => (IF_TRUE, b.index(), e.index()),
+        Op::Return => (RETURN, 0, 0),
+        Op::SendStatic(f) => (SEND_STATIC, f.index(), 0),
+        Op::SendDynamic(n) => (SEND_DYNAMIC, n.start, n.len),
+        Op::Compute(Arith::Add) => (ADD, 0, 0),
+        Op::Compute(Arith::Sub) => (SUB, 0, 0),
+        Op::Compute(Arith::Mul) => (MUL, 0, 0),
+        Op::Compute(Arith::Less) => (LESS, 0, 0),
+        Op::Phi(b, e) => (PHI, b.index(), e.index()),
+        Op::Param(n) => (PARAM, n, 0),
+        Op::SelfParam(c) => (SELF_PARAM, c.index(), 0),
+        Op::New(c) => (NEW, c.index(), 0),
+        Op::GetIvar(n) => (GET_IVAR, n.start, n.len),
+        Op::SetIvar(n) => (SET_IVAR, n.start, n.len),
     }
 }
 

@@ -171,22 +171,19 @@ impl<'a> Draft<'a> {
         self.push(b, op, g, &[])
     }
 
-    // A call is added to block b; its n arguments stand in another memory from word a on.
+    // A call is added to block b; its arguments stand in another memory.
     pub fn push_call(
         &mut self,
         b: BlockId,
         callee: Callee,
         args: &[usize],
-        a: usize,
-        n: usize,
     ) -> Result<InsnId, Refusal>
-        requires b_lt_blocks { (b.0 < self.old.counts.blocks) × (a + 2 * n ≤ length args.now) }
-        ensures did { ProgramDid (call_of (limits_of self.old.limits) b.0 callee (opnds_in args.now a n)) unchanged self.old.counts.insns
-            (more_calls callee n self.old.counts) self.old.words.now self.old.counts self.new.words.now (insn_of self.new.counts result) }
+        requires { b.0 < self.old.counts.blocks }
+        ensures did { ProgramDid (call_of (limits_of self.old.limits) b.0 callee (opnds_in args.now 0 (length args.now / 2))) unchanged self.old.counts.insns
+            (more_calls callee (length args.now / 2) self.old.counts) self.old.words.now self.old.counts self.new.words.now (insn_of self.new.counts result) }
         ensures kept { DraftKept self.old self.new }
         ensures stays { OnErr result (DraftStays self.old self.new) }
     {
-        let args = &args[a..a + 2 * n];
         match callee {
             Callee::Static(f) => self.push(b, Op::SendStatic(f), Given::Zero, args),
             Callee::Dynamic(v, name) => self.push(b, Op::SendDynamic(name), Given::One(v), args),
@@ -243,6 +240,7 @@ impl<'a> Draft<'a> {
     }
 
     // The first function of class k, else the number of functions. The reader adds a class before its methods.
+    // Stays: a number and no option, since the class's row holds it: where its methods will begin.
     #[tactic(auto, unfolding(crate::specs::Rows::fun_at))]
     fn first_owned(&self, k: ClassId) -> usize
         ensures { OwnsFrom self.now.words.now self.now.counts.functions k.0 result }
@@ -310,10 +308,8 @@ fn copy_opnds(args: &[usize], words: &mut [usize], at: usize)
     requires { at + 2 * (length args.now / 2) ≤ length words.old }
     ensures { Puts at (opnds_in args.now 0 (length args.now / 2)) words.old words.new }
 {
-    for i in 0..args.len() / 2 {
-        words[at + 2 * i] = args[2 * i];
-        words[at + 2 * i + 1] = args[2 * i + 1];
-    }
+    let n = 2 * (args.len() / 2);
+    words[at..at + n].copy_from_slice(&args[..n]);
 }
 
 #[tactic(auto, unfolding(crate::specs::Rows::insn_at))]

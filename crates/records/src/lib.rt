@@ -1,7 +1,7 @@
 // The instructions as records in one lent table.
 #![tactic(auto)]
 
-ghost use Rattle.std.specs.Prelude.{◌≡◌, ◌<◌, length, get_or, replicate};
+ghost use Rattle.std.specs.Prelude.{◌≡◌, ◌+◌, ◌<◌, length, get_or, set, replicate};
 ghost use Rattle.memory.specs.Layout.{instructions_most};
 ghost use Rattle.records.specs.Records.{none, record_at, row_of, Holds};
 ghost use Rattle.records.specs.Accesses.{Accesses};
@@ -10,7 +10,7 @@ use ids::BlockId;
 use program::{Op, Program, Row};
 
 // An instruction's record, in plain numbers.
-// Stays: they are the six words of its row in the tables, the place and the number of its operands among them.
+// Stays: plain fields are the form that document 01 names for this table ("records over plain-field helpers"); a `Row` would hold the same with enums.
 #[derive(Clone, Copy)]
 pub struct Record {
     pub tag: usize,
@@ -90,6 +90,15 @@ pub fn read(t: &[Record], i: usize) -> Record
     t[i]
 }
 
+// The one function that writes a record of the table: x goes to place n; the next place.
+pub fn append(t: &mut [Record], n: usize, x: Record) -> usize
+    requires { n < length t.old }
+    ensures { (result ≡ n + 1) × (t.new ≡ set t.old n x) }
+{
+    t[n] = x;
+    n + 1
+}
+
 // A table before anything is appended.
 // Stays: there is no heap, so the table is an array that its user keeps.
 pub fn empty() -> [Record; memory::INSTRUCTIONS_MOST]
@@ -104,6 +113,6 @@ pub fn commit(t: &mut [Record], program: &Program)
     ensures { Holds t.new program.now.words.now program.now.counts }
 {
     for k in 0..program.counts.insns {
-        t[k] = Record::drafted(program, k);
+        append(t, k, Record::drafted(program, k));
     }
 }

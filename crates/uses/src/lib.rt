@@ -29,6 +29,7 @@ fn most(op: Op) -> usize
 }
 
 // The users while they are linked, in lent memory. The cells below `free` are not in use.
+// Stays: there is no heap, so each user stands in a cell with the number of the next; a number that is no cell's ends a list.
 #[derive(Drop)]
 struct Cells<'a> {
     words: &'a mut [usize],
@@ -122,6 +123,7 @@ pub fn compute_uses(
     for j in 0..n {
         u[starts + j] = pos;
         let mut h = cells.words[j];
+        // Stays: the cells of an instruction are linked, so no slice has them in their order.
         while let Some(i) = cells.user(h) {
             // There is a place for each use.
             prove!(pos < memory::USES_MOST);

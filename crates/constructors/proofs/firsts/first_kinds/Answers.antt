@@ -11,7 +11,7 @@ pub analyze_ctor-requires : goal.analyze_ctor-requires
 analyze_ctor-requires c = record {
   walk_size_in_bounds = (
     c.requires.walk_size_in_bounds.0,
-    (c.requires.walk_size_in_bounds.1, entry-below c.args.flow.now.entries (ctor_below c.constructor_of.ensures c.in-Some.is) c.fun.ensures.row),
+    (c.requires.walk_size_in_bounds.1, entry-below c.requires.entries (ctor_below c.constructor_of.ensures c.in-Some.is) c.fun.ensures.row),
   );
 }
 

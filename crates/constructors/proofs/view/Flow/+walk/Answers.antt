@@ -5,8 +5,8 @@ use Rattle.constructors.proofs.Walking.{mark-good, mark-falls, next-falls, jump_
 use Rattle.constructors.proofs.view.Flow.+walk.Goals.{walk-in-Return, walk-in-Jump, walk-in-IfTrue}
 use Rattle.constructors.proofs.view.Flow.+walk.Goals as goal
 
-pub walk-visit-k-requires : goal.walk-visit-k-requires
-walk-visit-k-requires t c = rw c.index-at.ensures (
+pub walk-visit-requires : goal.walk-visit-requires
+walk-visit-requires t c = rw c.index-at.ensures (
   mark-falls [] c.args.self.now.indexed.program.counts c.requires.walk_good c.requires.b_lt_blocks c.requires.b_value _ c.decreases,
   (
     mark-good [] c.args.self.now.indexed.program.counts c.requires.walk_good c.requires.b_lt_blocks c.requires.b_value,
@@ -14,8 +14,8 @@ walk-visit-k-requires t c = rw c.index-at.ensures (
   ),
 )
 
-pub walk-visit-m-requires : goal.walk-visit-m-requires
-walk-visit-m-requires t c = rw c.index-at.ensures (
+pub walk-visit-requires-in-IfTrue : goal.walk-visit-requires-in-IfTrue
+walk-visit-requires-in-IfTrue t c = rw c.index-at.ensures (
   mark-falls [] c.args.self.now.indexed.program.counts c.requires.walk_good c.requires.b_lt_blocks c.requires.b_value _ c.decreases,
   (
     mark-good [] c.args.self.now.indexed.program.counts c.requires.walk_good c.requires.b_lt_blocks c.requires.b_value,
@@ -23,24 +23,24 @@ walk-visit-m-requires t c = rw c.index-at.ensures (
   ),
 )
 
-pub walk-visit-k-requires-in-IfTrue : goal.walk-visit-k-requires-in-IfTrue
-walk-visit-k-requires-in-IfTrue t c = (
-  next-falls c.args.self.now.indexed.program.counts c.requires.walk_good c.requires.b_lt_blocks c.requires.b_value (rw c.index-at.ensures at c.visit-m.ensures) _ c.decreases,
+pub walk-visit-requires-in-IfTrue-2 : goal.walk-visit-requires-in-IfTrue-2
+walk-visit-requires-in-IfTrue-2 t c = (
+  next-falls c.args.self.now.indexed.program.counts c.requires.walk_good c.requires.b_lt_blocks c.requires.b_value (rw c.index-at.ensures at c.visit-in-IfTrue.ensures.did) _ c.decreases,
   (
-    c.visit-m.ensures.good,
+    c.visit-in-IfTrue.ensures.did.good,
     else_inside c.requires.walk_good c.requires.b_lt_blocks c.requires.b_value c.end_of.ensures c.args.self.now.inside c.in-IfTrue.is,
   ),
 )
 
-pub walk-returns : goal.walk-returns
-walk-returns t c =
-    walk_is c.requires.walk_good c.requires.b_lt_blocks c.requires.b_value c.end_of.ensures {w2 = c.match-end_of.scratch} {n2 = c.match-end_of.k}
+pub walk-returns-clause-did : goal.walk-returns-clause-did
+walk-returns-clause-did t c =
+    walk_is c.requires.walk_good c.requires.b_lt_blocks c.requires.b_value c.end_of.ensures {w2 = c.match-end_of.order.words.now} {n2 = c.match-end_of.order.done}
     (elim c.match-end_of.branch [
-      | walk-in-Return w ↦ rw (w.scratch-is, w.k-is, c.index-at.ensures)
+      | walk-in-Return w ↦ rw (w.order-is, c.index-at.ensures)
           (onward_none c.requires.walk_good c.requires.b_lt_blocks c.requires.b_value c.end_of.ensures w.in-Return.is)
-      | walk-in-Jump w ↦ rw (w.scratch-is, w.k-is)
-          (onward_jump c.requires.walk_good c.requires.b_lt_blocks c.requires.b_value c.end_of.ensures (rw c.index-at.ensures at w.visit-k.ensures) w.in-Jump.is)
-      | walk-in-IfTrue w ↦ rw (w.scratch-is, w.k-is)
-          (onward_choice c.requires.walk_good c.requires.b_lt_blocks c.requires.b_value c.end_of.ensures (rw c.index-at.ensures at w.visit-m.ensures) w.visit-k-in-IfTrue.ensures
+      | walk-in-Jump w ↦ rw (w.order-is)
+          (onward_jump c.requires.walk_good c.requires.b_lt_blocks c.requires.b_value c.end_of.ensures (rw c.index-at.ensures at w.visit.ensures.did) w.in-Jump.is)
+      | walk-in-IfTrue w ↦ rw (w.order-is)
+          (onward_choice c.requires.walk_good c.requires.b_lt_blocks c.requires.b_value c.end_of.ensures (rw c.index-at.ensures at w.visit-in-IfTrue.ensures.did) w.visit-in-IfTrue-2.ensures.did
           w.in-IfTrue.is)
     ]) refl (rw c.index-at.ensures refl)

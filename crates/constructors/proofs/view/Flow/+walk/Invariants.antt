@@ -4,7 +4,7 @@ use Rattle.constructors.specs.Walks.{unseen}
 use Rattle.constructors.proofs.view.Flow.+walk.Given as goal
 
 abbrev pub decreases-visit : goal.decreases-visit
-decreases-visit l = 2 * unseen l.scratch.now l.self.now.indexed.program.counts.blocks + 1
+decreases-visit l = 2 * unseen l.order.now.words.now l.self.now.indexed.program.counts.blocks + 1
 
 abbrev pub decreases-walk : goal.decreases-walk
-decreases-walk l = 2 * unseen l.scratch.now l.self.now.indexed.program.counts.blocks
+decreases-walk l = 2 * unseen l.order.now.words.now l.self.now.indexed.program.counts.blocks

@@ -4,7 +4,7 @@ use Rattle.constructors.proofs.Meeting.{meet_start, meet_skip, meet_more, meet_d
 use Rattle.constructors.proofs.view.Flow.before.Goals as goal
 
 pub loop-q-init : goal.loop-q-init
-loop-q-init c = (meet_start _ _ _ _ _, c.requires.walk_size_in_bounds.1)
+loop-q-init c = (meet_start _ _ _ _ _, c.requires.i_le_done)
 
 pub loop-q-preserved-then-leads : goal.loop-q-preserved-then-leads
 loop-q-preserved-then-leads c =

@@ -1,10 +1,8 @@
 -- `constructors::view::Flow::named` meets its contract. Assumes nothing.
-use mathlib.Core.Path.{◌≡◌}
 use native.Mathlib.Omega.{arith}
-use Rattle.program.specs.Rows.{ivars_of}
 use Rattle.lookups.specs.Look.{is_ivar, ivar_row}
 use Rattle.ids.proofs.Bits.{one_shl}
-use Rattle.constructors.proofs.Naming.{name-start, name-skip, name-more, name_none, name_some}
+use Rattle.constructors.proofs.Naming.{name-start, name-skip, name-more, name_told}
 use Rattle.constructors.proofs.view.Flow.named.Goals.{then-is_ivar, else-is_ivar}
 use Rattle.constructors.proofs.view.Flow.named.Goals as goal
 
@@ -25,12 +23,5 @@ loop-a-preserved c =
       | else-is_ivar w ↦ rw w.bits-is (name-skip c.loop-a.invariant (omega arith) same w.if-is_ivar.false)
     ]
 
-pub returns-then-bits-eq0 : goal.returns-then-bits-eq0
-returns-then-bits-eq0 c =
-    let end : c.loop-a.a ≡ ivars_of c.args.self.now.indexed.program.words.now c.args.k.0 = omega (arith, c.loop-a.invariant.high, c.ivars_of-a-end.ensures) in
-    name_none _ c.loop-a.invariant end c.requires c.if-bits-eq0.true
-
-pub returns-else-bits-eq0 : goal.returns-else-bits-eq0
-returns-else-bits-eq0 c =
-    let end : c.loop-a.a ≡ ivars_of c.args.self.now.indexed.program.words.now c.args.k.0 = omega (arith, c.loop-a.invariant.high, c.ivars_of-a-end.ensures) in
-    name_some _ c.loop-a.invariant end c.requires c.if-bits-eq0.false
+pub returns : goal.returns
+returns c = name_told _ c.loop-a.invariant (omega (arith, c.loop-a.invariant.high, c.ivars_of-a-end.ensures)) c.requires c.then_some.ensures

@@ -1,8 +1,0 @@
--- The first i operands are copied.
-use Prim.Native.Nat.{◌/◌}
-use lib.ListN.{length}
-use Rattle.program.proofs.Pushing.{Copying}
-use Rattle.program.proofs.writer.copy_opnds.Given as goal
-
-abbrev pub invariant-loop-i : goal.invariant-loop-i
-invariant-loop-i l = Copying l.args (length l.args / 2) l.at l.initial.words l.words l.i
