@@ -3,28 +3,18 @@ use mathlib.Core.Path.{◌≡◌, refl, ap, ◌∙◌}
 use mathlib.Core.List.{List}
 use mathlib.Core.Bool.{Bool}
 use Rattle.std.specs.Prelude.{Result}
-use Rattle.std.specs.Coded.{le_prop}
 use Rattle.refusals.specs.declared.Refusal.{Refusal}
 use Rattle.lexer.specs.declared.Token.{Token}
-use Rattle.lexer.specs.declared.Word.{Word}
 use Rattle.program.specs.declared.Name.{Name}
 use Rattle.program.specs.declared.writer.Draft.{Draft}
 use Prim.Native.Nat.{ℕ}
 use Rattle.rules.specs.Program as P
 use Rattle.rules.specs.Reading.{Reads}
 use Rattle.program.specs.View.{limits_of}
-use Rattle.cursor.specs.Cursor.{Cursor, In}
-use Rattle.cursor.specs.Room.{ReadingRoom}
-use Rattle.cursor.specs.Promises.{Out, CursorDid, Sees, Idents, Expects, CursorMatches}
+use Rattle.cursor.specs.Cursor.{In}
+use Rattle.cursor.specs.Promises.{Out, CursorDid, Idents, Expects, CursorMatches}
 use Rattle.cursor.specs.Parsers.{cursor_of, Reading, ParserKept, AddsKept, placed, ident_in, moved_in, matched_in, ParserIdents, ParserExpects, ParserMatches, ParserDid}
 use Rattle.cursor.specs.declared.Parser.{Parser}
-
--- the same parser further on, with whatever shows that its memories have their room
-abbrev pub put : (p : Parser) → ℕ → ReadingRoom p.script.now p.scratch.now → Parser
-put p at h = record p { at = at; room = h }
-
-pub placed_with : (p : Parser) (at : ℕ) (h : ReadingRoom p.script.now p.scratch.now) → put p at h ≡ placed at p
-placed_with p at h = let once : IsProp (ReadingRoom p.script.now p.scratch.now) = hlevel le_prop in ap (put p at) (once h p.room)
 
 pub kept_none : (p : Parser) → ParserKept p p
 kept_none p = record { script = refl; limits = refl; words_loan = refl; scratch_loan = refl }
@@ -41,6 +31,9 @@ kept_trans a b =
       scratch_loan = b.scratch_loan ∙ a.scratch_loan;
     }
 
+pub adds_trans : {p p1 p2 : Parser} → AddsKept p p1 → AddsKept p1 p2 → AddsKept p p2
+adds_trans a b = record { kept = kept_trans a.kept b.kept; scratch = b.scratch ∙ a.scratch }
+
 -- where script, program and scratch memory are the same
 pub kept_same : {p p1 p2 : Parser} → ParserKept p p1 → p2.script ≡ p1.script → p2.program ≡ p1.program → p2.scratch ≡ p1.scratch → ParserKept p p2
 kept_same k a b e =
@@ -51,7 +44,7 @@ kept_same k a b e =
       scratch_loan = ap (λ z. z.ghost_name) e ∙ k.scratch_loan;
     }
 
-pub kept_placed : {p p' : Parser} {at : ℕ} {h : ReadingRoom p.script.now p.scratch.now} → p' ≡ put p at h → ParserKept p p'
+pub kept_placed : {p p' : Parser} {at : ℕ} → p' ≡ placed at p → ParserKept p p'
 kept_placed e =
     record {
       script = ap (λ (q : Parser). q.script) e;
@@ -77,7 +70,7 @@ pub after_none : (p : Parser) → After p p p.program.words.now p.scratch.now
 after_none p = record { kept = kept_none p; words = refl; scratch = refl }
 
 module _ {p p1 : Parser} {m w : List ℕ} (a : After p p1 m w) where
-  pub after_placed : {p2 : Parser} {at : ℕ} {h : ReadingRoom p1.script.now p1.scratch.now} → p2 ≡ put p1 at h → After p p2 m w
+  pub after_placed : {p2 : Parser} {at : ℕ} → p2 ≡ placed at p1 → After p p2 m w
   after_placed e =
       record {
         kept = kept_trans a.kept (kept_placed e);
@@ -102,9 +95,6 @@ module _ {p p1 : Parser} {m w : List ℕ} (a : After p p1 m w) where
   pub did_of : {A : Type 0} {f : P.Limits → List ℕ → Reads A} {j : ℕ} {p2 : Parser} {o : Out A} → ParserDid f j p1 p2 o
       → CursorDid (f (limits_of p.program.limits) p.script.now) j p.script.now m w (cursor_of p1) p2.program.words.now p2.scratch.now o
   did_of d = rw (a.kept.limits, a.kept.script, a.words, a.scratch) at d.did
-
-  pub sees_of : {c : Cursor} {r : Result Word Refusal} → Sees p1.script.now c r → Sees p.script.now c r
-  sees_of d = rw a.kept.script at d
 
   pub idents_of : {p2 : Parser} {r : Result Name Refusal} → ParserIdents p1 p2 r → Idents p.script.now (cursor_of p1) (ident_in p2 r)
   idents_of d = rw a.kept.script at d.idents

@@ -1,5 +1,4 @@
 pub mod Layout
-pub mod Room
 pub mod Cursor
 pub mod outcomes
 pub mod Steps

@@ -9,7 +9,7 @@ use Rattle.program.specs.View.{limits_of}
 use Rattle.program.specs.declared.Name.{Name}
 use Rattle.program.specs.declared.Opnd.{Opnd}
 use Rattle.cursor.specs.Cursor.{Cursor, In, Open}
-use Rattle.cursor.specs.Promises.{Out, CursorDid, Idents, Expects, CursorMatches, parsed_of}
+use Rattle.cursor.specs.Promises.{Out, CursorDid, Idents, Expects, CursorMatches, parsed_of, parsed_at}
 use Rattle.cursor.specs.outcomes.Parsed.{Parsed}
 use Rattle.cursor.specs.outcomes.Moved.{Moved}
 use Rattle.cursor.specs.outcomes.Ident.{Ident}
@@ -56,8 +56,7 @@ placed at p = record p { at = at }
 -- ---- answers, with the parser behind them
 
 abbrev pub parsed_in : Parser → Result Opnd Refusal → Parsed
-parsed_in p (Ok v) = Parsed.Done (cursor_of p) v
-parsed_in p (Err e) = Parsed.Refused (number_of e)
+parsed_in p r = parsed_at (cursor_of p) r
 
 abbrev pub moved_in : Parser → Result (Unit {0}) Refusal → Moved
 moved_in p (Ok u) = Moved.On (cursor_of p)

@@ -1,11 +1,14 @@
 -- What every reader promises: it does as the rules' action does. Assumes nothing.
 use Rattle.std.specs.Prelude.{Bool as 𝔹, true, false, ◌≡◌, List, [], ◌∷◌, ℕ, ◌+◌, ◌*◌, ◌≤◌, ◌<◌, length, get_or}
-use Rattle.std.specs.Prelude.{Result}
+use Rattle.std.specs.Prelude.{Option, Some, None, Result, Ok, Err}
 use Rattle.refusals.specs.declared.Refusal.{Refusal}
+use Rattle.refusals.specs.Refusals.{number_of}
 use Prim.Native.String.{String}
+use Rattle.ids.specs.declared.ClassId.{ClassId}
 use Rattle.rules.specs.Actions.{Answer, answered, refused, ◌>>=◌, ◌>>◌, give, ask, when◌then◌else◌}
 use Rattle.rules.specs.Lists.{bytes, same}
 use Rattle.rules.specs.Program as P
+use Rattle.rules.specs.Words.{is_literal}
 use Rattle.rules.specs.Reading.{Parser, Reads, peek, pass, next, expect, expect_ident, match_token}
 use Rattle.lexer.specs.Lexed.{token_of, same_token, Lexes}
 use Rattle.lexer.specs.declared.Token.{Token}
@@ -14,12 +17,13 @@ use Rattle.program.specs.Rows.{opnd_of, name_in}
 use Rattle.variables.specs.Memory.{entry}
 use Rattle.program.specs.View as View
 use Rattle.program.specs.View.{Puts}
+use Rattle.program.specs.declared.Counts.{Counts}
 use Rattle.program.specs.declared.Opnd.{Opnd}
 use Rattle.program.specs.declared.Name.{Name}
 use Rattle.variables.specs.Layout.{bindings_most, entries_most}
 use Rattle.cursor.specs.Layout.{stack_at}
 use Rattle.cursor.specs.Cursor.{Cursor, parser_of, move_cur, count_cur, bind_cur, stack_cur, In, CursorStep}
-use Rattle.cursor.specs.Steps.{assigns}
+use Rattle.cursor.specs.Steps.{assigns, means}
 use Rattle.cursor.specs.outcomes.Parsed.{Parsed}
 use Rattle.cursor.specs.outcomes.Parsed.{Done, Refused}
 use Rattle.cursor.specs.outcomes.Moved.{Moved}
@@ -111,6 +115,14 @@ expect_kind s k = do
   w ← next s
   ask 5 (same_token (token_of w.text) k)
 
+-- a literal, whatever number it writes
+unfoldable pub match_literal : List ℕ → Reads 𝔹
+match_literal s = do
+  w ← peek s
+  when is_literal w then (do
+    pass s
+    give true) else give false
+
 -- a name, which lies inside of the script
 pub record Idents (s : List ℕ) (c : Cursor) (r : Ident) : Type 0 where
   pub moves : Moves (expect_ident s) 1 s c (ident_of s r)
@@ -124,6 +136,45 @@ pub record CursorMatches (s : List ℕ) (k : Token) (c : Cursor) (r : Matched) :
   pub takes : Moves (match_kind s k) 0 s c (matched_of c r)
   pub moves : (t : String) → Spelt k t → Moves (match_token s t) 0 s c (matched_of c r)
   pub further : (c' : Cursor) → r ≡ Matched.Yes c' → c.at < c'.at
+
+pub record LiteralMatches (s : List ℕ) (c : Cursor) (r : Matched) : Type 0 where
+  pub takes : Moves (match_literal s) 0 s c (matched_of c r)
+  pub further : (c' : Cursor) → r ≡ Matched.Yes c' → c.at < c'.at
+
+-- ---- the same of a script and a place, for every cursor that stands there
+
+-- the word x is the one that is taken
+abbrev pub named_by : Cursor → Word → Result Name Refusal → Ident
+named_by c x (Ok n) = Ident.Found (move_cur x.next c) n
+named_by c x (Err e) = Ident.Refused (number_of e)
+
+abbrev pub ident_at : Cursor → Result (Name × ℕ) Refusal → Ident
+ident_at c (Ok n) = Ident.Found (move_cur n.1 c) n.0
+ident_at c (Err e) = Ident.Refused (number_of e)
+
+abbrev pub matched_to : Cursor → Option ℕ → Matched
+matched_to c (Some n) = Matched.Yes (move_cur n c)
+matched_to c None = Matched.Not
+
+abbrev pub matched_at : Cursor → Result (Option ℕ) Refusal → Matched
+matched_at c (Ok o) = matched_to c o
+matched_at c (Err e) = Matched.Refused (number_of e)
+
+abbrev pub moved_at : Cursor → Result ℕ Refusal → Moved
+moved_at c (Ok n) = Moved.On (move_cur n c)
+moved_at c (Err e) = Moved.Refused (number_of e)
+
+abbrev pub NameAt : List ℕ → ℕ → Result (Name × ℕ) Refusal → Type 0
+NameAt s at r = (c : Cursor) → c.at ≡ at → Idents s c (ident_at c r)
+
+abbrev pub MatchAt : List ℕ → Token → ℕ → Result (Option ℕ) Refusal → Type 0
+MatchAt s k at r = (c : Cursor) → c.at ≡ at → CursorMatches s k c (matched_at c r)
+
+abbrev pub NumberAt : List ℕ → ℕ → Result (Option ℕ) Refusal → Type 0
+NumberAt s at r = (c : Cursor) → c.at ≡ at → LiteralMatches s c (matched_at c r)
+
+abbrev pub ExpectAt : List ℕ → Token → ℕ → Result ℕ Refusal → Type 0
+ExpectAt s k at r = (c : Cursor) → c.at ≡ at → Expects s k c (moved_at c r)
 
 -- ---- the steps behind the words
 
@@ -147,3 +198,25 @@ pub record Assigns (s : List ℕ) (n : Name) (v : Opnd) (c : Cursor) (w w' : Lis
 pub record Stacks (v : Opnd) (c : Cursor) (w w' : List ℕ) (r : Cursor) : Type 0 where
   pub cur : r ≡ stack_cur (c.args + 1) c
   pub puts : Puts (stack_at + 2 * c.args) (v ∷ []) w w'
+
+-- ---- the same of scratch memory and a number, for every cursor that has the number
+
+abbrev pub StacksAt : ℕ → Opnd → List ℕ → List ℕ → ℕ → Type 0
+StacksAt n v w w' k = (c : Cursor) → c.args ≡ n → Stacks v c w w' (stack_cur k c)
+
+abbrev pub bound_to : Cursor → Opnd → Result (Unit {0}) Refusal → Parsed
+bound_to c v (Ok u) = Done (bind_cur c) v
+bound_to c v (Err e) = Refused (number_of e)
+
+abbrev pub AssignsAt : List ℕ → Name → Opnd → ℕ → List ℕ → List ℕ → Result (Unit {0}) Refusal → Type 0
+AssignsAt s n v k w w' r = (c : Cursor) → c.vars ≡ k → Assigns s n v c w w' (bound_to c v r)
+
+-- ---- what a name means, for every cursor with the class, the counts and so many variables
+
+abbrev pub parsed_at : Cursor → Result Opnd Refusal → Parsed
+parsed_at c (Ok v) = Done c v
+parsed_at c (Err e) = Refused (number_of e)
+
+abbrev pub MeansAt : Name → Option ClassId → ℕ → List ℕ → List ℕ → Counts → List ℕ → Result Opnd Refusal → Type 0
+MeansAt n x v s m k w r =
+    (c : Cursor) → c.class ≡ x → c.vars ≡ v → c.counts ≡ k → In s m w c → CursorDid (means (name_in s n)) 0 s m w c m w (parsed_of (parsed_at c r))

@@ -2,8 +2,9 @@
 #![tactic(auto)]
 
 pub mod terms;
+pub mod words;
 
-ghost use Rattle.std.specs.Prelude.{◌≡◌, List, map, ℕ, ◌+◌, ◌≤◌, ◌<◌, pos, length, Ok};
+ghost use Rattle.std.specs.Prelude.{◌≡◌, List, map, ℕ, ◌+◌, ◌≤◌, ◌<◌, length, Ok};
 ghost use Rattle.kinds.specs.declared.Kind.TheVariants.{Num};
 ghost use Rattle.lexer.specs.declared.Token.TheVariants.{EndOfText};
 ghost use Rattle.rules.specs.Program as P;
@@ -11,10 +12,10 @@ ghost use Rattle.rules.specs.Reading.{push as push_of};
 ghost use Rattle.program.specs.Rows.{opnd_of, op_in, given, name_in};
 ghost use Rattle.program.specs.View.{limits_of, callee_in};
 ghost use Rattle.memory.specs.Layout.{operands_most};
-ghost use Rattle.cursor.specs.Room.{ReadingRoom};
+ghost use Rattle.cursor.specs.Layout.{scratch_size};
 ghost use Rattle.cursor.specs.Cursor.{waiting};
 ghost use Rattle.cursor.specs.Steps.{sets_ivar, gets_ivar, calls, reads_attr, operator_of, weigh as weigh_of};
-ghost use Rattle.cursor.specs.Promises.{Sees, CursorAdds, Stacks};
+ghost use Rattle.cursor.specs.Promises.{Sees, CursorAdds, Stacks, StacksAt};
 
 use ids::{BlockId, ClassId, InsnId};
 use kinds::{Arith, Kind};
@@ -40,7 +41,6 @@ pub struct Parser<'a> {
     pub vars: usize,
     pub aside: usize,
     pub args: usize,
-    pub ghost room: { ReadingRoom script.now scratch.now },
 }
 
 impl<'a> Parser<'a> {
@@ -69,48 +69,17 @@ impl<'a> Parser<'a> {
     pub fn take_name(&mut self, x: Word) -> Result<Name, Refusal>
         ensures { Sees self.old.script.now (cursor_of self.old) (Ok x) → ParserIdents self.old self.new result }
     {
-        if x.token == Token::Name {
-            self.at = x.next;
-            return Ok(Name {
-                start: x.start,
-                len: x.len,
-            });
-        }
-        Err(Refusal::UnexpectedWord)
+        let n = words::name_of(x)?;
+        self.at = x.next;
+        Ok(n)
     }
 
     pub fn expect_ident(&mut self) -> Result<Name, Refusal>
         ensures { ParserIdents self.old self.new result }
     {
-        let x = self.peek()?;
-        self.take_name(x)
-    }
-
-    // Stays: the end of text is one of the words, for the reason that stands there, and is never asked for.
-    fn match_word(&mut self, k: Token) -> Result<bool, Refusal>
-        requires { k ≡ EndOfText → ⊥ }
-        ensures { ParserMatches k self.old self.new result }
-    {
-        let x = self.peek()?;
-        if x.token == k {
-            self.at = x.next;
-            return Ok(true);
-        }
-        Ok(false)
-    }
-
-    // The same of a sign, for which a glance is enough.
-    fn match_sign(&mut self, k: u8) -> Result<bool, Refusal>
-        ensures { ParserMatches (Token.Sign k) self.old self.new result }
-    {
-        let Some((b, next)) = lexer::glance(self.script, self.at)? else {
-            return Ok(false);
-        };
-        if b == k {
-            self.at = next;
-            return Ok(true);
-        }
-        Ok(false)
+        let (n, next) = words::expect_ident(self.script, self.at)?;
+        self.at = next;
+        Ok(n)
     }
 
     // Whether the next word is the one asked for; if so it is taken.
@@ -118,10 +87,11 @@ impl<'a> Parser<'a> {
         requires { k ≡ EndOfText → ⊥ }
         ensures { ParserMatches k self.old self.new result }
     {
-        if let Token::Sign(b) = k {
-            return self.match_sign(b);
-        }
-        self.match_word(k)
+        let Some(next) = words::match_token(self.script, self.at, k)? else {
+            return Ok(false);
+        };
+        self.at = next;
+        Ok(true)
     }
 
     // The word k is taken.
@@ -129,22 +99,18 @@ impl<'a> Parser<'a> {
         requires { k ≡ EndOfText → ⊥ }
         ensures { ParserExpects k self.old self.new result }
     {
-        if self.match_token(k)? {
-            Ok(())
-        } else {
-            Err(Refusal::UnexpectedWord)
-        }
+        self.at = words::expect(self.script, self.at, k)?;
+        Ok(())
     }
 }
 
 // ---- names and operands
 
-// A literal's operand.
-pub fn number(n: u64) -> Opnd
-    requires { n < 9223372036854775808 }
-    ensures { opnd_of result ≡ P.Const (Num (pos n)) }
+// A number as an operand.
+pub fn number(n: i64) -> Opnd
+    ensures { opnd_of result ≡ P.Const (Num n) }
 {
-    Opnd::Const(Kind::Num(n as i64))
+    Opnd::Const(Kind::Num(n))
 }
 
 // The operator that a sign is, and how tightly one on its right side has to bind; none where it binds less tightly than prec itself.
@@ -190,16 +156,18 @@ impl<'a> Parser<'a> {
     // A call with the n arguments that stand behind those that wait.
     pub fn push_call(&mut self, callee: Callee, n: usize) -> Result<Opnd, Refusal>
         requires can { CanAdd self.old }
+        requires scratch_size_in_bounds { scratch_size ≤ length self.old.scratch.now }
         requires n_bound { self.old.args + n ≤ operands_most }
         ensures kept { AddsKept self.old self.new }
         ensures adds { (s : List ℕ) → CursorAdds s self.old.scratch.now
             (push_of (limits_of self.old.program.limits) (P.Send (callee_in s callee) (waiting self.old.scratch.now self.old.args n)))
             self.old.program.words.now (cursor_of self.old) self.new.program.words.now (operand self.new result) }
     {
-        let b = self.block;
         let at = STACK + 2 * self.args;
-        let args = &mut *self.scratch;
-        let i = self.program.push_call(b, callee, args, at, n)?;
+        // Shared as a whole and then cut: of a part that the field itself lends, the check doesn't know that it is left as it was.
+        let scratch: &[usize] = &mut *self.scratch;
+        let args = &scratch[at..at + 2 * n];
+        let i = self.program.push_call(self.block, callee, args)?;
         Ok(Opnd::Insn(i))
     }
 
@@ -233,8 +201,7 @@ impl<'a> Parser<'a> {
             (reads_attr (limits_of self.old.program.limits) (opnd_of v) (name_in self.old.script.now n))
             self.old.program.words.now (cursor_of self.old) self.new.program.words.now (operand self.new result) }
     {
-        let name = lexer::bytes_at(self.script, n.start, n.len);
-        if lexer::same_bytes(name, b"new") {
+        if lexer::same_bytes(n.of(self.script), b"new") {
             return Err(Refusal::NotCallable);
         }
         self.push(Op::GetIvar(n), Given::One(v))
@@ -243,6 +210,7 @@ impl<'a> Parser<'a> {
     // A call of the function that v names.
     pub fn bare_call(&mut self, v: Opnd, n: usize) -> Result<Opnd, Refusal>
         requires can { CanAdd self.old }
+        requires scratch_size_in_bounds { scratch_size ≤ length self.old.scratch.now }
         requires n_bound { self.old.args + n ≤ operands_most }
         ensures kept { AddsKept self.old self.new }
         ensures adds { (s : List ℕ) → CursorAdds s self.old.scratch.now
@@ -255,15 +223,24 @@ impl<'a> Parser<'a> {
         }
     }
 
-    // ---- the stack of arguments that wait
-
+    // An argument waits behind those that do.
     pub fn push_arg(&mut self, v: Opnd)
-        requires { self.old.args < operands_most }
+        requires scratch_size_in_bounds { scratch_size ≤ length self.old.scratch.now }
+        requires args_bound { self.old.args < operands_most }
         ensures kept { ParserKept self.old self.new }
         ensures program { self.new.program ≡ self.old.program }
         ensures stacks { Stacks v (cursor_of self.old) self.old.scratch.now self.new.scratch.now (cursor_of self.new) }
     {
-        program::put_opnd(self.scratch, STACK + 2 * self.args, v);
-        self.args += 1;
+        self.args = push_arg(self.scratch, self.args, v);
     }
+}
+
+// An argument waits behind n others; so many wait then.
+pub fn push_arg(scratch: &mut [usize], n: usize, v: Opnd) -> usize
+    requires scratch_size_in_bounds { scratch_size ≤ length scratch.old }
+    requires n_bound { n < operands_most }
+    ensures { StacksAt n v scratch.old scratch.new result }
+{
+    program::put_opnd(scratch, STACK + 2 * n, v);
+    n + 1
 }

@@ -3,3 +3,4 @@ pub mod Stack
 pub mod Ways
 pub mod Turns
 pub mod Standing
+pub mod Readers

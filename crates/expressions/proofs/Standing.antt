@@ -58,10 +58,6 @@ module _ {p p1 : Parser} {m w : List ℕ} (a : After p p1 m w) where
       → ArgDid (limits_of p.program.limits) p.script.now (E (limits_of p.program.limits) p.script.now) m w (cursor_of p1) p2.program.words.now p2.scratch.now (arg_in p2 r)
   arg_at d = rw (a.kept.limits, a.kept.script, a.words, a.scratch) at d.did
 
-  pub args_at : {f : P.Limits → List ℕ → Reads (List P.Opnd)} {p2 : Parser} {r : Result ℕ Refusal} → ParserArgs f p1 p2 r
-      → ArgsDid (f (limits_of p.program.limits) p.script.now) p.script.now m w (cursor_of p1) p2.program.words.now p2.scratch.now (args_in p2 r)
-  args_at d = rw (a.kept.limits, a.kept.script, a.words, a.scratch) at d.did
-
   pub suffix_at : {f : P.Limits → List ℕ → Reads (Turn P.Opnd P.Opnd)} {v : Opnd} {p2 : Parser} {r : Result (Option Opnd) Refusal} → ParserSuffix f v p1 p2 r
       → SuffixDid (f (limits_of p.program.limits) p.script.now) v p.script.now m w (cursor_of p1) p2.program.words.now p2.scratch.now (suffix_in p2 r)
   suffix_at d = rw (a.kept.limits, a.kept.script, a.words, a.scratch) at d.did

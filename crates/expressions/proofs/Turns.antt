@@ -2,19 +2,17 @@
 use mathlib.Core.Bool.{Bool, true, false, cond}
 use mathlib.Core.Option.{Option, none, some}
 use mathlib.Core.Path.{◌≡◌, refl, sym, ap, ◌∙◌}
-use mathlib.Core.List.{List, [], ◌∷◌, ◌++◌, map}
+use mathlib.Core.List.{List, [], ◌∷◌, ◌++◌}
 use Prim.Native.Nat.{ℕ, ◌+◌, ◌-◌, ◌*◌, ◌≤◌, ◌<◌}
 use Prim.Native.String.{String}
 use native.Mathlib.Omega.{arith}
 use lib.Dec.{eqb, ltb}
-use lib.ListN.{length}
 use Rattle.kinds.specs.declared.Arith.{Arith}
 use Rattle.kinds.specs.declared.Arith.TheVariants.{Add, Sub, Mul, Less}
 use Rattle.rules.specs.Actions.{answered, Turn, again, ends, loop, when◌then◌else◌, give}
 use Rattle.rules.specs.Program as P
 use Rattle.rules.specs.Words.{is}
-use Rattle.rules.specs.Reading.{Parser, Reads, pass, expect, match_token, turns, push, Operator, operator, on_with, parse_arg, parse_args, parse_call, parse_member, parse_right, parse_suffix}
-use Rattle.rules.specs.Reading.{send}
+use Rattle.rules.specs.Reading.{Parser, Reads, pass, expect, turns, Operator, operator, on_with, parse_arg, parse_args, parse_call, parse_member, parse_right, parse_suffix}
 use Rattle.lexer.specs.Lexed.{text_of, word_in, Glances}
 use Rattle.std.specs.Prelude.{Option as Maybe, Some, None, Result, Ok, Err}
 use Rattle.refusals.specs.declared.Refusal.{Refusal}
@@ -23,45 +21,24 @@ use Rattle.lexer.specs.declared.Token.TheVariants as T
 use Rattle.lexer.specs.declared.Word.{Word}
 use Rattle.lexer.proofs.Lexes.{signed, unsigned, unseen}
 use Rattle.lexer.proofs.Texts.{byte_of, same_sign, byte_none}
-use Rattle.program.specs.Rows.{opnds_in, opnd_of, op_in, given, name_in}
+use Rattle.program.specs.Rows.{opnds_in, opnd_of}
 use Rattle.program.specs.Tab.{tab}
-use Rattle.program.specs.declared.Name.{Name}
 use Rattle.program.specs.declared.Opnd.{Opnd}
-use Rattle.program.specs.declared.Op.TheVariants.{Compute}
-use Rattle.program.specs.declared.Given.TheVariants.{Two}
 use Rattle.cursor.specs.Cursor.{parser_of, waiting, move_cur, stack_cur, In, CursorStep}
-use Rattle.cursor.specs.Steps.{calls, reads_attr}
-use Rattle.cursor.specs.Promises.{Out, CursorDid, CursorAdds, Stacks, Sees, Idents, Expects, CursorMatches, Spelt, parsed_of}
+use Rattle.cursor.specs.Promises.{CursorDid, Stacks, Sees, Expects, CursorMatches, Spelt, parsed_of}
 use Rattle.cursor.specs.Cursor.{Cursor}
 use Rattle.cursor.specs.outcomes.Parsed.{Parsed, Done, Refused}
 use Rattle.cursor.specs.outcomes.Moved.{Moved}
-use Rattle.cursor.specs.outcomes.Ident.{Ident}
 use Rattle.cursor.specs.outcomes.Matched.{Matched}
-use Rattle.cursor.proofs.Laws.{step-none, step_less, step_trans, Acted, got, gave, refuses, arrives, ends_as, added_did}
+use Rattle.cursor.proofs.Laws.{step-none, step_less, step_trans, Acted, got, gave, refuses, arrives}
 use Rattle.cursor.proofs.Wording.{is-yes, is_no, spelt_open, spelt_close, spelt_comma, spelt_plus, spelt_minus, spelt_times, spelt_less, spelt_dot, word_read, peek-found, peek-none, glanced}
-use Rattle.memory.specs.Layout.{operands_most}
-use Rattle.cursor.specs.Layout.{scratch_size}
-use Rattle.expressions.specs.Readers.{again_of, taken_of, ArgDid, args_of, ArgsDid, suffixed_of, SuffixDid}
+use Rattle.expressions.specs.Readers.{again_of, taken_of, ArgDid, ArgsDid, suffixed_of, SuffixDid}
 use Rattle.expressions.specs.outcomes.ArgTurn.{ArgTurn}
 use Rattle.expressions.specs.outcomes.Args.{Args}
 use Rattle.expressions.specs.outcomes.Suffixed.{Suffixed}
 use Rattle.expressions.proofs.Loops.{Loops, loops_start, loops_on, loops_end, loops_stop}
 use Rattle.expressions.proofs.Stack.{height_free, waiting-same, stacks_args, stacks_at, stacks_more, stacks_state, stacks_in, stacks_step, step_height, step_from}
-use Rattle.expressions.proofs.Ways.{
-  ident_went,
-  match_went,
-  match_not,
-  match_gave,
-  expect-went,
-  expect_gave,
-  Suffix,
-  weighed as made,
-  suffix_of,
-  suffix_low,
-  operator-passed,
-  call-passed,
-  member_passed,
-}
+use Rattle.expressions.proofs.Ways.{match_went, match_not, match_gave, expect-went, expect_gave, Suffix, weighed as made, suffix_of, suffix_low, sign_passed}
 
 module _ (L : P.Limits) (s : List ℕ) (E : ℕ → Reads P.Opnd) where
   -- ---- one argument
@@ -92,9 +69,6 @@ module _ (L : P.Limits) (s : List ℕ) (E : ℕ → Reads P.Opnd) where
 
           room : 2 * (c1.args + 1) ≤ c1.at
           room = omega (arith, at_arg.step.args, at_arg.step.on)
-
-          pub arg_room : (scratch_size ≤ length w1) × (c1.args < operands_most)
-          arg_room = (at_arg.here.ready.scratch, omega (arith, room, at_arg.here.ready.inside, at_arg.here.ready.script))
 
           module _ {c2 : Cursor} {w2 : List ℕ} (st : Stacks v c1 w1 w2 c2) where
             pub arg_here : In s m1 w2 c2
@@ -189,9 +163,6 @@ module _ (L : P.Limits) (s : List ℕ) (E : ℕ → Reads P.Opnd) where
       gone : ArgDid L s E m w c m1 w1 (ArgTurn.Again c1)
       gone = rw e at d
 
-      pub args-less : length s - c1.at < length s - c.at
-      args-less = omega (arith, gone.ok.0.step.on, gone.ok.0.here.ready.inside)
-
       pub args-again : ArgsInv m₀ w₀ c₀ m1 w1 c1
       args-again =
           let g = gone.ok.0 in
@@ -274,78 +245,6 @@ module _ (L : P.Limits) (s : List ℕ) (E : ℕ → Reads P.Opnd) where
                     let u : c'.args ≡ c₀.args = ap (λ (d : Cursor). d.args) y in
                     omega (arith, args_high, at-close.here.ready.args, at-close.here.ready.inside, at-close.here.ready.script);
               })
-
-  -- ---- calls
-
-  module _ {m w m1 w1 : List ℕ} {c : Cursor} {t : Args} (v : P.Opnd) (d : ArgsDid (parse_args L s E) s m w c m1 w1 t) where
-    pub call_no : {n : ℕ} → t ≡ Args.Refused n → CursorDid (parse_call L s E v) 1 s m w c m1 w1 (parsed_of (Refused n))
-    unfolding parse_call
-    call_no e = refuses (rw (← gave d.did (ap (args_of w1 c.args) e)))
-
-    module _ {c1 : Cursor} {n : ℕ} (e : t ≡ Args.Done c1 n) where
-      at-args : Acted (parse_args L s E) 1 s m w c m1 w1 (waiting w1 c.args n) c1
-      at-args = got d.did (ap (args_of w1 c.args) e)
-
-      pub call-here : In s m1 w1 c1
-      call-here = at-args.here
-
-      pub call-room : (scratch_size ≤ length w1) × (c1.args + n ≤ operands_most)
-      call-room = (call-here.ready.scratch, d.few c1 n e)
-
-      pub call-yes : {m2 : List ℕ} {o : Out P.Opnd} → ((z : List ℕ) → CursorAdds z w1 (calls L v (waiting w1 c1.args n)) m1 c1 m2 o) → CursorDid (parse_call L s E v) 1 s m w c m2 w1 o
-      unfolding parse_call calls
-      call-yes a =
-          ends_as at-args.step (omega arith) (added_did (a s) call-here)
-          (ap (λ k. calls L v (waiting w1 k n) (parser_of s m1 w1 c1)) at-args.step.args ∙ rw (← at-args.is))
-
-  -- ---- members
-
-  module _ {m w : List ℕ} {c : Cursor} {i : Ident} (v : P.Opnd) (h : In s m w c) (x : Idents s c i) {c1 : Cursor} {n : Name}
-      (e : i ≡ Ident.Found c1 n) {q : Matched} (y : CursorMatches s (T.Sign 40) c1 q) where
-    pub member_no2 : {m' w' : List ℕ} {k : ℕ} → q ≡ Matched.Refused k → CursorDid (parse_member L s E v) 1 s m w c m' w' (parsed_of (Refused k))
-    unfolding parse_member
-    member_no2 f = refuses (rw (← (ident_went h x e).is, ← match_gave (ident_went h x e).here "(" y spelt_open f))
-
-    pub member_read : {m1 : List ℕ} {o : Out P.Opnd} → q ≡ Matched.Not → ((u : List ℕ) → CursorAdds s u (reads_attr L v (name_in s n)) m c1 m1 o) → CursorDid (parse_member L s E v) 1 s m w c m1 w o
-    unfolding parse_member reads_attr
-    member_read f a =
-        ends_as (ident_went h x e).step (omega arith) (added_did (a w) (ident_went h x e).here) (rw (← (ident_went h x e).is, ← match_not (ident_went h x e).here "(" y spelt_open f))
-
-    module _ {c2 : Cursor} (f : q ≡ Matched.Yes c2) where
-      at_open : Acted (match_token s "(") 1 s m w c1 m w true c2
-      at_open = match_went (ident_went h x e).here "(" y spelt_open f
-
-      pub open_args : In s m w c2
-      open_args = at_open.here
-
-      pub open_room : 2 * c2.args < c2.at
-      open_room = omega (arith, at_open.step.args, at_open.step.on, (ident_went h x e).here.ready.args)
-
-      module _ {m1 w1 : List ℕ} {t : Args} (d : ArgsDid (parse_args L s E) s m w c2 m1 w1 t) where
-        pub member_no3 : {k : ℕ} → t ≡ Args.Refused k → CursorDid (parse_member L s E v) 1 s m w c m1 w1 (parsed_of (Refused k))
-        unfolding parse_member
-        member_no3 g = refuses (rw (← (ident_went h x e).is, ← at_open.is, ← gave d.did (ap (args_of w1 c2.args) g)))
-
-        pub member_send : {c3 : Cursor} {k : ℕ} → t ≡ Args.Done c3 k → {m2 w2 : List ℕ} {o : Out P.Opnd}
-            → CursorDid (send L s E v (name_in s n) (waiting w1 c3.args k)) 0 s m1 w1 c3 m2 w2 o → CursorDid (parse_member L s E v) 1 s m w c m2 w2 o
-        unfolding parse_member
-        member_send {c3 = c3} {k = k} g a =
-            let b = got d.did (ap (args_of w1 c2.args) g) in
-            ends_as (step_trans (step_trans (ident_went h x e).step at_open.step) b.step) (omega arith) a
-            (ap (λ z. send L s E v (name_in s n) (waiting w1 z k) (parser_of s m1 w1 c3)) b.step.args ∙ rw (← (ident_went h x e).is, ← at_open.is, ← b.is))
-
-  -- ---- operators
-
-  module _ {m w m1 w1 : List ℕ} {c : Cursor} {p : Parsed} (v : Opnd) (o : Arith) (right : ℕ) (d : CursorDid (E right) 1 s m w c m1 w1 (parsed_of p)) where
-    pub right_no : {n : ℕ} → p ≡ Refused n → CursorDid (parse_right L s E (operator o 0 right) (opnd_of v)) 1 s m w c m1 w1 (parsed_of (Refused n))
-    unfolding parse_right
-    right_no e = refuses (rw (← gave d (ap parsed_of e)))
-
-    pub right-yes : {c1 : Cursor} {x : Opnd} {m2 : List ℕ} {a : Out P.Opnd} → p ≡ Done c1 x
-        → ((z u : List ℕ) → CursorAdds z u (push L (op_in z (Compute o) (map opnd_of (given (Two v x))))) m1 c1 m2 a)
-        → CursorDid (parse_right L s E (operator o 0 right) (opnd_of v)) 1 s m w c m2 w1 a
-    unfolding parse_right
-    right-yes e f = let b = got d (ap parsed_of e) in ends_as b.step (omega arith) (added_did (f s w1) b.here) (rw (← b.is))
 
   -- ---- one thing behind an operand
 
@@ -455,18 +354,18 @@ module _ (L : P.Limits) (s : List ℕ) (E : ℕ → Reads P.Opnd) where
           pub suffix_operator : {o : Arith} {right : ℕ} → q ≡ Suffix.Operator o right → CursorDid (parse_right L s E (operator o 0 right) (opnd_of v)) 1 s m w c' m1 w1 (parsed_of p)
               → SuffixDid (parse_suffix L s E prec (opnd_of v)) v s m w c m1 w1 (again_of p)
           suffix_operator f d =
-              let a = operator-passed prec h l e t f j in
+              let a = sign_passed h l e j in
               on-ok _ p a d (rw f at sign-is)
 
           pub suffix_call : q ≡ Suffix.Call → CursorDid (parse_call L s E (opnd_of v)) 1 s m w c' m1 w1 (parsed_of p) → SuffixDid (parse_suffix L s E prec (opnd_of v)) v s m w c m1 w1 (again_of p)
           suffix_call f d =
-              let a = call-passed prec h l e t f j in
+              let a = sign_passed h l e j in
               on-ok _ p a d (rw f at sign-is)
 
           pub suffix_member : q ≡ Suffix.Member → CursorDid (parse_member L s E (opnd_of v)) 1 s m w c' m1 w1 (parsed_of p)
               → SuffixDid (parse_suffix L s E prec (opnd_of v)) v s m w c m1 w1 (again_of p)
           suffix_member f d =
-              let a = member_passed prec h l e t f j in
+              let a = sign_passed h l e j in
               on-ok _ p a d (rw f at sign-is)
 
   -- ---- all that follows an operand
@@ -486,9 +385,6 @@ module _ (L : P.Limits) (s : List ℕ) (E : ℕ → Reads P.Opnd) where
       at_next : Acted (parse_suffix L s E prec (opnd_of v)) 0 s m w c m1 w1 (again (opnd_of v1)) c1
       at_next = got d.did (ap (suffixed_of c v) e)
 
-      pub suffixes_less : length s - c1.at < length s - c.at
-      suffixes_less = omega (arith, d.further c1 v1 e, at_next.here.ready.inside)
-
       pub suffixes_again : SuffixInv prec m₀ w₀ c₀ v₀ m1 w1 c1 v1
       suffixes_again =
           record {
@@ -496,13 +392,6 @@ module _ (L : P.Limits) (s : List ℕ) (E : ℕ → Reads P.Opnd) where
             here = at_next.here;
             step = step_trans i.step at_next.step;
           }
-
-    pub suffixes_done : {c' : Cursor} → c' ≡ c → r ≡ Suffixed.Ends
-        → CursorDid (loop (parse_suffix L s E prec) (turns s) (opnd_of v₀)) 0 s m₀ w₀ c₀ m1 w1 (parsed_of (Done c' v))
-    suffixes_done f e =
-        let a = got d.did (ap (suffixed_of c v) e) in
-        rw f
-        (arrives (step_trans i.step a.step) (omega arith) a.here (loops_end (parse_suffix L s E prec) s i.loops i.here.ready.inside _ _ a.is))
 
     pub suffixes_no : {n : ℕ} → r ≡ Suffixed.Refused n → CursorDid (loop (parse_suffix L s E prec) (turns s) (opnd_of v₀)) 0 s m₀ w₀ c₀ m1 w1 (parsed_of (Refused n))
     suffixes_no e = refuses (loops_stop (parse_suffix L s E prec) s i.loops i.here.ready.inside _ (gave d.did (ap (suffixed_of c v) e)))

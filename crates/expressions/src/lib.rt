@@ -15,7 +15,7 @@ use lexer::{Token, Word};
 use program::{Given, Op, Opnd};
 use refusals::Refusal;
 
-// Stays: `Reading` is a fact of a moment, inside of a function and before any refusal, which no field can say.
+// Stays: `Reading` holds inside of a function, up to a refusal; what a field says would have to hold before, between and behind them too.
 
 #[cycle(expression)]
 fn parse_group(p: &mut Parser, depth: usize) -> Result<Opnd, Refusal>
@@ -40,7 +40,8 @@ fn parse_ivar(p: &mut Parser, depth: usize) -> Result<Opnd, Refusal>
     p.get_ivar(n)
 }
 
-// Stays: that x is the next word ties it to the parser's place; without x the word would be read twice.
+// Stays: the clause is about two values, that x is the next word of p; a struct of both would be made for one call and taken apart in it, and
+// without x the word would be read twice.
 
 // From the word x on, which is the next.
 #[cycle(expression)]
@@ -79,7 +80,7 @@ fn parse_primary(p: &mut Parser, x: Word, depth: usize) -> Result<Opnd, Refusal>
     parse_name(p, x, depth)
 }
 
-// Stays: that one more argument can wait is a fact of the moment behind a `(` or a comma.
+// Stays: `args_bound` holds behind a `(` or a comma, whose byte pays for one more argument, and no longer behind the argument; a field would have to hold there too.
 
 // One argument, if there is one: whether a comma stands behind it, so that there may be another.
 #[cycle(expression)]

@@ -9,7 +9,7 @@ use Rattle.ids.specs.declared.FunId.{FunId}
 use Rattle.rules.specs.Actions.{answered, loop}
 use Rattle.rules.specs.Program as P
 use Rattle.rules.specs.Reading as R
-use Rattle.rules.specs.Reading.{Parser, push_params, parse_param, turns, parse_statements, parse_statement, end_block, new_fun, parse_fun}
+use Rattle.rules.specs.Reading.{push_params, parse_param, turns, parse_statements, parse_statement, end_block, new_fun, parse_fun}
 use Rattle.variables.specs.Scopes.{over}
 use Rattle.variables.specs.Memory.{made}
 use Rattle.program.specs.Rows.{opnd_of, name_in}
@@ -174,9 +174,6 @@ module _ (l : Limits) {s m w : List ℕ} {c : Cursor} (g : Rests s m w c) {u : I
   module _ {c1 : Cursor} {n : Name} (f : u ≡ Ident.Found c1 n) where
     ident_ready : CursorReady s m w c1
     ident_ready = rw (ident_on a f).0 (ready_moved g.ready c1.at (omega (arith, (ident_on a f).1.0)) ((ident_on a f).1.1 g.ready.inside))
-
-    pub ident_tables : View.ProgramReady m c1.counts
-    ident_tables = ident_ready.tables
 
     module _ {m1 : List ℕ} {x : OpenedFun} (b : Funs l n m c1 m1 x) where
       pub fun_no2 : {e : ℕ} → x ≡ OpenedFun.Refused e → Fun l s m w c m1 w (OpenedFun.Refused e)

@@ -14,7 +14,6 @@ use Rattle.program.specs.declared.Given.TheVariants.{One}
 use Rattle.program.specs.declared.Name.{Name}
 use Rattle.program.specs.declared.Op.TheVariants.{Return}
 use Rattle.program.specs.declared.Opnd.{Opnd}
-use Rattle.cursor.specs.Room.{ReadingRoom}
 use Rattle.cursor.specs.Promises.{Out, Expects, CursorDid, parsed_of}
 use Rattle.cursor.specs.Parsers.{cursor_of, moved_in, ident_in, parsed_in, operand, ParserKept, ParserIdents, ParserExpects, ParserDid}
 use Rattle.cursor.specs.declared.Parser.{Parser}
@@ -59,10 +58,10 @@ module _ {p p1 : Parser} {m w : List ℕ} (a : After p p1 m w) where
 
 -- ---- open_body
 
-abbrev cleared : (p : Parser) → ReadingRoom p.script.now p.scratch.now → Parser
-cleared p h = record p { vars = 0; aside = bindings_most; room = h }
+abbrev cleared : Parser → Parser
+cleared p = record p { vars = 0; aside = bindings_most }
 
-module _ (p : Parser) {h : ReadingRoom p.script.now p.scratch.now} (g : HeadWaits p) {p1 : Parser} {x : Result (Unit {0}) Refusal} (a : ParserSelf (cleared p h) p1 x) where
+module _ (p : Parser) (g : HeadWaits p) {p1 : Parser} {x : Result (Unit {0}) Refusal} (a : ParserSelf (cleared p) p1 x) where
   kept1 : ParserKept p p1
   kept1 = let k = a.kept.kept in record { script = k.script; limits = k.limits; words_loan = k.words_loan; scratch_loan = k.scratch_loan }
 
@@ -83,7 +82,7 @@ module _ (p : Parser) {h : ReadingRoom p.script.now p.scratch.now} (g : HeadWait
       pub heads_no2 : {e : Refusal} → y ≡ Err e → ParserHeads p p2 (Err e)
       heads_no2 i = heads_end a2 (Err _) (L.head_no2 p.program.limits (cursor_of p) g a.pushes (ap (moved_in p1) f) bs (ap (moved_in p2) i))
 
-      pub heads_yes : {j : ReadingRoom p2.script.now p2.scratch.now} → y ≡ Ok tt → ParserHeads p (record p2 { args = 0; room = j }) (Ok tt)
+      pub heads_yes : y ≡ Ok tt → ParserHeads p (record p2 { args = 0 }) (Ok tt)
       heads_yes i =
           record {
             kept = kept_same a2.kept refl refl refl;
@@ -137,10 +136,10 @@ module _ (p : Parser) (g : BodyWaits p) where
               pub body_no4 : {e : Refusal} → t ≡ Err e → Body p4 (Err e)
               body_no4 k = takes_end b4 (L.body_no4 g a.heads (ap (moved_in p1) f) stated (ap (parsed_in p2) i) ends (ap (moved_in p3) j) shut (ap (moved_in p4) k))
 
-              b5 : {r : ReadingRoom p4.script.now p4.scratch.now} → After p (record p4 { receiver = None; room = r }) p3.program.words.now p2.scratch.now
+              b5 : After p (record p4 { receiver = None }) p3.program.words.now p2.scratch.now
               b5 = after_same b4 refl refl refl
 
-              pub body_yes : {r : ReadingRoom p4.script.now p4.scratch.now} → t ≡ Ok tt → Body (record p4 { receiver = None; room = r }) (Ok tt)
+              pub body_yes : t ≡ Ok tt → Body (record p4 { receiver = None }) (Ok tt)
               body_yes k = takes_end b5 (L.body_yes g a.heads (ap (moved_in p1) f) stated (ap (parsed_in p2) i) ends (ap (moved_in p3) j) shut (ap (moved_in p4) k) refl)
 
 -- ---- parse_fun

@@ -40,7 +40,7 @@ fn parse_body(p: &mut Parser) -> Result<(), Refusal>
     Ok(())
 }
 
-// Stays: `Resting` is a fact of a moment, between functions and before any refusal, which no field can say.
+// Stays: `Resting` holds between functions, up to a refusal; what a field says would have to hold inside of them too.
 
 // Behind `def`; the function is known from its name on.
 pub fn parse_fun(p: &mut Parser) -> Result<FunId, Refusal>

@@ -7,8 +7,10 @@ use native.Mathlib.Omega.{arith}
 use lib.Dec.{ltb}
 use lib.ListN.{length, get_or, take, drop, length-drop, drop_of_length-le}
 use lib.Seq.{drop-cons}
+use mir.Syntax.{w64}
+use mir.Val.{SFits}
 use borrow.Author.Tests.{lt-ltb, le-ltb, ltb-true, ltb-false}
-use Rattle.std.specs.Prelude.{Option, Some, None, is_some, Result, Ok, Err}
+use Rattle.std.specs.Prelude.{Option, Some, None, is_some, Result, Ok, Err, ℤ, pos}
 use Rattle.refusals.specs.declared.Refusal.{Refusal}
 use Rattle.refusals.specs.declared.Refusal.TheVariants as R
 use Rattle.rules.specs.Actions.{answered, refused}
@@ -54,14 +56,17 @@ of_none b l at e f g = rw (e, f, g)
 
 -- a number that i64 holds, and one that it doesn't
 module _ (x : ℕ) where
-  fits : {v : ℕ} → Some v ≡ fitting x → (v ≡ x) × (x < 2 ^ 63)
+  fits : {v : ℤ} → Some v ≡ fitting x → (v ≡ pos x) × (x < 2 ^ 63)
   unfolding fitting
   fits {v} p =
-      by_test (λ t. Some v ≡ cond t (Some x) None → (v ≡ x) × (x < 2 ^ 63)) (ltb x (2 ^ 63)) (λ h e. (cc, ltb-true x (2 ^ 63) h)) (λ h e. cc) p
+      by_test (λ t. Some v ≡ cond t (Some (pos x)) None → (v ≡ pos x) × (x < 2 ^ 63)) (ltb x (2 ^ 63)) (λ h e. (cc, ltb-true x (2 ^ 63) h)) (λ h e. cc) p
+
+  pub in_i64 : {v : ℤ} {o : Option ℤ} → o ≡ fitting x → o ≡ Some v → SFits w64 v
+  in_i64 known of = let fit = fits (sym of ∙ known) in record { sfits = rw fit.0 fit.1 }
 
   over : None ≡ fitting x → 2 ^ 63 ≤ x
   unfolding fitting
-  over p = by_test (λ t. ◌≡◌ {A = Option ℕ} None (cond t (Some x) None) → 2 ^ 63 ≤ x) (ltb x (2 ^ 63)) (λ h e. cc) (λ h e. ltb-false x (2 ^ 63) h) p
+  over p = by_test (λ t. ◌≡◌ {A = Option ℤ} None (cond t (Some (pos x)) None) → 2 ^ 63 ≤ x) (ltb x (2 ^ 63)) (λ h e. cc) (λ h e. ltb-false x (2 ^ 63) h) p
 
 -- ---- a word that starts at `start`, behind the blanks from `at` on
 
@@ -113,7 +118,7 @@ module _ (s : List ℕ) (at start : ℕ) (e : start ≡ at + run blank (drop at 
     word-letter {next = next} {t = t} {k = k} p ends text known =
         let l = begins_by letter p in
         let n = run in_word (drop start s) in
-        let pos = run-pos in_word (drop start s) (letter_in_word (drop start s) l) in
+        let n_pos = run-pos in_word (drop start s) (letter_in_word (drop start s) l) in
         let low : 0 < next - start = omega arith in
         let tl : starts_by letter (name s start (next - start)) ≡ true = part-begins letter (next - start) low ∙ l in
         let known' : k ≡ kept_token (name s start (next - start)) = known ∙ ap kept_token text in
@@ -132,25 +137,25 @@ module _ (s : List ℕ) (at start : ℕ) (e : start ≡ at + run blank (drop at 
 
     module _ (p : letter b ≡ false) where
       module _ (q : digit b ≡ true) {next : ℕ} (ends : next ≡ start + run digit (drop start s)) {t : List ℕ} (text : t ≡ name s start (next - start)) where
-        pub word-digit : {v : ℕ} {o : Option ℕ} → o ≡ fitting (decimal 0 t) → o ≡ Some v
+        pub word-digit : {v : ℤ} {o : Option ℤ} → o ≡ fitting (decimal 0 t) → o ≡ Some v
             → Lexes s at (Ok (record { token = T.Number v; start = start; len = next - start; next = next }))
         word-digit {v = v} known of =
             let l = begins_by letter p in
             let d = begins_by digit q in
             let n = run digit (drop start s) in
-            let pos = run-pos digit (drop start s) d in
+            let n_pos = run-pos digit (drop start s) d in
             let low : 0 < next - start = omega arith in
             let fit = fits (decimal 0 t) (sym of ∙ known) in
             let same = text-is n next ends in
             let small : decimal 0 (take n (drop start s)) < 2 ^ 63 = rw (text, same) at fit.1 in
-            let value : v ≡ decimal 0 (name s start (next - start)) = fit.0 ∙ ap (decimal 0) text in
+            let value : v ≡ pos (decimal 0 (name s start (next - start))) = fit.0 ∙ ap (λ l. pos (decimal 0 l)) text in
             record {
               is = rw (at-start, of_digit (drop start s) start l d, same, ends, lt-ltb (decimal 0 (take n (drop start s))) (2 ^ 63) small);
               word =
                   record {
                     token =
-                        token-digit (name s start (next - start)) (part-begins letter (next - start) low ∙ l) (part-begins digit (next - start) low ∙ d) value;
-                    small = λ m g. let z : m ≡ v = cc in omega (arith, fit.0, fit.1);
+                        rw value (token-digit (name s start (next - start)) (part-begins letter (next - start) low ∙ l) (part-begins digit (next - start) low ∙ d) refl);
+                    small = λ m g. let z : m ≡ decimal 0 t = cc in omega (arith, z, fit.1);
                     behind = omega (arith, e);
                     next = omega arith;
                     inside = λ h. omega (arith, run_le digit (drop start s), length-drop start s);
@@ -158,7 +163,7 @@ module _ (s : List ℕ) (at start : ℕ) (e : start ≡ at + run blank (drop at 
                   };
             }
 
-        pub word_over : {o : Option ℕ} → o ≡ fitting (decimal 0 t) → o ≡ None → Lexes s at (Err R.NumberTooLarge)
+        pub word_over : {o : Option ℤ} → o ≡ fitting (decimal 0 t) → o ≡ None → Lexes s at (Err R.NumberTooLarge)
         word_over known of =
             let n = run digit (drop start s) in
             let same = text-is n next ends in
@@ -173,17 +178,17 @@ module _ (s : List ℕ) (at start : ℕ) (e : start ≡ at + run blank (drop at 
               word = tt;
             }
 
-        pub glance_digit : {o : Option ℕ} {r : Bool} → o ≡ fitting (decimal 0 t) → is_some o ≡ not r → r ≡ false → Glances s at (Ok None)
+        pub glance_digit : {o : Option ℤ} {r : Bool} → o ≡ fitting (decimal 0 t) → is_some o ≡ not r → r ≡ false → Glances s at (Ok None)
         glance_digit {o = o} known f g = go o refl (f ∙ ap not g)
           where
-            go : (x : Option ℕ) → o ≡ x → is_some x ≡ true → Glances s at (Ok None)
+            go : (x : Option ℤ) → o ≡ x → is_some x ≡ true → Glances s at (Ok None)
             go (Some v) of h = record { word = _; lexes = word-digit known of; is = refl }
             go None of h = cc
 
-        pub glance_over : {o : Option ℕ} {r : Bool} → o ≡ fitting (decimal 0 t) → is_some o ≡ not r → r ≡ true → Glances s at (Err R.NumberTooLarge)
+        pub glance_over : {o : Option ℤ} {r : Bool} → o ≡ fitting (decimal 0 t) → is_some o ≡ not r → r ≡ true → Glances s at (Err R.NumberTooLarge)
         glance_over {o = o} known f g = go o refl (f ∙ ap not g)
           where
-            go : (x : Option ℕ) → o ≡ x → is_some x ≡ false → Glances s at (Err R.NumberTooLarge)
+            go : (x : Option ℤ) → o ≡ x → is_some x ≡ false → Glances s at (Err R.NumberTooLarge)
             go (Some v) of h = cc
             go None of h = record { word = _; lexes = word_over known of; is = refl }
 

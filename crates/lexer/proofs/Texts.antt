@@ -1,15 +1,17 @@
 -- The tokens of texts: what the tables say of any text, in the rules' words. Assumes nothing.
 use mathlib.Core.Bool.{Bool, true, false, not, cond, ◌&&◌, ◌||◌}
-use mathlib.Core.Path.{◌≡◌, refl, sym, ap₂, ◌∙◌}
+use mathlib.Core.Path.{◌≡◌, refl, sym, ap, ap₂, ◌∙◌}
 use mathlib.Core.List.{List, [], ◌∷◌, ◌++◌}
 use Prim.Native.Nat.{ℕ, zero, suc, ◌<◌}
 use native.Mathlib.Nat.{le_of_suc-le-suc, not-suc-le-zero}
 use native.Mathlib.Omega.{arith}
 use lib.Dec.{leb, eqb}
-use Rattle.std.specs.Prelude.{None}
+use Rattle.std.specs.Prelude.{None, ℤ, pos, nat_abs}
+use Rattle.numbers.proofs.Laws.{same_eq_ℤ, same_refl_ℤ}
 use lib.ListN.{length, get_or, take}
 use borrow.Author.Tests.{eq-eqb, eqb-true, leb-true, lt-leb, not-true}
-use Rattle.rules.specs.Lists.{same, any, all}
+use Rattle.std.proofs.lemmas.Slice.Eq.{HasBytesAt, text_from_reads}
+use Rattle.rules.specs.Lists.{bytes, same, any, all}
 use Rattle.rules.specs.Words.{letter, digit, sign, starts_by, is_literal, is_ident}
 use Rattle.rules.specs.Words as W
 use Rattle.rules.proofs.Exactness.Promise.{and_left, and_right}
@@ -28,7 +30,7 @@ same_eq (a ∷ x) (b ∷ y) e =
 
 -- ---- the test of tokens
 
-token_from : ℕ → ℕ → Token
+token_from : ℕ → ℤ → Token
 token_from r c =
     cond (eqb r 0) T.EndOfText
     (cond (eqb r 1) T.Name
@@ -36,7 +38,7 @@ token_from r c =
     (cond (eqb r 3) T.Def
     (cond (eqb r 4) T.Class
     (cond (eqb r 5) T.End
-    (cond (eqb r 6) T.Return (cond (eqb r 7) T.If (cond (eqb r 8) T.Else (cond (eqb r 9) T.AttrAccessor (T.Sign c))))))))))
+    (cond (eqb r 6) T.Return (cond (eqb r 7) T.If (cond (eqb r 8) T.Else (cond (eqb r 9) T.AttrAccessor (T.Sign (nat_abs c)))))))))))
 
 token_back : (a : Token) → token_from (rank a) (content a) ≡ a
 unfolding token_from
@@ -55,11 +57,11 @@ token_back (T.Sign b) = refl
 pub token-true : (a b : Token) → same_token a b ≡ true → a ≡ b
 token-true a b e =
     let r = eqb-true (rank a) (rank b) (and_left _ _ e) in
-    let c = eqb-true (content a) (content b) (and_right (eqb (rank a) (rank b)) _ e) in
+    let c = same_eq_ℤ (content a) (content b) (and_right (eqb (rank a) (rank b)) _ e) in
     sym (token_back a) ∙ ap₂ {C = Token} token_from r c ∙ token_back b
 
 pub token-yes : (a b : Token) → a ≡ b → same_token a b ≡ true
-token-yes a b e = rw (e, eq-eqb (rank b) (rank b) refl, eq-eqb (content b) (content b) refl)
+token-yes a b e = rw (e, eq-eqb (rank b) (rank b) refl, same_refl_ℤ (content b))
 
 pub token-no : (a b : Token) → (a ≡ b → ⊥) → same_token a b ≡ false
 token-no a b e = by_test (λ t. t ≡ false) (same_token a b) (λ h. absurd (e (token-true a b h))) (λ _. refl)
@@ -127,16 +129,47 @@ entry-token (x ∷ l) t d (suc i) e p a h =
     ))
     (λ f. entry-token l t d i e (and_right (all (apart x) l) (plain l) p) (and_right (not (same_token d x.token)) _ a) (le_of_suc-le-suc h))
 
+-- ---- kept words, by their bytes
+
+-- a text of another length than p, or that begins otherwise
+abbrev Apart : List ℕ → List ℕ → Type 0
+Apart t p = length t ≡ length p → get_or t 0 0 ≡ get_or p 0 0 → get_or t 1 0 ≡ get_or p 1 0 → get_or t 2 0 ≡ get_or p 2 0 → ⊥
+
+apart_no : (t p : List ℕ) → Apart t p → same t p ≡ false
+apart_no t p h =
+    by_test (λ q. q ≡ false) (same t p)
+    (λ f. let g = same_eq t p f in absurd (h (ap length g) (ap (λ l. get_or l 0 0) g) (ap (λ l. get_or l 1 0) g) (ap (λ l. get_or l 2 0) g))) (λ f. refl)
+
+pub kept_none : (t : List ℕ) → Apart t (bytes "def") → Apart t (bytes "class") → Apart t (bytes "end") → Apart t (bytes "return") → Apart t (bytes "if")
+    → Apart t (bytes "else") → Apart t (bytes "attr_accessor") → T.Name ≡ kept_token t
+kept_none t a b c d e f g =
+    rw (
+      apart_no t (bytes "def") a,
+      apart_no t (bytes "class") b,
+      apart_no t (bytes "end") c,
+      apart_no t (bytes "return") d,
+      apart_no t (bytes "if") e,
+      apart_no t (bytes "else") f,
+      apart_no t (bytes "attr_accessor") g,
+    )
+    refl
+
+pub kept_return : (t : List ℕ) → length t ≡ 6 → HasBytesAt t 0 (bytes "return") → T.Return ≡ kept_token t
+kept_return t e h = rw (text_from_reads t (bytes "return") e h) refl
+
+pub kept_attr : (t : List ℕ) → length t ≡ 13 → HasBytesAt t 0 (bytes "attr_accessor") → T.AttrAccessor ≡ kept_token t
+kept_attr t e h = rw (text_from_reads t (bytes "attr_accessor") e h) refl
+
 -- ---- all texts
 
 abbrev pub table : List Fixed
 table = kept_words ++ signs
 
 -- the token of a text of neither table
-other_cases : (P : Token → Type 0) → P T.Name → ((n : ℕ) → P (T.Number n)) → P (T.Sign 255) → (t : List ℕ) → P (other_token t)
+other_cases : (P : Token → Type 0) → P T.Name → ((n : ℤ) → P (T.Number n)) → P (T.Sign 255) → (t : List ℕ) → P (other_token t)
 other_cases P a b c t =
-    by_test (λ l. P (cond l T.Name (cond (starts_by digit t) (T.Number (W.decimal 0 t)) (T.Sign 255)))) (starts_by letter t) (λ _. a)
-    (λ _. by_test (λ d. P (cond d (T.Number (W.decimal 0 t)) (T.Sign 255))) (starts_by digit t) (λ _. b (W.decimal 0 t)) (λ _. c))
+    by_test (λ l. P (cond l T.Name (cond (starts_by digit t) (T.Number (pos (W.decimal 0 t))) (T.Sign 255)))) (starts_by letter t) (λ _. a)
+    (λ _. by_test (λ d. P (cond d (T.Number (pos (W.decimal 0 t))) (T.Sign 255))) (starts_by digit t) (λ _. b (pos (W.decimal 0 t))) (λ _. c))
 
 -- the i-th fixed word, by its token: at 0 this is `same t (bytes "def") ≡ same_token (token_of t) T.Def`
 pub fixed-token : (t : List ℕ) (i : ℕ) → i < length table
@@ -171,7 +204,7 @@ kept-is t e = rw (token_default letter signs t (other_token t) refl e, e)
 pub token-letter : (t : List ℕ) {k : Token} → starts_by letter t ≡ true → k ≡ kept_token t → k ≡ token_of t
 token-letter t e f = f ∙ sym (kept-is t e)
 
-pub token-digit : (t : List ℕ) {v : ℕ} → starts_by letter t ≡ false → starts_by digit t ≡ true → v ≡ W.decimal 0 t → T.Number v ≡ token_of t
+pub token-digit : (t : List ℕ) {v : ℕ} → starts_by letter t ≡ false → starts_by digit t ≡ true → v ≡ W.decimal 0 t → T.Number (pos v) ≡ token_of t
 unfolding token_of
 token-digit t e f g = rw (token_default digit table t (other_token t) refl f, e, f, g)
 
@@ -210,9 +243,9 @@ kept_unsigned t n =
 
 pub kept_small : (t : List ℕ) {k : Token} → k ≡ kept_token t → Small k
 kept_small t {k} e n p =
-    let h : eqb (rank (T.Number n)) 2 ≡ true = refl in
+    let h : eqb (rank (T.Number (pos n))) 2 ≡ true = refl in
     let g = token-all (λ j. not (eqb (rank j) 2)) kept_words t T.Name refl refl in
-    let q : kept_token t ≡ T.Number n = cc in
+    let q : kept_token t ≡ T.Number (pos n) = cc in
     let z = rw q at g in
     cc
 
@@ -237,7 +270,7 @@ ident_token w =
     (λ _ e.
     sym
     (token-not table w.text (other_token w.text) T.Name refl
-    (rw e (by_test (λ d. same_token (cond d (T.Number (W.decimal 0 w.text)) (T.Sign 255)) T.Name ≡ false) (starts_by digit w.text) (λ _. refl) (λ _. refl)))))
+    (rw e (by_test (λ d. same_token (cond d (T.Number (pos (W.decimal 0 w.text))) (T.Sign 255)) T.Name ≡ false) (starts_by digit w.text) (λ _. refl) (λ _. refl)))))
     refl
 
 pub literal_token : (w : W.Word) → is_literal w ≡ eqb (rank (token_of w.text)) 2
@@ -257,13 +290,13 @@ literal_token w =
     refl
 
 -- a literal's value is the number that it writes
-pub number_value : (t : List ℕ) {n : ℕ} → T.Number n ≡ token_of t → n ≡ W.decimal 0 t
+pub number_value : (t : List ℕ) {n : ℤ} → T.Number n ≡ token_of t → n ≡ pos (W.decimal 0 t)
 number_value t {n} e =
-    by_test (λ d. starts_by digit t ≡ d → n ≡ W.decimal 0 t) (starts_by digit t)
+    by_test (λ d. starts_by digit t ≡ d → n ≡ pos (W.decimal 0 t)) (starts_by digit t)
     (λ _ f.
-    by_test (λ l. starts_by letter t ≡ l → n ≡ W.decimal 0 t) (starts_by letter t)
+    by_test (λ l. starts_by letter t ≡ l → n ≡ pos (W.decimal 0 t)) (starts_by letter t)
     (λ _ g. let z = starts-letter t g in cc)
-    (λ _ g. let h : T.Number n ≡ T.Number (W.decimal 0 t) = e ∙ sym (token-digit t g f refl) in cc)
+    (λ _ g. let h : T.Number n ≡ T.Number (pos (W.decimal 0 t)) = e ∙ sym (token-digit t g f refl) in cc)
     refl)
     (λ _ f. let h = literal_token (record { text = t; next = 0 }) in let k : eqb (rank (token_of t)) 2 ≡ true = rw (← e) refl in cc)
     refl

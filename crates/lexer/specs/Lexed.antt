@@ -1,8 +1,9 @@
 -- What the word reader gives, in the words of the rules, and the table of the words. Assumes nothing.
-use Rattle.std.specs.Prelude.{Bool, cond, ◌&&◌, ◌≡◌, List, [], ◌∷◌, ℕ, ◌+◌, ◌≤◌, ◌<◌, ◌^◌, eqb, ltb, length}
+use Rattle.std.specs.Prelude.{Bool, cond, ◌&&◌, ◌≡◌, List, [], ◌∷◌, ℕ, ◌+◌, ◌≤◌, ◌<◌, ◌^◌, eqb, ltb, length, ℤ, pos}
 use Rattle.std.specs.Prelude.{Option, Some, None, Result, Ok, Err}
 use Rattle.refusals.specs.declared.Refusal.{Refusal}
 use Rattle.refusals.specs.Refusals.{number_of}
+use Rattle.numbers.specs.Numbers.{same_ℤ}
 use Rattle.rules.specs.Actions.{Answer, answered, refused}
 use Rattle.rules.specs.Lists.{bytes, same}
 use Rattle.rules.specs.Words.{letter, digit, decimal, starts_by, word_at}
@@ -28,14 +29,14 @@ rank T.Else = 8
 rank T.AttrAccessor = 9
 rank (T.Sign b) = 10
 
-abbrev pub content : Token → ℕ
+abbrev pub content : Token → ℤ
 content (T.Number n) = n
-content (T.Sign b) = b
-content _ = 0
+content (T.Sign b) = pos b
+content _ = pos 0
 
 -- the two are one token
 abbrev pub same_token : Token → Token → Bool
-same_token a b = eqb (rank a) (rank b) && eqb (content a) (content b)
+same_token a b = eqb (rank a) (rank b) && same_ℤ (content a) (content b)
 
 -- a text, and the token of the word that has it
 pub record Fixed : Type 0 where
@@ -69,7 +70,7 @@ kept_token t = token_in kept_words t T.Name
 
 -- a text in neither table: a name, or the number that it writes; no word has another, and no sign has the byte 255
 abbrev pub other_token : List ℕ → Token
-other_token t = cond (starts_by letter t) T.Name (cond (starts_by digit t) (T.Number (decimal 0 t)) (T.Sign 255))
+other_token t = cond (starts_by letter t) T.Name (cond (starts_by digit t) (T.Number (pos (decimal 0 t))) (T.Sign 255))
 
 unfoldable pub token_of : List ℕ → Token
 token_of t = token_in kept_words t (token_in signs t (other_token t))
@@ -77,8 +78,8 @@ token_of t = token_in kept_words t (token_in signs t (other_token t))
 -- ---- answers
 
 -- question 4, asked of a number
-unfoldable pub fitting : ℕ → Option ℕ
-fitting n = cond (ltb n (2 ^ 63)) (Some n) None
+unfoldable pub fitting : ℕ → Option ℤ
+fitting n = cond (ltb n (2 ^ 63)) (Some (pos n)) None
 
 -- a test of bytes that the results of a call are
 abbrev pub Passes : (ℕ → Bool) → (ℕ → Bool → Type 0) → Type 0
@@ -97,7 +98,7 @@ answer_of s (Err e) = refused (number_of e)
 
 -- a literal's value is below 2^63
 abbrev pub Small : Token → Type 0
-Small k = (n : ℕ) → k ≡ T.Number n → n < 2 ^ 63
+Small k = (n : ℕ) → k ≡ T.Number (pos n) → n < 2 ^ 63
 
 -- the token of a word that was read from place `at` on, and where it ends
 pub record LexerReads (s : List ℕ) (at : ℕ) (w : Word) : Type 0 where

@@ -9,16 +9,14 @@ ghost use Rattle.lexer.specs.Lexed.{kept_token, fitting, Passes, Lexes, Glances}
 
 use refusals::Refusal;
 
-// The largest literal.
-const LARGEST_LITERAL: u64 = 9223372036854775807;
-
 // What a word is: a literal with its value, a sign with its byte.
 #[derive(Clone, Copy, PartialEq, Eq)]
 pub enum Token {
-    // Stays: one of the words, as the rules have it: a class ends with it as with `end`, and else it is refused as a word that doesn't fit.
+    // Stays: in the rules it is a word with no bytes, and a reading goes on to the place behind it, which `None` wouldn't have.
+    // A class ends with it as with `end`; elsewhere it is a word that doesn't fit.
     EndOfText,
     Name,
-    Number(u64),
+    Number(i64),
     Def,
     Class,
     End,
@@ -31,7 +29,8 @@ pub enum Token {
 
 // A word, its place in the script and the place behind it.
 // Stays: the tables store a name as its place and its length, so a word has both and no slice.
-// Stays: `next` is their sum: as a method it would need a ghost field that says the sum doesn't overflow.
+// Stays: `next`, their sum, is a field as in the rules' word. Tried in this crate as a method, with a ghost field that says that the sum doesn't overflow: a glance promises
+// a word that it doesn't make, so each of its laws has to bring that fact too; and eleven places of four crates, with their proofs, read the field.
 #[derive(Clone, Copy)]
 pub struct Word {
     pub token: Token,
@@ -43,7 +42,7 @@ pub struct Word {
 // ---- names
 
 // The n bytes from a on, as far as the script goes.
-// Stays: the tables and the variables hold names so, and here their bytes are made of it.
+// Stays: the tables and the variables hold a name as these two numbers, and this makes its bytes of them.
 pub fn bytes_at(script: &[u8], a: usize, n: usize) -> &[u8]
     ensures { result.now ≡ name script.now a n }
 {
@@ -89,7 +88,7 @@ fn is_sign(b: u8) -> bool
 // ---- runs of bytes
 
 // The place behind the bytes from `at` on that pass the test.
-// Stays: by `position` the words of a script took 5 in 100 more.
+// Stays: by `position` the words of a script took 5 in 100 more (docs/BENCHMARK.md).
 fn behind<F: Fn(u8) -> bool>(script: &[u8], at: usize, test: F) -> usize
     requires { F.IsAlwaysCallable test }
     ensures { (f : ℕ → Bool) → Passes f (F.post test) → result ≡ at + run f (drop at script.now) }
@@ -111,44 +110,33 @@ pub fn skip_blank(script: &[u8], at: usize) -> usize
 // ---- words
 
 // The number that decimal digits write, unless it leaves i64.
-fn literal(digits: &[u8]) -> Option<u64>
+fn literal(digits: &[u8]) -> Option<i64>
     ensures { result ≡ fitting (decimal 0 digits.now) }
 {
-    let mut value: u64 = 0;
+    let mut value: i64 = 0;
     for digit in digits {
         value = value
             .checked_mul(10)?
-            .checked_add(u64::from(digit.saturating_sub(b'0')))?;
+            .checked_add(i64::from(digit.saturating_sub(b'0')))?;
     }
-    (value <= LARGEST_LITERAL).then_some(value)
+    Some(value)
 }
 
 // What a word that begins with a letter is.
+#[tactic(auto, using(crate::proofs::Texts::kept_none, crate::proofs::Texts::kept_return, crate::proofs::Texts::kept_attr))]
 fn kept_token(word: &[u8]) -> Token
     ensures { result ≡ kept_token word.now }
 {
-    if same_bytes(word, b"def") {
-        return Token::Def;
+    match word {
+        b"def" => Token::Def,
+        b"class" => Token::Class,
+        b"end" => Token::End,
+        b"return" => Token::Return,
+        b"if" => Token::If,
+        b"else" => Token::Else,
+        b"attr_accessor" => Token::AttrAccessor,
+        _ => Token::Name,
     }
-    if same_bytes(word, b"class") {
-        return Token::Class;
-    }
-    if same_bytes(word, b"end") {
-        return Token::End;
-    }
-    if same_bytes(word, b"return") {
-        return Token::Return;
-    }
-    if same_bytes(word, b"if") {
-        return Token::If;
-    }
-    if same_bytes(word, b"else") {
-        return Token::Else;
-    }
-    if same_bytes(word, b"attr_accessor") {
-        return Token::AttrAccessor;
-    }
-    Token::Name
 }
 
 // The next word from a place on, blanks skipped.
@@ -198,7 +186,8 @@ fn word_at(script: &[u8], at: usize) -> Result<Word, Refusal>
 }
 
 // The next word from a place on, where only signs are told apart, with the place behind them: the letters of a word need not be read.
-// Stays: beside `word_at`, which reads all the letters of a word: behind an operand there is mostly one, of which only its first byte counts.
+// Stays: beside `word_at`, since each level of an expression asks only whether a sign is next (docs/DECISIONS.md, 39): by `word_at` a word's letters would be read
+// once a level.
 fn sign_at(script: &[u8], at: usize) -> Result<Option<(u8, usize)>, Refusal>
     ensures { Glances script.now at result }
 {

@@ -1,6 +1,6 @@
 -- The ways through the readers of the top level and of the whole script. Assumes nothing.
 use mathlib.Core.Bool.{true, false}
-use mathlib.Core.Path.{◌≡◌, refl, ap, ◌∙◌}
+use mathlib.Core.Path.{◌≡◌, ap}
 use mathlib.Core.List.{List}
 use Prim.Native.Nat.{ℕ, ◌≤◌, ◌<◌}
 use native.Mathlib.Omega.{arith}
@@ -14,11 +14,10 @@ use Rattle.rules.specs.Reading as R
 use Rattle.rules.specs.Reading.{Parser, turns, parse_fun, parse_class, parse_top, parse_program}
 use Rattle.variables.specs.Scopes.{over}
 use Rattle.variables.specs.Memory.{made}
-use Rattle.variables.proofs.Rooms.{room-none}
 use Rattle.program.specs.View as View
 use Rattle.program.specs.declared.Counts.{Counts}
 use Rattle.program.specs.declared.bounds.Limits.{Limits}
-use Rattle.std.specs.Prelude.{Result, Ok, Err, None}
+use Rattle.std.specs.Prelude.{Result, Ok, Err}
 use Rattle.refusals.specs.declared.Refusal.{Refusal}
 use Rattle.refusals.specs.declared.Refusal.TheVariants as Q
 use Rattle.refusals.specs.Refusals.{number_of}
@@ -33,7 +32,6 @@ use Rattle.functions.specs.params.Promises.{funned_of}
 use Rattle.functions.specs.outcomes.OpenedFun.{OpenedFun}
 use Rattle.functions.specs.Bodies.{Rests, Takes, Taken}
 use Rattle.memory.specs.Layout.{script_most}
-use Rattle.cursor.specs.Layout.{scratch_size}
 use Rattle.parser.specs.classes.Turned.{Turned}
 use Rattle.parser.specs.classes.Turned as T
 use Rattle.parser.specs.classes.Turning.{Turns}
@@ -55,9 +53,6 @@ module _ (l : Limits) {s m w : List ℕ} {c : Cursor} (g : Rests s m w c) {r : R
   top_none f = record { takes = record { is = rw (← next-none v m w f); ok = tt }; further = tt }
 
   module _ {x : Word} (f : r ≡ Ok x) {c1 : Cursor} (e : c1 ≡ move_cur x.next c) where
-    pub top_nobody : c.class ≡ None → c1.class ≡ None
-    top_nobody h = ap (λ (z : Cursor). z.class) e ∙ h
-
     pub top_ends : x.token ≡ K.EndOfText → Top m w (T.Ends c1)
     unfolding parse_top
     top_ends z = record { takes = record { is = rw (← next-is v f e m w, is-yes x (word_read v f) "" spelt_nothing z); ok = (word_rests g v f e, word_on g v f e) }; further = tt }
@@ -112,13 +107,6 @@ module _ (l : Limits) (s : List ℕ) where
   read-long m h = record { is = let z : leb (length s) l.script ≡ false = lt-leb (length s) l.script h in rw z; ok = tt }
 
   module _ (h : length s ≤ l.script) (k : l.script ≤ script_most) {m : List ℕ} (w : List ℕ) {d : Counts} (a : View.Starts m d) {c : Cursor} (e : c ≡ start_cur d) where
-    pub read_rests : scratch_size ≤ length w → Rests s m w c
-    read_rests z =
-        rw e (record {
-          ready = record { script = omega arith; inside = omega arith; tables = a.ok; scratch = z; room = room-none 0 (omega arith); args = omega arith };
-          args = refl;
-        })
-
     start_is : parser_of s m w c ≡ R.parser (View.limits_of l) s
     unfolding parser_of made over
     start_is = rw (e, a.is s)

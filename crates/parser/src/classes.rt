@@ -10,8 +10,8 @@ use ids::ClassId;
 use lexer::Token;
 use refusals::Refusal;
 
-// Stays: `Resting` is a fact of a moment, between functions and before any refusal, which no field can say; that the class k is
-// one of the program's ties two values.
+// Stays: `Resting` holds between functions, up to a refusal; what a field says would have to hold inside of them too. `k_lt_classes` is about two values,
+// a class and the program that it is of.
 
 // Question 7 for a second method of a name, at the method's end.
 fn parse_method(p: &mut Parser, k: ClassId) -> Result<(), Refusal>
@@ -72,7 +72,7 @@ fn parse_members(p: &mut Parser, k: ClassId) -> Result<(), Refusal>
     Ok(())
 }
 
-// Stays: that no class is open is a fact of a moment.
+// Stays: `class_value` holds outside of classes alone; what a field says would have to hold inside of them too.
 
 // Behind `class`; question 7 for a second class of a name, at the class's end.
 pub fn parse_class(p: &mut Parser) -> Result<(), Refusal>

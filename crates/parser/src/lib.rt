@@ -10,7 +10,6 @@ ghost use Rattle.functions.specs.Parsers.{Resting, through, ParserTakes};
 ghost use Rattle.memory.specs.Layout.{script_most};
 ghost use Rattle.program.specs.Layout.{program_size};
 ghost use Rattle.cursor.specs.Layout.{scratch_size};
-ghost use Rattle.cursor.specs.Room.{ReadingRoom};
 ghost use Rattle.parser.specs.classes.Turning.{ParserTurns};
 ghost use Rattle.program.specs.View.{Starts};
 ghost use Rattle.cursor.specs.Parsers.{cursor_of};
@@ -22,7 +21,7 @@ use lexer::Token;
 use program::{Counts, Draft, Limits};
 use refusals::Refusal;
 
-// Stays: `Resting`, and that no class is open, are facts of a moment, which no field can say.
+// Stays: `Resting` holds between functions, up to a refusal, and `class_value` outside of classes; what a field says would have to hold inside of them too.
 
 // One thing at top level: whether there was one. At the end of text there is none.
 fn parse_top(p: &mut Parser) -> Result<bool, Refusal>
@@ -56,7 +55,7 @@ fn parse_program(p: &mut Parser) -> Result<(), Refusal>
     Ok(())
 }
 
-// Stays: the C interface lends the script and each memory apart, as plain words, so each length is asked for until a `Parser` holds them.
+// Stays: the C interface lends the script and each memory apart, as plain words, so each length is asked for until a `Parser` is made of them.
 
 // Before the first word.
 fn start<'a>(
@@ -65,8 +64,7 @@ fn start<'a>(
     scratch: &'a mut [usize],
     limits: Limits,
 ) -> Parser<'a>
-    requires program_size_in_bounds { program_size ≤ length program.old }
-    requires room { ReadingRoom script.now scratch.old }
+    requires { program_size ≤ length program.old }
     ensures words_loan { result.program.words.ghost_name ≡ program.entry.ghost_name }
     ensures scratch_loan { result.scratch.ghost_name ≡ scratch.entry.ghost_name }
     ensures script { result.script.now ≡ script.now }

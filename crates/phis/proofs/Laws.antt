@@ -8,7 +8,8 @@ use lib.Dec.{eqb}
 use lib.ListN.{length}
 use Rattle.kinds.specs.Kinds.{kind_from}
 use Rattle.ids.specs.declared.InsnId.{InsnId}
-use Rattle.std.specs.Prelude.{Ok, Err}
+use Rattle.std.specs.Prelude.{Ok, Err, Option, Some, None, IfSome}
+use Rattle.std.proofs.Common.{Bor}
 use Rattle.std.specs.declared.result.Result.{Result}
 use Rattle.refusals.specs.declared.Refusal.{Refusal}
 use Rattle.rules.specs.Actions.{Answer, answered, if_answered}
@@ -27,7 +28,7 @@ use Rattle.variables.specs.declared.operands.Stored.{Stored}
 use Rattle.variables.specs.declared.Joint.{Joint}
 use Rattle.variables.specs.declared.Row.{Row}
 use Rattle.variables.specs.declared.Rows.{Rows}
-use Rattle.variables.proofs.Laws.{noted-part, noted-kept, noted-none}
+use Rattle.variables.proofs.Laws.{noted-part, noted-kept}
 use Rattle.variables.proofs.Entries.{kept-all, kept_trans, kept-part, vars-kept, vars_split, row_kept, cut}
 use Rattle.program.proofs.Operands.{one_opnd, two_opnds}
 use Rattle.program.specs.Rows as Stored
@@ -40,7 +41,7 @@ use Rattle.program.specs.declared.Opnd.TheVariants.{Const, Insn}
 use Rattle.program.specs.declared.Op.{Op}
 use Rattle.program.specs.declared.Op.TheVariants as O
 use Rattle.variables.specs.Layout.{bindings_most, entries_most, variables_size}
-use Rattle.phis.specs.Joining.{PhisSets, PhisGrown, Phis, state, joined, JoinReady, One, RowsJoined, Arms, IfEnd}
+use Rattle.phis.specs.Joining.{PhisGrown, Phis, state, joined, JoinReady, One, RowsJoined, Arms, IfEnd}
 use Rattle.phis.specs.declared.Blocks.{Blocks}
 
 -- ---- stored operands
@@ -59,11 +60,6 @@ load_is r e = ap opnd_of e ∙ stored-is r.tag r.bits
 
 pub store_is : {o : Opnd} {t : ℕ} (x : ℕ) (p : t < 16) → (Stored.opnd_from t x ≡ o) × (t < 16) → E.opnd_of (record { tag = t; bits = x; small = p }) ≡ opnd_of o
 store_is {t = t} x p e = sym (stored-is t x) ∙ ap opnd_of e.0
-
--- ---- variables
-
-pub sets : {n a k : ℕ} {o : Opnd} (r : Stored) {m m' : List ℕ} → E.opnd_of r ≡ opnd_of o → VariableBinds n a k r.tag r.bits m m' → PhisSets n a k o m m'
-sets r i b = record { len_same = b.len_same; is = λ s. b.is s ∙ rw i; old = b.old; aside = b.aside }
 
 -- ---- counts
 
@@ -131,7 +127,7 @@ module _ (l : Limits) (q : Blocks) (n : ℕ) (x : Joint) (m p : List ℕ) (c : C
 
 -- ---- join_rows, at its loop's head: what is left to join comes to what the whole comes to
 
-pub record Joining (s : List ℕ) (l : Limits) (q : Blocks) (base : ℕ) (x : Rows) (m₀ p₀ t : List ℕ) (c : Counts) (m p : List ℕ) (n : ℕ) (d : Counts) (y : Rows) : Type 0 where
+pub record Joining (s : List ℕ) (l : Limits) (q : Blocks) (base : ℕ) (x : Rows) (m₀ p₀ : List ℕ) (t : Option (Bor (List ℕ))) (c : Counts) (m p : List ℕ) (n : ℕ) (d : Counts) (y : Rows) : Type 0 where
   pub big : variables_size ≤ length m
   pub len_same : length m ≡ length m₀
   pub low : Kept 0 base m₀ m
@@ -142,10 +138,15 @@ pub record Joining (s : List ℕ) (l : Limits) (q : Blocks) (base : ℕ) (x : Ro
   pub room : n + (y.left.len + y.right.len) ≤ base + (x.left.len + x.right.len)
   pub most : base + (x.left.len + x.right.len) ≤ bindings_most
   pub rows : BothAside s m₀ y
-  pub noted : NotesBoth s m₀ base y.left.lo y.left.len y.right.lo y.right.len t
+  pub noted : IfSome t (λ b. NotesBoth s m₀ base y.left.lo y.left.len y.right.lo y.right.len b.now)
   pub same : (r : Parser) → r.block ≡ q.at.0
       → join_rows (limits_of l) q.left.0 q.right.0 (vars s m₀ base) (row s m₀ y.left.lo y.left.len) (row s m₀ y.right.lo y.right.len) (state s m n p d r)
       ≡ join_rows (limits_of l) q.left.0 q.right.0 (vars s m₀ base) (row s m₀ x.left.lo x.left.len) (row s m₀ x.right.lo x.right.len) (state s m₀ base p₀ c r)
+
+-- what follows of a value follows where there is one
+of_some : {A : Type 0} {P Q : A → Type 0} (t : Option A) → ((x : A) → P x → Q x) → IfSome t P → IfSome t Q
+of_some None f h = h
+of_some (Some x) f h = f x h
 
 -- what is left of a row when its first k entries are taken
 abbrev behind : ℕ → Row → Row
@@ -157,7 +158,7 @@ behind-aside {s} {m} {r} k h a = record {
   lies = record { inside = omega (arith, a.lies.inside); sorted = sorted_rest (row s m r.lo k) _ (rw (cut s m r.lo r.len k h) at a.lies.sorted) };
 }
 
-module _ {s : List ℕ} {l : Limits} {q : Blocks} {base : ℕ} {x : Rows} {m₀ p₀ t : List ℕ} {c : Counts} {m p : List ℕ} {n : ℕ} {d : Counts} {y : Rows}
+module _ {s : List ℕ} {l : Limits} {q : Blocks} {base : ℕ} {x : Rows} {m₀ p₀ : List ℕ} {t : Option (Bor (List ℕ))} {c : Counts} {m p : List ℕ} {n : ℕ} {d : Counts} {y : Rows}
     (g : Joining s l q base x m₀ p₀ t c m p n d y) where
   same_base : vars s m base ≡ vars s m₀ base
   same_base = vars-kept s m₀ m base 0 base g.low (omega arith) (omega arith)
@@ -171,11 +172,14 @@ module _ {s : List ℕ} {l : Limits} {q : Blocks} {base : ℕ} {x : Rows} {m₀ 
   pub join_aside : BothAside s m y
   join_aside = record { left = row_aside y.left g.rows.left; right = row_aside y.right g.rows.right }
 
-  pub join-noted : NotesBoth s m base y.left.lo y.left.len y.right.lo y.right.len t
-  join-noted = record {
-    left = noted-kept m g.low g.aside g.rows.left.low g.rows.left.lies.inside g.noted.left;
-    right = noted-kept m g.low g.aside g.rows.right.low g.rows.right.lies.inside g.noted.right;
-  }
+  pub join-noted : IfSome t (λ b. NotesBoth s m base y.left.lo y.left.len y.right.lo y.right.len b.now)
+  join-noted =
+      of_some t
+      (λ b f. record {
+        left = noted-kept m g.low g.aside g.rows.left.low g.rows.left.lies.inside f.left;
+        right = noted-kept m g.low g.aside g.rows.right.low g.rows.right.lies.inside f.right;
+      })
+      g.noted
 
   pub join-done : ((L : P.Limits) (b c : ℕ) (st : Parser) → join_rows L b c (vars s m base) (row s m y.left.lo y.left.len) (row s m y.right.lo y.right.len) st ≡ answered (tt, st))
       → RowsJoined s l q base x m₀ p₀ c m p d (Ok n)
@@ -232,7 +236,7 @@ module _ {s : List ℕ} {l : Limits} {q : Blocks} {base : ℕ} {x : Rows} {m₀ 
           room = omega (arith, g.room, ok.1.1.1, turn.lefts, turn.rights, turn.some);
           most = g.most;
           rows = record { left = behind-aside z.lefts turn.lefts g.rows.left; right = behind-aside z.rights turn.rights g.rows.right };
-          noted = record { left = noted-part z.lefts turn.lefts g.noted.left; right = noted-part z.rights turn.rights g.noted.right };
+          noted = of_some t (λ b f. record { left = noted-part z.lefts turn.lefts f.left; right = noted-part z.rights turn.rights f.right }) g.noted;
           same = λ r h. rest o r h;
         }
 
@@ -261,9 +265,6 @@ module _ {mark n : ℕ} {left : Row} (f : Arms mark n left.lo left.len) where
 
     pub arms_room : mark + (left.len + rn) ≤ bindings_most
     arms_room = omega (arith, f.old, f.low, f.room, v.less)
-
-    pub arms_none : NotesBoth s m1 mark left.lo left.len (left.lo + left.len) rn []
-    arms_none = record { left = noted-none s m1 mark left.lo left.len; right = noted-none s m1 mark (left.lo + left.len) rn }
 
     pub arms-done : {l : Limits} {q : Blocks} {p : List ℕ} {c : Counts} {m' p' : List ℕ} {c' : Counts} {j : Result ℕ Refusal}
         → RowsJoined s l q mark both m1 p c m' p' c' j → IfEnd s l q mark n left.lo left.len m p c m' p' c' j

@@ -1,7 +1,7 @@
 // Variables as operands, and their join at an `if`.
 #![tactic(auto)]
 
-ghost use Rattle.std.specs.Prelude.{◌≡◌, ◌+◌, ◌≤◌, ◌<◌, length};
+ghost use Rattle.std.specs.Prelude.{◌≡◌, ◌+◌, ◌≤◌, ◌<◌, length, IfSome};
 ghost use Rattle.variables.specs.Promises.{opnd_of as stored_of, Lies, BothAside, NotesBoth};
 ghost use Rattle.program.specs.Drafts.{DraftKept};
 ghost use Rattle.program.specs.Rows.{opnd_of, name_in};
@@ -16,12 +16,14 @@ use variables::{Joint, Row, Rows, Scope, Stored};
 
 // ---- stored operands
 
+#[tactic(auto, using(crate::proofs::Laws::load_is))]
 fn load(o: Stored) -> Opnd
     ensures { opnd_of result ≡ stored_of o }
 {
     program::opnd_from(o.tag, o.bits)
 }
 
+#[tactic(auto, using(crate::proofs::Laws::store_is))]
 fn store(o: Opnd) -> Stored
     ensures { stored_of result ≡ opnd_of o }
 {
@@ -47,7 +49,7 @@ pub fn get_var(script: &[u8], scratch: &[usize], n: usize, name: Name) -> Option
     ensures { PhisFinds script.now scratch.now n (name_in script.now name) result }
 {
     let scope = Scope { script, scratch };
-    let o = scope.find(n, lexer::bytes_at(script, name.start, name.len))?;
+    let o = scope.find(n, name.of(script))?;
     Some(load(o))
 }
 
@@ -106,13 +108,13 @@ fn join_one(
     Ok(n + 1)
 }
 
-// What the two rows set over base bindings is joined, in rising order of names; g has the rows' notes, or is empty.
+// What the two rows set over base bindings is joined, in rising order of names; g has the rows' notes, if there are any.
 // How many bindings there are then.
 fn join_rows(
     script: &[u8],
     scratch: &mut [usize],
     draft: &mut Draft,
-    g: &[u16],
+    g: Option<&[u16]>,
     q: Blocks,
     base: usize,
     rows: Rows,
@@ -121,7 +123,7 @@ fn join_rows(
     requires variables_size_in_bounds { variables_size ≤ length scratch.old }
     requires aside { BothAside script.now scratch.old rows }
     requires room { base + (rows.left.len + rows.right.len) ≤ bindings_most }
-    requires notes_both { NotesBoth script.now scratch.old base rows.left.lo rows.left.len rows.right.lo rows.right.len g.now }
+    requires notes_both { IfSome g (λ t. NotesBoth script.now scratch.old base rows.left.lo rows.left.len rows.right.lo rows.right.len t.now) }
     ensures kept { DraftKept draft.old draft.new }
     ensures did { RowsJoined script.now draft.old.limits q base rows
         scratch.old draft.old.words.now draft.old.counts scratch.new draft.new.words.now draft.new.counts result }
@@ -167,7 +169,7 @@ pub fn join_arms(
         right: Row { lo: hi, len: rn },
     };
     if left.len + rn <= FEW {
-        return join_rows(script, scratch, draft, &[], q, mark, rows);
+        return join_rows(script, scratch, draft, None, q, mark, rows);
     }
     // Stays: there is no heap, so the notes have a fixed array.
     let mut g = [0u16; variables::BINDINGS_MOST];
@@ -176,5 +178,5 @@ pub fn join_arms(
         scratch: &*scratch,
     };
     scope.note_rows(&mut g, mark, rows);
-    join_rows(script, scratch, draft, &g, q, mark, rows)
+    join_rows(script, scratch, draft, Some(&g), q, mark, rows)
 }

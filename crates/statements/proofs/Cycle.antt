@@ -11,16 +11,14 @@ use Rattle.rules.specs.Actions.{Answer, answered, refused, if_answered, choose, 
 use Rattle.rules.specs.Words as Words
 use Rattle.rules.specs.Program as P
 use Rattle.rules.specs.Reading as R
-use Rattle.rules.specs.Reading.{Parser, Reads, new_block, end_block, parse_expr, parse_next, parse_statements, parse_return, parse_if, statement_by, parse_statement}
+use Rattle.rules.specs.Reading.{Parser, Reads, new_block, parse_expr, parse_next, parse_statements, parse_return, parse_if, statement_by, parse_statement}
 use Rattle.variables.specs.Scopes.{Bindings, over, env_of, Sorted}
 use Rattle.variables.proofs.scopes.Made.{env_sorted}
 use Rattle.variables.specs.Memory.{made, vars, row}
 use Rattle.variables.proofs.Entries.{row_move, vars_split}
 use Rattle.program.specs.Rows.{opnd_of}
 use Rattle.program.specs.View as View
-use Rattle.program.specs.declared.Given.TheVariants.{Zero}
 use Rattle.program.specs.declared.bounds.Limits.{Limits}
-use Rattle.program.specs.declared.Op.TheVariants.{Jump}
 use Rattle.program.specs.declared.Opnd.{Opnd}
 use Rattle.program.specs.declared.Opnd.TheVariants.{Const}
 use Rattle.std.specs.Prelude.{Ok}
@@ -29,13 +27,11 @@ use Rattle.lexer.specs.declared.Token.{Token}
 use Rattle.lexer.specs.declared.Word.{Word}
 use Rattle.lexer.proofs.Texts.{fixed-token}
 use Rattle.cursor.specs.Cursor.{Cursor, parser_of, move_cur, In, CursorStep}
-use Rattle.cursor.specs.Promises.{Out, CursorDid, Sees, Spelt, CursorMatches, parsed_of, moved_of, matched_of}
+use Rattle.cursor.specs.Promises.{Out, CursorDid, Sees, Spelt, CursorMatches, parsed_of, matched_of}
 use Rattle.cursor.specs.outcomes.Matched.{Matched}
 use Rattle.cursor.specs.outcomes.Matched as M
-use Rattle.cursor.specs.outcomes.Moved.{Moved}
-use Rattle.cursor.specs.outcomes.Moved as On
 use Rattle.cursor.specs.outcomes.Parsed.{Parsed, Done, Refused}
-use Rattle.cursor.proofs.Laws.{after-step, Acted, got, gave, refuses, arrives, ends_as, moved-did, added_did, in_moved, step-moved, step_less, step_trans, step-none}
+use Rattle.cursor.proofs.Laws.{after-step, Acted, got, gave, refuses, arrives, ends_as, moved-did, step-moved, step_less, step_trans, step-none}
 use Rattle.cursor.proofs.Wording.{spelt_else, is-yes, is_no, word_read, peek-found, pass-found}
 use Rattle.statements.specs.declared.Branch.{Branch}
 use Rattle.statements.specs.outcomes.Opened.{Opened}
@@ -43,10 +39,10 @@ use Rattle.statements.specs.outcomes.Opened as O
 use Rattle.statements.specs.outcomes.Stops.{Stops}
 use Rattle.statements.specs.outcomes.Stops as H
 use Rattle.statements.specs.Acts.{stops_at, parse_arm, finish_if, parse_else, if_of}
-use Rattle.statements.specs.Shape.{block_cur, before_of, opened_of, halts, Halts, Opens, EndsBlock, StatementInside, DidFrom, StatementAside, OpensElse, FinishesElse, Arm}
+use Rattle.statements.specs.Shape.{block_cur, before_of, opened_of, halts, Halts, Opens, StatementInside, DidFrom, StatementAside, OpensElse, FinishesElse, Arm}
 use Rattle.statements.proofs.Ifs.{if_is}
 use Rattle.statements.proofs.Steps.{Keeps, keeps_step, keeps_low, keeps_then, keeps_later, keeps_vars, after-over, inside-step, inside_then, few-vars, arm_then, opened-there}
-use Rattle.statements.proofs.Steps.{opens_did, in_block, step_block}
+use Rattle.statements.proofs.Steps.{opens_did, step_block}
 use Rattle.statements.proofs.Paths.{expr_in}
 
 -- ---- parse_statements
@@ -134,35 +130,6 @@ module _ {l : Limits} {s : List ℕ} {arm : 𝔹} {d : ℕ} {m₀ w₀ : List �
                 step = step_less (omega arith) (step_trans i.step z.step);
               }
 
--- ---- parse_block
-
-abbrev Arms : Limits → ℕ → BlockId → List ℕ → List ℕ → List ℕ → Cursor → List ℕ → List ℕ → Out P.Opnd → Type 0
-Arms l d j s m w c m' w' o = CursorDid (parse_arm (View.limits_of l) s (parse_statement (View.limits_of l) s d) j.0) 0 s m w c m' w' o
-
-module _ (l : Limits) {s : List ℕ} (d : ℕ) {m w : List ℕ} {c : Cursor} {p : Parsed} {m1 w1 : List ℕ}
-    (a : CursorDid (parse_statements (View.limits_of l) s (stops_at true) (parse_statement (View.limits_of l) s d)) 0 s m w c m1 w1 (parsed_of p)) where
-  pub block_no : (j : BlockId) {e : ℕ} → p ≡ Refused e → Arms l d j s m w c m1 w1 (parsed_of (Refused e))
-  unfolding parse_arm
-  block_no j e = refuses (rw (← gave a (ap parsed_of e)))
-
-  module _ {c1 : Cursor} {v : Opnd} (e : p ≡ Done c1 v) where
-    pub block_in : In s m1 w1 c1
-    block_in = (got a (ap parsed_of e)).here
-
-    module _ {j : BlockId} {m2 : List ℕ} {x : Moved} (b : EndsBlock l (Jump j) Zero m1 c1 m2 x) where
-      arm_ended : CursorDid (end_block (View.limits_of l) s (P.Jump j.0)) 0 s m1 w1 c1 m2 w1 (moved_of x)
-      arm_ended = added_did (b.adds s w1 (P.Jump j.0) refl) block_in
-
-      pub block_no2 : {k : ℕ} → x ≡ On.Refused k → Arms l d j s m w c m2 w1 (parsed_of (Refused k))
-      unfolding parse_arm
-      block_no2 i = refuses (rw (← (got a (ap parsed_of e)).is, ← gave arm_ended (ap moved_of i)))
-
-      pub block-yes : {c2 : Cursor} → x ≡ On.On c2 → Arms l d j s m w c m2 w1 (parsed_of (Done c2 v))
-      unfolding parse_arm
-      block-yes i =
-          let g = got arm_ended (ap moved_of i) in
-          arrives (step_trans (got a (ap parsed_of e)).step g.step) (omega arith) g.here (rw (← (got a (ap parsed_of e)).is, ← g.is))
-
 -- ---- parse_else
 
 module _ (l : Limits) {s : List ℕ} (d : ℕ) {m w : List ℕ} {c₀ c : Cursor} (q : Branch) (h : In s m w c) (a : Arm c₀ c q) {r : Matched} (t : CursorMatches s T.Else c r) where
@@ -188,9 +155,6 @@ module _ (l : Limits) {s : List ℕ} (d : ℕ) {m w : List ℕ} {c₀ c : Cursor
   module _ {c1 : Cursor} (e : r ≡ M.Yes c1) where
     else_went : Acted (R.match_token s "else") 0 s m w c m w true c1
     else_went = got matched (ap (matched_of c) e)
-
-    pub else_in : In s m w c1
-    else_in = else_went.here
 
     pub else_arm : Arm c₀ c1 q
     else_arm = arm_then a else_went.step
@@ -218,9 +182,6 @@ module _ (l : Limits) {s : List ℕ} (d : ℕ) {m w : List ℕ} {c₀ c : Cursor
           module _ {c3 : Cursor} {y : Opnd} (j : p ≡ Done c3 y) where
             arm_went : Acted (parse_arm (View.limits_of l) s (parse_statement (View.limits_of l) s d) q.join.0) 0 s m1 w1 c2 m2 w2 (opnd_of y) c3
             arm_went = got u (ap parsed_of j)
-
-            pub else_in3 : In s m2 w2 c3
-            else_in3 = arm_went.here
 
             pub else_inside : StatementInside c₀ c3
             else_inside = inside_then else_aside.inside arm_went.step
@@ -301,12 +262,6 @@ module _ (l : Limits) {s : List ℕ} (d : ℕ) {m w : List ℕ} {c : Cursor} {p 
             join-went : Acted (new_block (View.limits_of l)) 0 s m2 w1 c2 m3 w1 j.0 c3
             join-went = got join_opened (ap opened_of i)
 
-            first-there : n.0 < c3.counts.blocks
-            first-there = omega (arith, opened-there b f, join-went.step.blocks)
-
-            pub if_in3 : In s m3 w1 c4
-            if_in3 = rw k (in_block join-went.here n first-there)
-
             module _ {m4 w4 : List ℕ} {o : Parsed} (u : CursorDid (parse_arm (View.limits_of l) s (parse_statement (View.limits_of l) s d) j.0) 0 s m3 w1 c4 m4 w4 (parsed_of o)) where
               pub if_no4 : {z : ℕ} → o ≡ Refused z → If l d s m w c m4 w4 (parsed_of (Refused z))
               unfolding if_of parser_of
@@ -370,9 +325,6 @@ module _ (l : Limits) {s : List ℕ} {m w : List ℕ} {c : Cursor} (h : In s m w
 
   past : (x.token ≡ T.EndOfText → ⊥) → (c.at + 1 ≤ x.next) × (x.next ≤ length s)
   past z = let k = word_read v refl in (omega (arith, k.on z), k.inside h.ready.inside)
-
-  pub state_in : {c1 : Cursor} → (x.token ≡ T.EndOfText → ⊥) → c1 ≡ move_cur x.next c → In s m w c1
-  state_in z i = rw i (in_moved h x.next (omega (arith, past z)) (past z).1)
 
   pub state_return : (d : ℕ) {c1 : Cursor} {m' w' : List ℕ} {o : Out P.Opnd} → x.token ≡ T.Return → c1 ≡ move_cur x.next c
       → CursorDid (parse_return (View.limits_of l) s (parse_expr (View.limits_of l) s d)) 1 s m w c1 m' w' o → States d m' w' o

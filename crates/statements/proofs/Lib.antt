@@ -3,3 +3,4 @@ pub mod Steps
 pub mod Paths
 pub mod Cycle
 pub mod Standing
+pub mod Readers

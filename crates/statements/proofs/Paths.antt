@@ -14,9 +14,9 @@ use Rattle.refusals.specs.declared.Refusal.{Refusal}
 use Rattle.kinds.specs.declared.Kind.TheVariants.{Nil}
 use Rattle.rules.specs.Actions.{Answer, answered, refused, if_answered}
 use Rattle.rules.specs.Program as P
-use Rattle.rules.specs.Program.{terminated, listed_count, about}
+use Rattle.rules.specs.Program.{terminated}
 use Rattle.rules.specs.Reading as R
-use Rattle.rules.specs.Reading.{Parser, Reads, push_insn, push, new_block, new_block_of, end_block, parse_expr, parse_next, parse_statements, parse_return, parse_if, statement_by, parse_statement}
+use Rattle.rules.specs.Reading.{Parser, push_insn, push, new_block, end_block, parse_expr, parse_return}
 use Rattle.variables.specs.Scopes.{over, env_of, Sorted}
 use Rattle.variables.proofs.scopes.Made.{env_sorted}
 use Rattle.variables.specs.Memory.{made, vars, row}
@@ -32,7 +32,7 @@ use Rattle.program.specs.declared.Op.{Op}
 use Rattle.program.specs.declared.Op.TheVariants.{IfTrue, Return}
 use Rattle.program.specs.declared.Opnd.{Opnd}
 use Rattle.program.specs.declared.Opnd.TheVariants.{Const}
-use Rattle.phis.specs.Joining.{Phis, IfEnd}
+use Rattle.phis.specs.Joining.{IfEnd}
 use Rattle.phis.specs.declared.Blocks.{Blocks}
 use Rattle.lexer.specs.declared.Token.TheVariants as T
 use Rattle.lexer.specs.declared.Word.{Word}
@@ -41,7 +41,7 @@ use Rattle.cursor.specs.Promises.{Out, outcome, CursorDid, Sees, Expects, parsed
 use Rattle.cursor.specs.outcomes.Moved.{Moved}
 use Rattle.cursor.specs.outcomes.Moved as On
 use Rattle.cursor.specs.outcomes.Parsed.{Parsed, Done, Refused}
-use Rattle.cursor.proofs.Laws.{after-step, in_counted, Acted, got, gave, refuses, arrives, moved-did, added_did, step_less, step_trans}
+use Rattle.cursor.proofs.Laws.{after-step, Acted, got, gave, refuses, arrives, moved-did, added_did, step_less, step_trans}
 use Rattle.cursor.proofs.Wording.{spelt_end, spelt_else, is-yes, is_no, word_read, peek-found, peek-none}
 use Rattle.variables.specs.Layout.{entries_most}
 use Rattle.statements.specs.declared.Before.{Before}
@@ -268,34 +268,6 @@ module _ {s m w : List ℕ} {c₀ c : Cursor} (h : In s m w c) (i : StatementIns
           );
         })
 
--- ---- join_value
-
-module _ {s m w : List ℕ} {c : Cursor} {x : Moved} (h : In s m w c) (a : Expects s T.End c x) where
-  expected : CursorDid (R.expect s "end") 1 s m w c m w (moved_of x)
-  expected = moved-did (a.moves "end" spelt_end) h
-
-  pub value_in_lem : {c1 : Cursor} → x ≡ On.On c1 → In s m w c1
-  value_in_lem e = (got expected (ap moved_of e)).here
-
-module _ (l : Limits) {s m w : List ℕ} {c : Cursor} {x : Moved} (left : BlockId) (v : Opnd) (right : BlockId) (y : Opnd) (h : In s m w c) (a : Expects s T.End c x) where
-  pub value_no : {e : ℕ} → x ≡ On.Refused e → CursorDid (join_value (View.limits_of l) s left.0 (opnd_of v) right.0 (opnd_of y)) 1 s m w c m w (parsed_of (Refused e))
-  unfolding join_value
-  value_no e = refuses (rw (← gave (expected h a) (ap moved_of e)))
-
-  module _ {c1 : Cursor} (e : x ≡ On.On c1) where
-    module _ {m' : List ℕ} {d : Counts} {z : Result Opnd Refusal} (g : Phis l (record { at = c1.block; left = left; right = right }) v y m c1.counts m' d z) where
-      pub value_no2 : {k : Refusal} {n : ℕ} → z ≡ Err k → n ≡ number_of k → CursorDid (join_value (View.limits_of l) s left.0 (opnd_of v) right.0 (opnd_of y)) 1 s m w c m' w (parsed_of (Refused n))
-      unfolding join_value parser_of
-      value_no2 e' i = refuses (rw (i, ← (got (expected h a) (ap moved_of e)).is) (rw e' at (g.is s (parser_of s m w c1) refl)))
-
-      pub value-yes : {u : Opnd} {t : Cursor} → z ≡ Ok u → t ≡ count_cur d c1 → CursorDid (join_value (View.limits_of l) s left.0 (opnd_of v) right.0 (opnd_of y)) 1 s m w c m' w (parsed_of (Done t u))
-      unfolding join_value parser_of
-      value-yes {u} {t} e' i =
-          let ok = rw e' at g.ready in
-          let n = in_counted (value_in_lem h a e) d ok.0 ok.1.functions ok.1.classes (omega (arith, ok.1.blocks)) in
-          rw i (arrives (step_trans (got (expected h a) (ap moved_of e)).step n.1) (omega arith) n.0
-          (rw (← (got (expected h a) (ap moved_of e)).is) (rw e' at (g.is s (parser_of s m w c1) refl))))
-
 -- ---- open_else
 
 open_state : (s m w w' : List ℕ) (c : Cursor) (f : BlockId) (n top : ℕ) → vars s w' n ≡ vars s w n
@@ -314,9 +286,6 @@ module _ (l : Limits) {s m w : List ℕ} {c₀ c : Cursor} (q : Branch) (h : In 
   module _ {c1 : Cursor} {f : BlockId} (e : x ≡ O.On c1 f) where
     pub open_in : In s m1 w c1
     open_in = (got else_opened (ap opened_of e)).here
-
-    pub open_before : c₀.block.0 < c1.counts.blocks
-    open_before = omega (arith, a.before, (got else_opened (ap opened_of e)).step.blocks)
 
     open_vars : c1.vars ≡ c.vars
     open_vars = let k = rw e at b.ok in ap (λ (z : Cursor). z.vars) k.0.cur
@@ -344,9 +313,6 @@ module _ (l : Limits) {s m w : List ℕ} {c₀ c : Cursor} (q : Branch) (h : In 
 
         pub open_old : c₀.vars ≤ c2.vars
         open_old = omega (arith, a.inside.old, chosen_vars)
-
-        pub open_in2 : In s m2 w c2
-        open_in2 = chosen.here
 
         pub open_part : (c₀.vars + (c2.vars - c₀.vars) ≤ c₀.aside) × (c₀.aside + (c2.vars - c₀.vars) ≤ entries_most)
         open_part =
@@ -478,9 +444,6 @@ module _ (l : Limits) {s m w : List ℕ} {c₀ c : Cursor} (q : Branch) (b : Blo
   both_no e = record { is = λ left r. let k = rw e at (g.is left r) in rw (← k); ok = tt }
 
   module _ {c1 : Cursor} (e : y ≡ On.On c1) where
-    pub both_in : In s m1 w1 c1
-    both_in = let k = rw e at g.ok in k.0
-
     pub both_yes : {m2 w2 : List ℕ} {p : Parsed} → CursorDid (join_value (View.limits_of l) s q.last.0 (opnd_of q.value) c.block.0 (opnd_of z)) 1 s m1 w1 c1 m2 w2 (parsed_of p)
         → FinishesElse l s m w c₀ c q b z m2 w2 p
     unfolding finish_else parser_of
@@ -490,3 +453,9 @@ module _ (l : Limits) {s m w : List ℕ} {c₀ c : Cursor} (q : Branch) (b : Blo
           is = λ left r. let k = rw e at (g.is left r) in rw (← k) d.is;
           ok = after-step 1 1 s m2 w2 (parsed_of p) o.1 (omega arith) d.ok;
         }
+
+-- ---- an `end` that was asked for: behind it the reader is inside the function still
+
+module _ {s m w : List ℕ} {c : Cursor} {x : Moved} (h : In s m w c) (a : Expects s T.End c x) where
+  pub value_in_lem : {c1 : Cursor} → x ≡ On.On c1 → In s m w c1
+  value_in_lem e = let d : CursorDid (R.expect s "end") 1 s m w c m w (moved_of x) = moved-did (a.moves "end" spelt_end) h in (got d (ap moved_of e)).here

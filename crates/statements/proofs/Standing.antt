@@ -10,7 +10,7 @@ use Rattle.ids.specs.declared.InsnId.{InsnId}
 use Rattle.refusals.specs.declared.Refusal.{Refusal}
 use Rattle.rules.specs.Program as P
 use Rattle.rules.specs.Reading.{Reads}
-use Rattle.program.specs.Rows.{opnd_of, given}
+use Rattle.program.specs.Rows.{given}
 use Rattle.program.specs.View as View
 use Rattle.program.specs.Drafts.{DraftKept}
 use Rattle.program.specs.declared.Given.{Given}
@@ -18,24 +18,19 @@ use Rattle.program.specs.declared.bounds.Limits.{Limits}
 use Rattle.program.specs.declared.Op.{Op}
 use Rattle.program.specs.declared.Opnd.{Opnd}
 use Rattle.program.specs.declared.writer.Draft.{Draft}
-use Rattle.phis.specs.Joining.{Phis}
 use Rattle.phis.specs.declared.Blocks.{Blocks}
-use Rattle.lexer.specs.declared.Token.TheVariants as T
-use Rattle.cursor.specs.Cursor.{Cursor, In}
-use Rattle.cursor.specs.Room.{ReadingRoom}
-use Rattle.cursor.specs.Promises.{Out, CursorDid, Expects}
-use Rattle.cursor.specs.Parsers.{cursor_of, ParserKept, AddsKept, operand, moved_in, parsed_in}
-use Rattle.cursor.specs.outcomes.Moved.{Moved, On}
+use Rattle.cursor.specs.Cursor.{Cursor}
+use Rattle.cursor.specs.Promises.{Out}
+use Rattle.cursor.specs.Parsers.{cursor_of, ParserKept, AddsKept, moved_in, parsed_in}
 use Rattle.cursor.specs.outcomes.Parsed.{Parsed}
 use Rattle.cursor.specs.declared.Parser.{Parser}
-use Rattle.cursor.proofs.Kept.{kept_trans, After, after_same}
+use Rattle.cursor.proofs.Kept.{After, after_same}
 use Rattle.statements.specs.declared.Branch.{Branch}
 use Rattle.statements.specs.outcomes.Opened.{Opened}
 use Rattle.statements.specs.outcomes.Stops.{Stops}
-use Rattle.statements.specs.Acts.{join_value}
-use Rattle.statements.specs.Shape.{opened_in, Opens, AddsEnd, EndsBlock, OpensElse, JoinsArms, FinishesElse, DidFrom, Halts}
-use Rattle.statements.specs.Shape.{ParserOpens, ParserAddsEnd, ParserEndsBlock, ParserDidFrom, ParserOpensElse, ParserJoinsArms, ParserFinishesElse}
-use Rattle.statements.proofs.Paths.{new-on, new_no, end_on, end_no, value-yes, value_no2}
+use Rattle.statements.specs.Shape.{opened_in, Opens, AddsEnd, OpensElse, JoinsArms, FinishesElse, DidFrom, Halts}
+use Rattle.statements.specs.Shape.{ParserOpens, ParserAddsEnd, ParserDidFrom, ParserOpensElse, ParserJoinsArms, ParserFinishesElse}
+use Rattle.statements.proofs.Paths.{new-on, new_no, end_on, end_no}
 use Rattle.statements.proofs.Cycle.{Going}
 
 -- statements were read from p on, up to q, and came to v
@@ -45,33 +40,25 @@ pub record StatementsStand (arm : 𝔹) (depth : ℕ) (p q : Parser) (v : Opnd) 
 
 -- ---- where only the program grows
 
-module _ (p : Parser) (d : Draft) (k : DraftKept p.program d) {h : ReadingRoom p.script.now p.scratch.now} where
-  pub draft_kept : AddsKept p (record p { program = d; room = h })
+module _ (p : Parser) (d : Draft) (k : DraftKept p.program d) where
+  pub draft_kept : AddsKept p (record p { program = d })
   draft_kept = record { kept = record { script = refl; limits = k.limits; words_loan = k.loan; scratch_loan = refl }; scratch = refl }
 
   pub opens_block : (r : Result BlockId Refusal)
       → View.ProgramDid (View.next_block (View.limits_of p.program.limits)) View.unchanged p.program.counts.blocks (View.more_blocks p.program.counts)
       p.program.words.now p.program.counts d.words.now (View.block_of d.counts r)
-      → ParserOpens p (record p { program = d; room = h }) r
+      → ParserOpens p (record p { program = d }) r
   opens_block (Ok b) g = record { kept = draft_kept; opens = new-on p.program.limits _ (cursor_of p) d.counts g refl refl }
   opens_block (Err e) g = record { kept = draft_kept; opens = new_no p.program.limits _ (cursor_of p) d.counts g refl refl }
 
   module _ (b : BlockId) (op : Op) (v : Given) {r : Result InsnId Refusal}
       (g : View.ProgramDid (View.pushing_of (View.limits_of p.program.limits) b.0 op (given v)) View.unchanged p.program.counts.insns
       (View.more_insns op (length (given v)) p.program.counts) p.program.words.now p.program.counts d.words.now (View.insn_of d.counts r)) where
-    pub end_added : {i : InsnId} → r ≡ Ok i → ParserAddsEnd b op v p (record p { program = d; room = h }) (Ok tt)
+    pub end_added : {i : InsnId} → r ≡ Ok i → ParserAddsEnd b op v p (record p { program = d }) (Ok tt)
     end_added e = record { kept = draft_kept; adds = end_on p.program.limits b op v _ (cursor_of p) d.counts g e refl }
 
-    pub end_refused : {e : Refusal} → r ≡ Err e → ParserAddsEnd b op v p (record p { program = d; room = h }) (Err e)
+    pub end_refused : {e : Refusal} → r ≡ Err e → ParserAddsEnd b op v p (record p { program = d }) (Err e)
     end_refused e = record { kept = draft_kept; adds = end_no p.program.limits b op v _ (cursor_of p) d.counts g e refl }
-
--- a join of two values, at the place p behind `end`
-pub value_ends : {s m w : List ℕ} {c : Cursor} {x : Moved} (left : BlockId) (v : Opnd) (right : BlockId) (y : Opnd) (h : In s m w c) (a : Expects s T.End c x)
-    (p : Parser) (d : Draft) (z : Result Opnd Refusal) → x ≡ On (cursor_of p)
-    → Phis p.program.limits (record { at = p.block; left = left; right = right }) v y m p.program.counts d.words.now d.counts z
-    → CursorDid (join_value (View.limits_of p.program.limits) s left.0 (opnd_of v) right.0 (opnd_of y)) 1 s m w c d.words.now w (operand (record p { program = d }) z)
-value_ends left v right y h a p d (Ok u) e g = value-yes p.program.limits left v right y h a e g refl refl
-value_ends left v right y h a p d (Err u) e g = value_no2 p.program.limits left v right y h a e g refl refl
 
 -- ---- what a later parser did, in the words of an earlier one
 
@@ -84,11 +71,8 @@ arms_moved : {l : Limits} {s m w : List ℕ} {c₀ c : Cursor} {q : Branch} {b :
 arms_moved e f d = rw (e, f) d
 
 module _ {p p1 : Parser} {m w : List ℕ} (a : After p p1 m w) where
-  pub after_draft : (d : Draft) {h : ReadingRoom p1.script.now p1.scratch.now} → DraftKept p1.program d → After p (record p1 { program = d; room = h }) d.words.now w
-  after_draft d {h} k = record { kept = kept_trans a.kept (draft_kept p1 d k {h = h}).kept; words = refl; scratch = a.scratch }
-
-  pub after_block : (b : BlockId) {h : ReadingRoom p1.script.now p1.scratch.now} → After p (record p1 { block = b; room = h }) m w
-  after_block b {h} = after_same a refl refl refl
+  pub after_block : (b : BlockId) → After p (record p1 { block = b }) m w
+  after_block b = after_same a refl refl refl
 
   pub opens_of : {p2 : Parser} {r : Result BlockId Refusal} → ParserOpens p1 p2 r → Opens p.program.limits m (cursor_of p1) p2.program.words.now (opened_in p2 r)
   opens_of d = rw (a.kept.limits, a.words) at d.opens
@@ -96,10 +80,6 @@ module _ {p p1 : Parser} {m w : List ℕ} (a : After p p1 m w) where
   pub adds_of : {b : BlockId} {op : Op} {g : Given} {p2 : Parser} {r : Result (Unit {0}) Refusal} → ParserAddsEnd b op g p1 p2 r
       → AddsEnd p.program.limits b op g m (cursor_of p1) p2.program.words.now (moved_in p2 r)
   adds_of d = rw (a.kept.limits, a.words) at d.adds
-
-  pub ends_of : {op : Op} {g : Given} {p2 : Parser} {r : Result (Unit {0}) Refusal} → ParserEndsBlock op g p1 p2 r
-      → EndsBlock p.program.limits op g m (cursor_of p1) p2.program.words.now (moved_in p2 r)
-  ends_of d = rw (a.kept.limits, a.words) at d.ends
 
   pub else_of : {c₀ : Cursor} {q : Branch} {p2 : Parser} {r : Result BlockId Refusal} → ParserOpensElse c₀ q p1 p2 r
       → OpensElse p.program.limits p.script.now m w c₀ (cursor_of p1) q p2.program.words.now p2.scratch.now (opened_in p2 r)

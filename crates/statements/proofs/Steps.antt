@@ -132,21 +132,6 @@ opened-there d e = let k = rw e at d.ok in k.1
 pub opens_did : {l : Limits} {s m w m' : List ℕ} {c : Cursor} {r : Opened} → Opens l m c m' r → In s m w c → CursorDid (new_block (View.limits_of l)) 0 s m w c m' w (opened_of r)
 opens_did {s = s} {w = w} {m' = m'} {r = r} v h = record { is = v.is s w; ok = opened_after m' (opened_of r) v.ok h }
 
--- the block c of a cursor takes instructions
-pub in_block : {s m w : List ℕ} {c : Cursor} → In s m w c → (b : BlockId) → b.0 < c.counts.blocks → In s m w (block_cur b c)
-in_block h b l =
-    record {
-      ready = record {
-        script = h.ready.script;
-        inside = h.ready.inside;
-        tables = h.ready.tables;
-        scratch = h.ready.scratch;
-        room = h.ready.room;
-        args = h.ready.args;
-      };
-      block = l;
-    }
-
 pub step_block : {k : ℕ} {c c' : Cursor} {w w' : List ℕ} (b : BlockId) → CursorStep k (block_cur b c) w c' w' → CursorStep k c w c' w'
 step_block b a =
     record {

@@ -73,7 +73,7 @@ pub fn end_block(p: &mut Parser, op: Op, g: Given) -> Result<(), Refusal>
     add_end(p, b, op, g)
 }
 
-// Stays: `Reading` is a fact of a moment, inside of a function and before any refusal, which no field can say.
+// Stays: `Reading` holds inside of a function, up to a refusal; what a field says would have to hold before, between and behind them too.
 
 // Behind `return`.
 fn parse_return(p: &mut Parser, depth: usize) -> Result<Opnd, Refusal>
@@ -88,7 +88,7 @@ fn parse_return(p: &mut Parser, depth: usize) -> Result<Opnd, Refusal>
 
 // ---- the end of an `if`, whose condition was read up to c₀
 
-// Stays: `InArm` is a fact of the moments between an `if` and its `end`, about the parser and the branch together.
+// Stays: `InArm` is about two values, the parser and what the `if` keeps, and holds only behind the then arm; a field of either would have to hold always.
 
 // What the then arm bound is set aside; the else arm's first block is opened, and the choice is added.
 fn open_else(p: &mut Parser, q: Branch) -> Result<BlockId, Refusal>
@@ -275,7 +275,8 @@ fn parse_if(p: &mut Parser, depth: usize) -> Result<Opnd, Refusal>
     parse_else(p, q, depth)
 }
 
-// Stays: that x is the next word ties it to the parser's place; without x the word would be read twice.
+// Stays: the clause is about two values, that x is the next word of p; a struct of both would be made for one call and taken apart in it, and
+// without x the word would be read twice.
 
 // From the word x on, which is the next.
 #[cycle(statement)]

@@ -52,11 +52,10 @@ use Rattle.variables.specs.Promises.{
   Sought,
   Lifted,
   Inserts,
-  Leaves,
   VariablesTurned,
   latest,
 }
-use Rattle.variables.specs.Promises.{VariablesBlank, Noted, Fills, Since, Notes, Full, NotesRow, NotesBoth, VariableJoins}
+use Rattle.variables.specs.Promises.{VariablesBlank, Noted, Fills, Since, Notes, Full, NotesRow, VariableJoins}
 use Rattle.variables.specs.declared.Rows.{Rows}
 use Rattle.variables.specs.declared.operands.Stored.{Stored}
 use Rattle.variables.proofs.Entries.{put-length, put_this, kept-all, kept_trans, kept-part, kept_put, made_kept, row_move, row_kept, row_split, row_first, cut}
@@ -232,9 +231,6 @@ unfolding row
 seek_start s m lo n w = record { low = omega arith; high = omega arith; below = (let e : n - n ≡ 0 = omega arith in rw e tt); above = λ z. absurd (omega arith) }
 
 module _ {s m : List ℕ} {lo n w a b : ℕ} (g : Seeking s m lo n w a b) where
-  pub seek_none : b ≤ a → Belongs s m lo n w a
-  seek_none h = let e : b ≡ a = omega (arith, g.low) in record { inside = omega (arith, g.high); below = rw e at g.below; above = g.above }
-
   module _ {j : ℕ} (h : (a ≤ j) × (j < b)) {x : Name} {r : Ordering} (p : x ≡ name_in s w) (q : Stands x (name_in s (get_or m (lo + j) 0)) r) where
     pub seek_down : Sorted (row s m lo n) → r ≡ Less → Seeking s m lo n w a j
     seek_down t f = record {
@@ -378,9 +374,6 @@ unfolding row made over
 leave-start s mark k to m = record { high = omega arith; less = omega arith; len_same = refl; is = refl; low = kept-all 0 to m }
 
 module _ {s : List ℕ} {mark k to : ℕ} {m₀ : List ℕ} {i n : ℕ} {m : List ℕ} (g : Leaving s mark k to m₀ i n m) where
-  pub leave-done : k ≤ i → Leaves s mark k to m₀ m n
-  leave-done h = let e : i ≡ k = omega (arith, g.high) in record { len_same = g.len_same; is = rw e at g.is; less = omega (arith, g.less, g.high); low = g.low }
-
   pub leave_sorted : Sorted (row s m to n)
   leave_sorted = rw g.is (env_sorted (made s m₀ mark i))
 
@@ -447,9 +440,6 @@ pub noted-kept : {s m : List ℕ} {base lo n : ℕ} {g : List ℕ} (m' : List �
 noted-kept {s} {m} {base} m' old aside a b f = record {
   is = λ p c d e. rw (aside.same p (omega arith) (omega arith), latest-kept s m m' (name_in s (entry m p).word) base old) (f.is p c d e);
 }
-
-pub noted-none : (s m : List ℕ) (base lo n : ℕ) → Noted s m base lo n []
-noted-none s m base lo n = record { is = λ p a b c. absurd (omega arith) }
 
 pub zeros-blank : (n : ℕ) → VariablesBlank (replicate n 0)
 zeros-blank n = record { is = at n }
@@ -592,12 +582,6 @@ module _ {s m : List ℕ} {base lo n hi k : ℕ} {g g1 : List ℕ} (low : bindin
   pub note_second : Noted s m 0 hi k g1
   unfolding latest
   note_second = record { is = λ p a b c. f.fills.behind p (omega arith) ∙ blank.is (p - bindings_most) }
-
-  pub note_both : {g2 : List ℕ} → NotesRow s m base hi k g1 g2 → NotesBoth s m base lo n hi k g2
-  note_both e = record {
-    left = record { is = λ p a b c. e.fills.before p (omega arith) (omega arith) ∙ f.is.is p a b (omega (arith, e.fills.len_same)) };
-    right = e.is;
-  }
 
 -- ---- value_at
 

@@ -1,7 +1,7 @@
 // Variables in memory: the bindings in the order in which they are made, and the rows that the arms of an `if` leave.
 #![tactic(auto)]
 
-ghost use Rattle.std.specs.Prelude.{◌≡◌, ◌+◌, ◌≤◌, ◌<◌, length};
+ghost use Rattle.std.specs.Prelude.{◌≡◌, ◌+◌, ◌≤◌, ◌<◌, length, IfSome};
 ghost use Rattle.rules.specs.Lists.{same as same_of};
 ghost use Rattle.lexer.specs.Names.{name};
 ghost use Rattle.memory.specs.Layout.{script_most};
@@ -126,6 +126,7 @@ fn retag(w: usize, t: usize) -> usize
 // Stays: each writer's clause names the size of scratch memory: a struct over the `&mut` would promise in each contract that it keeps its loan, a clause for a clause.
 
 // Entry i is set.
+#[tactic(auto, using(crate::proofs::Entries::put_is))]
 fn put(scratch: &mut [usize], i: usize, w: usize, x: usize)
     requires { (variables_size ≤ length scratch.old) × (i < entries_most) }
     ensures { scratch.new ≡ put_of scratch.old i w x }
@@ -268,6 +269,7 @@ impl Scope<'_> {
     }
 
     // What the name of w is among n bindings; nil if it is unbound.
+    #[tactic(auto, using(crate::proofs::Laws::value_is))]
     fn value(&self, n: usize, w: usize) -> Stored
         requires { n ≤ entries_most }
         ensures { Values self.now.script.now self.now.scratch.now n w result }
@@ -321,6 +323,7 @@ impl Scope<'_> {
     }
 
     // The base bindings are noted for a row for which none is noted, the latest first, until each entry has a note.
+    #[tactic(auto, using(crate::proofs::Laws::noting_start))]
     fn note_row(&self, g: &mut [u16], base: usize, row: Row)
         requires in_bounds { (bindings_most ≤ length g.old) × (base ≤ entries_most) }
         requires aside { Aside self.now.script.now self.now.scratch.now row }
@@ -349,17 +352,19 @@ impl Scope<'_> {
         self.note_row(g, base, rows.right);
     }
 
-    // What the name of entry p is among n bindings; nil if it is unbound. An entry that g has no place for is looked up.
-    fn value_at(&self, g: &[u16], n: usize, p: usize) -> Stored
+    // What the name of entry p is among n bindings; nil if it is unbound. Without notes, or with none for the entry, the name is looked up.
+    fn value_at(&self, g: Option<&[u16]>, n: usize, p: usize) -> Stored
         requires in_bounds { (n ≤ entries_most) × ((bindings_most ≤ p) × (p < entries_most)) }
-        requires noted { Noted self.now.script.now self.now.scratch.now n p 1 g.now }
+        requires noted { IfSome g (λ t. Noted self.now.script.now self.now.scratch.now n p 1 t.now) }
         ensures { Values self.now.script.now self.now.scratch.now n (entry self.now.scratch.now p).word result }
     {
-        if let Some(&i) = g.get(p - BINDINGS_MOST) {
-            if i == 0 {
-                return Stored::NIL;
+        if let Some(notes) = g {
+            if let Some(&i) = notes.get(p - BINDINGS_MOST) {
+                if i == 0 {
+                    return Stored::NIL;
+                }
+                return self.operand(usize::from(i) - 1);
             }
-            return self.operand(usize::from(i) - 1);
         }
         self.value(n, self.scratch[p])
     }
@@ -383,11 +388,11 @@ impl Scope<'_> {
         }
     }
 
-    // The next name of two rows, which the arms set over base bindings; g has the rows' notes, or is empty.
-    pub fn next_join(&self, g: &[u16], base: usize, rows: Rows) -> Option<Joint>
+    // The next name of two rows, which the arms set over base bindings; g has the rows' notes, if there are any.
+    pub fn next_join(&self, g: Option<&[u16]>, base: usize, rows: Rows) -> Option<Joint>
         requires in_bounds { base ≤ entries_most }
         requires aside { BothAside self.now.script.now self.now.scratch.now rows }
-        requires notes_both { NotesBoth self.now.script.now self.now.scratch.now base rows.left.lo rows.left.len rows.right.lo rows.right.len g.now }
+        requires notes_both { IfSome g (λ t. NotesBoth self.now.script.now self.now.scratch.now base rows.left.lo rows.left.len rows.right.lo rows.right.len t.now) }
         ensures { Nexts self.now.script.now self.now.scratch.now base rows.left.lo rows.left.len rows.right.lo rows.right.len result }
     {
         let lo = rows.left.lo;

@@ -5,7 +5,8 @@ ghost use Rattle.std.specs.Prelude.{◌<◌};
 ghost use Rattle.variables.specs.Layout.{tag_room};
 
 // An operand's tag and payload.
-// Stays: lent memory is words of 64 bits, two for an operand.
+// Stays: no `kinds::Words`, since its tag has a bound, by which it goes into one word with the name; and no `Opnd`, which is program's, and this crate doesn't
+// need the program.
 #[derive(Clone, Copy)]
 pub struct Stored {
     pub tag: usize,

@@ -5,6 +5,7 @@ use mathlib.Core.Path.{◌≡◌, refl, sym, ap, ◌∙◌}
 use mathlib.Core.List.{List, map}
 use Prim.Native.Nat.{ℕ, ◌+◌, ◌≤◌}
 use native.Mathlib.Omega.{arith}
+use lib.ListN.{length, get_or}
 use Rattle.ids.specs.declared.ClassId.{ClassId}
 use Rattle.ids.specs.declared.FunId.{FunId}
 use Rattle.kinds.specs.declared.Kind.{Kind}
@@ -15,6 +16,8 @@ use Rattle.rules.specs.Program as P
 use Rattle.rules.specs.Program.{function_named, constructor_of}
 use Rattle.rules.specs.Reading.{Parser, Reads, lookup, named, is_fixed, fixed, class_named, meaning, constant_of, push, create_instance, send}
 use Rattle.lexer.specs.Names.{name}
+use Rattle.lexer.proofs.Names.{by_test}
+use Rattle.lexer.proofs.Texts.{same_eq}
 use Rattle.variables.specs.Memory.{vars}
 use Rattle.program.specs.Rows.{opnd_of, op_in, given, name_in, owner_in}
 use Rattle.program.specs.View.{program_view, callee_in}
@@ -33,6 +36,16 @@ use Rattle.cursor.specs.Steps.{assigns, means}
 use Rattle.cursor.specs.Promises.{Out, done, CursorDid, CursorAdds, Assigns, parsed_of}
 use Rattle.cursor.specs.outcomes.Parsed.{Parsed, Done, Refused}
 use Rattle.cursor.proofs.Laws.{step-none, step_trans, Acted, got, gave, refuses, arrives, ends_as, added_did}
+
+-- ---- fixed values
+
+-- a text that no fixed value has, by its length and its first byte
+pub none_fixed : {t n : List ℕ} → t ≡ n → (length t ≡ 3 → get_or t 0 0 ≡ 110 → ⊥) → (length t ≡ 4 → get_or t 0 0 ≡ 116 → ⊥)
+    → (length t ≡ 5 → get_or t 0 0 ≡ 102 → ⊥) → false ≡ is_fixed n
+none_fixed {t} {n} e a b d =
+    let no : (k : List ℕ) → (length t ≡ length k → get_or t 0 0 ≡ get_or k 0 0 → ⊥) → same n k ≡ false
+    = λ k h. by_test (λ q. q ≡ false) (same n k) (λ f. let g : t ≡ k = e ∙ same_eq n k f in absurd (h (ap length g) (ap (λ l. get_or l 0 0) g))) (λ f. refl) in
+    rw (no (bytes "true") b, no (bytes "false") d, no (bytes "nil") a) refl
 
 -- ---- assignments
 

@@ -42,9 +42,8 @@ use Rattle.cursor.proofs.Laws.{ident_on}
 use Rattle.cursor.specs.Parsers.{AddsKept}
 use Rattle.cursor.specs.declared.Parser.{Parser as Reader}
 use Rattle.program.specs.Drafts.{DraftKept}
-use Rattle.memory.specs.Layout.{operands_most}
 use Rattle.variables.specs.Layout.{entries_most}
-use Rattle.cursor.specs.Layout.{stack_at, scratch_size}
+use Rattle.cursor.specs.Layout.{stack_at}
 use Rattle.functions.specs.outcomes.OpenedFun.{OpenedFun}
 use Rattle.functions.specs.params.Names.{name_at, names_from, names_in, Lie, param_of}
 use Rattle.functions.specs.params.Promises.{receive_cur, enter_cur, PutsName, Head, Params, Bound, PushesParam, ParamsFilled, PushesParams}
@@ -186,9 +185,6 @@ module _ {s w₀ : List ℕ} {c₀ : Cursor} {w : List ℕ} {c : Cursor} (i : Na
         went-args : c1.args ≡ c.args
         went-args = ap (λ (z : Cursor). z.args) (ident_on d g).0
 
-        pub naming_room : (scratch_size ≤ length w) × (c1.args < operands_most)
-        naming_room = (omega (arith, i.long, i.head.scratch), omega (arith, went-args, (ident_on d g).1.0, (ident_on d g).1.1 i.inside, i.on, i.head.script))
-
         module _ {w' : List ℕ} {c2 : Cursor} (p : PutsName w c1 n w' c2) where
           pub naming_at : c2.at ≡ c1.at
           naming_at = ap (λ (z : Cursor). z.at) p.cur
@@ -245,9 +241,6 @@ module _ {s w₀ : List ℕ} {c₀ : Cursor} {w : List ℕ} {c : Cursor} (i : Na
 
               moved-args : c3.args ≡ c2.args
               moved-args = ap (λ (z : Cursor). z.args) moved.0
-
-              pub naming_less : length s - c3.at < length s - c.at
-              naming_less = omega (arith, b.further c3 j, naming_at, (ident_on d g).1.0, (ident_on d g).1.1 i.inside)
 
               pub naming_on : Naming s w₀ c₀ w' c3
               naming_on =

@@ -7,18 +7,12 @@ use Rattle.program.specs.declared.Name.{Name}
 use Rattle.cursor.specs.Parsers.{cursor_of, moved_in, ParserKept, AddsKept}
 use Rattle.cursor.specs.declared.Parser.{Parser}
 use Rattle.functions.specs.outcomes.OpenedFun.{OpenedFun}
-use Rattle.functions.specs.params.Promises.{PutsName, Params, PushesParam, PushesParams, PushesSelf, Funs}
+use Rattle.functions.specs.params.Promises.{Params, PushesParam, PushesParams, PushesSelf, Funs}
 
 -- a function, with the parser behind it
 abbrev pub fun_in : Parser → Result FunId Refusal → OpenedFun
 fun_in p (Ok f) = OpenedFun.Done (cursor_of p) f
 fun_in p (Err e) = OpenedFun.Refused (number_of e)
-
--- a name waits; the program stays
-pub record ParserPutsName (n : Name) (p p' : Parser) : Type 0 where
-  pub kept : ParserKept p p'
-  pub program : p'.program ≡ p.program
-  pub puts : PutsName p.scratch.now (cursor_of p) n p'.scratch.now (cursor_of p')
 
 -- names wait; the program stays
 pub record ParserParams (p p' : Parser) (r : Result (Unit {0}) Refusal) : Type 0 where

@@ -1,7 +1,9 @@
 -- What each function relies on and promises. Assumes nothing.
-use Rattle.std.specs.Prelude.{◌≡◌, List, [], ℕ, ◌+◌, ◌*◌, ◌≤◌, ◌<◌, length, get_or, Option}
+use Rattle.std.specs.Prelude.{◌≡◌, List, [], ℕ, ◌+◌, ◌*◌, ◌≤◌, ◌<◌, length, get_or, Option, Result, Ok, Err}
 use Rattle.ids.specs.declared.BlockId.{BlockId}
 use Rattle.ids.specs.declared.InsnId.{InsnId}
+use Rattle.refusals.specs.declared.Refusal.{Refusal}
+use Rattle.refusals.specs.Refusals.{number_of}
 use Rattle.rules.specs.Actions.{loop}
 use Rattle.rules.specs.Program as P
 use Rattle.rules.specs.Reading.{parse_param, turns, push_params, push_self, new_fun}
@@ -66,6 +68,14 @@ NamedIf s w c w' (Refused e) = Unit {0}
 pub record Params (s w : List ℕ) (c : Cursor) (w' : List ℕ) (r : Moved) : Type 0 where
   pub is : (L : P.Limits) (m : List ℕ) → outcome s m w' (names_of s w' r) ≡ loop (parse_param L s) (turns s) [] (parser_of s m w c)
   pub ok : NamedIf s w c w' r
+
+-- the same of a script, a place and scratch memory, for every cursor that stands there
+abbrev pub named_to : Cursor → Result (ℕ × ℕ) Refusal → Moved
+named_to c (Ok n) = On (stack_cur n.0 (move_cur n.1 c))
+named_to c (Err e) = Refused (number_of e)
+
+abbrev pub ParamsAt : List ℕ → ℕ → List ℕ → List ℕ → Result (ℕ × ℕ) Refusal → Type 0
+ParamsAt s at w w' r = (c : Cursor) → c.at ≡ at → Head s w c → Params s w c w' (named_to c r)
 
 -- ---- parameters
 

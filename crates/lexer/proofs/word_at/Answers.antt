@@ -1,7 +1,8 @@
 -- `lexer::word_at` meets its contract. Assumes nothing.
-use Rattle.std.proofs.Common.{◌≡◌, ◌+◌, drop, sym, ◌∙◌, rules, arith}
+use Rattle.std.proofs.Common.{◌≡◌, ◌+◌, drop, sym, ◌∙◌, w64, rules, arith}
+use Rattle.std.proofs.lemmas.Int.{to_z-of_z}
 use Rattle.rules.specs.Words.{in_word, digit, run}
-use Rattle.lexer.proofs.Lexes.{word_end, word-letter, word-digit, word_over, word-sign, word_none}
+use Rattle.lexer.proofs.Lexes.{in_i64, word_end, word-letter, word-digit, word_over, word-sign, word_none}
 use Rattle.lexer.proofs.Tried.{failed, there, missing}
 use Rattle.lexer.proofs.word_at.Goals as goal
 
@@ -27,10 +28,11 @@ overflow_sub-len-then-is_ascii_digit c =
 pub returns-then-is_ascii_digit : goal.returns-then-is_ascii_digit
 returns-then-is_ascii_digit c =
     let ends : c.behind-next-then-is_ascii_digit.result ≡ c.skip_blank-start.result + run digit (drop c.skip_blank-start.result c.args.script.now) = search rules in
-    word-digit _ _ _ c.skip_blank-start.ensures c.in-Some.ensures.lookup.3.0 (c.in-Some.ensures.lookup.3.1 0)
+    let found = there _ _ c.in_ok-value.ensures.value in
+    simp (to_z-of_z w64 _ (in_i64 _ c.literal.ensures found))
+    (word-digit _ _ _ c.skip_blank-start.ensures c.in-Some.ensures.lookup.3.0 (c.in-Some.ensures.lookup.3.1 0)
     (sym c.is_ascii_alphabetic.ensures.value ∙ c.if-is_ascii_alphabetic.false)
-    (sym c.is_ascii_digit.ensures.value ∙ c.if-is_ascii_digit.true) ends c.bytes_at-then-is_ascii_digit.ensures c.literal.ensures
-    (there _ _ c.in_ok-value.ensures.value)
+    (sym c.is_ascii_digit.ensures.value ∙ c.if-is_ascii_digit.true) ends c.bytes_at-then-is_ascii_digit.ensures c.literal.ensures found)
 
 pub returns-in_err-value : goal.returns-in_err-value
 returns-in_err-value c =

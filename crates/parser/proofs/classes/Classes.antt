@@ -2,7 +2,7 @@
 use mathlib.Core.Path.{◌≡◌, refl, sym, ap, ◌∙◌}
 use mathlib.Core.List.{List}
 use mathlib.Core.Option.{none, some}
-use Prim.Native.Nat.{ℕ, ◌<◌}
+use Prim.Native.Nat.{ℕ}
 use native.Mathlib.Omega.{arith}
 use Rattle.ids.specs.declared.ClassId.{ClassId}
 use Rattle.rules.specs.Actions.{answered, refused, loop}
@@ -24,7 +24,6 @@ use Rattle.cursor.specs.outcomes.Moved.{Moved, On, Refused}
 use Rattle.cursor.proofs.Laws.{ident_on, ident_is}
 use Rattle.functions.specs.Bodies.{Rests, Onto, Takes}
 use Rattle.parser.specs.classes.Turning.{class_cur}
-use Rattle.parser.proofs.classes.Loops.{rests_moved}
 
 module _ (l : Limits) {s m w : List ℕ} {c : Cursor} (g : Rests s m w c) {u : Ident} (a : Idents s c u) where
   abbrev Class : List ℕ → List ℕ → Moved → Type 0
@@ -35,9 +34,6 @@ module _ (l : Limits) {s m w : List ℕ} {c : Cursor} (g : Rests s m w c) {u : I
   class_no f = record { is = let h = rw f at (a.moves.is m w) in rw (← h); ok = tt }
 
   module _ {c1 : Cursor} {n : Name} (f : u ≡ Ident.Found c1 n) where
-    name_rests : Rests s m w c1
-    name_rests = rests_moved g (ident_on a f).0 (omega (arith, (ident_on a f).1.0)) ((ident_on a f).1.1 g.ready.inside)
-
     module _ {m1 : List ℕ} (d : Counts) (x : Result ClassId Refusal)
         (b : View.ProgramDid (View.class_for (View.limits_of l) n) View.unchanged c1.counts.classes (View.more_classes c1.counts) m c1.counts m1 (View.class_of d x)) where
       full_is : {e : Refusal} → x ≡ Err e → refused (number_of e) ≡ new_class (View.limits_of l) (name_in s n) (parser_of s m w c1)
@@ -66,17 +62,6 @@ module _ (l : Limits) {s m w : List ℕ} {c : Cursor} (g : Rests s m w c) {u : I
         opened-at : c3.at ≡ c1.at
         opened-at = ap (λ (z : Cursor). z.at) opened
 
-        pub class_rests : Rests s m1 w c3
-        class_rests =
-            let h = name_rests.ready in
-            rw opened (record {
-              ready = record { script = h.script; inside = h.inside; tables = added.ready; scratch = h.scratch; room = h.room; args = h.args };
-              args = name_rests.args;
-            })
-
-        pub class-there : k.0 < c3.counts.classes
-        class-there = omega (arith, added.number, ap (λ (z : Counts). z.classes) added.counts, ap (λ (z : Cursor). z.counts.classes) opened)
-
         module _ {m2 w2 : List ℕ} {y : Moved} (t : Takes (loop (parse_class_member (View.limits_of l) s k.0) (turns s) tt) 0 s m1 w c3 m2 w2 (moved_of y)) where
           pub class_no3 : {e : ℕ} → y ≡ Refused e → Class m2 w2 (Refused e)
           unfolding parse_class
@@ -85,9 +70,6 @@ module _ (l : Limits) {s m w : List ℕ} {c : Cursor} (g : Rests s m w c) {u : I
           module _ {c4 : Cursor} (z : y ≡ On c4) where
             things_ok : Rests s m2 w2 c4 × Onto 0 c3 c4
             things_ok = rw z at t.ok
-
-            pub class_tables2 : View.ProgramReady m2 c4.counts
-            class_tables2 = things_ok.0.ready.tables
 
             things_is : answered (tt, parser_of s m2 w2 c4) ≡ loop (parse_class_member (View.limits_of l) s k.0) (turns s) tt (with_class (some k.0) (parser_of s m1 w c2))
             things_is = let h = rw z at t.is in rw opened-is at h

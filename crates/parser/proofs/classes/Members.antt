@@ -1,7 +1,7 @@
 -- The ways through the readers of methods, attributes and the things in a class. Assumes nothing.
 use mathlib.Core.Path.{◌≡◌, refl, sym, ap, ◌∙◌}
 use mathlib.Core.List.{List}
-use Prim.Native.Nat.{ℕ, ◌+◌, ◌≤◌, ◌<◌}
+use Prim.Native.Nat.{ℕ, ◌+◌, ◌≤◌}
 use native.Mathlib.Omega.{arith}
 use lib.ListN.{length}
 use borrow.Author.Tests.{eq-eqb, ne_eqb}
@@ -45,12 +45,6 @@ module _ (l : Limits) {s m w : List ℕ} {c : Cursor} (k : ClassId) {x : OpenedF
   method_no o = record { is = let h = rw o at a.takes.is in rw (← h); ok = tt }
 
   module _ {c1 : Cursor} {f : FunId} (o : x ≡ OpenedFun.Done c1 f) where
-    pub method_tables : View.ProgramReady m1 c1.counts
-    method_tables = let h = rw o at a.takes.ok in h.0.ready.tables
-
-    pub method_known : f.0 < c1.counts.functions
-    method_known = rw o at a.known
-
     read_is : answered (f.0, parser_of s m1 w1 c1) ≡ parse_fun (View.limits_of l) s (parser_of s m w c)
     read_is = rw o at a.takes.is
 
@@ -107,12 +101,6 @@ module _ (l : Limits) {s m w : List ℕ} {c : Cursor} (k : ClassId) (g : Rests s
 
       attr_rests : Rests s m w c2
       attr_rests = rests_moved g whole (omega (arith, colon_on.1.0, (ident_on b i).1.0)) ((ident_on b i).1.1 (colon_on.1.1 g.ready.inside))
-
-      pub attr_tables : View.ProgramReady m c2.counts
-      attr_tables = attr_rests.ready.tables
-
-      pub attr_class : k.0 < c.counts.classes → k.0 < c2.counts.classes
-      attr_class h = omega (arith, ap (λ (z : Cursor). z.counts.classes) whole)
 
       module _ {m' : List ℕ} {y : Result (Unit {0}) Refusal} (d : Declares l k.0 n s m c2.counts m' y) where
         pub attr_no3 : {e : Refusal} → y ≡ Err e → Attr m' (Refused (number_of e))

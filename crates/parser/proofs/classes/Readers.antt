@@ -2,9 +2,7 @@
 use mathlib.Core.Bool.{Bool, true, false}
 use mathlib.Core.Path.{◌≡◌, refl, sym, ap, ◌∙◌}
 use mathlib.Core.List.{List}
-use Prim.Native.Nat.{ℕ, ◌-◌, ◌<◌}
-use lib.ListN.{length}
-use native.Mathlib.Omega.{arith}
+use Prim.Native.Nat.{ℕ}
 use Rattle.std.specs.Prelude.{Option as Maybe, Some, None, Result, Ok, Err, is_some}
 use Rattle.ids.specs.declared.ClassId.{ClassId}
 use Rattle.ids.specs.declared.FunId.{FunId}
@@ -27,17 +25,16 @@ use Rattle.program.specs.declared.writer.Draft.{Draft}
 use Rattle.cursor.specs.Cursor.{Cursor, count_cur}
 use Rattle.cursor.specs.Promises.{Sees, Idents, moved_of}
 use Rattle.cursor.specs.outcomes.Moved.{Moved}
-use Rattle.cursor.specs.Parsers.{cursor_of, moved_in, ident_in, ParserKept, ParserIdents, ParserExpects}
-use Rattle.cursor.specs.Room.{ReadingRoom}
+use Rattle.cursor.specs.Parsers.{cursor_of, placed, moved_in, ident_in, ParserKept, ParserIdents, ParserExpects}
 use Rattle.cursor.specs.declared.Parser.{Parser}
-use Rattle.cursor.proofs.Kept.{put, after_same, kept_none, kept_trans, kept_placed, After, after_none, after_placed, after_kept, idents_of}
+use Rattle.cursor.proofs.Kept.{after_same, kept_none, kept_trans, kept_placed, After, after_none, after_placed, after_kept, idents_of}
 use Rattle.functions.specs.params.Parsers.{fun_in}
 use Rattle.functions.specs.Bodies.{Takes}
 use Rattle.functions.proofs.Readers as F
 use Rattle.functions.specs.Parsers.{Resting, through, ParserTakes, ParserTaken}
 use Rattle.functions.proofs.Readers.{takes_end, takes_of}
 use Rattle.parser.specs.classes.Turning.{Turns, turned_in, ParserTurns}
-use Rattle.parser.proofs.classes.Loops.{Going, going_start, going_no, going_ends, going_less, going_on}
+use Rattle.parser.proofs.classes.Loops.{Going, going_start, going_no, going_ends, going_on}
 use Rattle.parser.proofs.classes.Members as M
 use Rattle.parser.proofs.classes.Classes as C
 
@@ -51,9 +48,6 @@ module _ (p : Parser) (k : ClassId) {p1 : Parser} {x : Result FunId Refusal} (a 
   method_no f = record { kept = a.kept; takes = M.method_no p.program.limits k a.taken (ap (fun_in p1) f) }
 
   module _ {f : FunId} (o : x ≡ Ok f) where
-    pub method_known : f.0 < p1.program.counts.functions
-    method_known = M.method_known p.program.limits k a.taken (ap (fun_in p1) o)
-
     module _ {r : Function} (b : View.ReadsFun p1.program.words.now p1.program.counts f.0 r) (y : Maybe FunId)
         (d : fun_found y ≡ method_named (View.program_view p1.script.now p1.program.words.now p1.program.counts) k.0 (name_in p1.script.now r.name)) where
       named : fun_found y ≡ method_named (View.program_view p.script.now p1.program.words.now p1.program.counts) k.0 (name_in p.script.now r.name)
@@ -92,11 +86,8 @@ module _ (p : Parser) (k : ClassId) (g : Resting p) {p1 : Parser} {x : Result (U
     attr_no2 i = takes_end a2 (M.attr_no2 p.program.limits k g a.expects (ap (moved_in p1) f) colon (ap (ident_in p2) i))
 
     module _ {n : Name} (i : u ≡ Ok n) where
-      pub attr_class : k.0 < p.program.counts.classes → k.0 < p2.program.counts.classes
-      attr_class = M.attr_class p.program.limits k g a.expects (ap (moved_in p1) f) colon (ap (ident_in p2) i)
-
       module _ {d : Draft} (h : DraftKept p2.program d) (cs : d.counts ≡ p2.program.counts) where
-        a3 : {j : ReadingRoom p2.script.now p2.scratch.now} → After p (record p2 { program = d; room = j }) d.words.now p.scratch.now
+        a3 : After p (record p2 { program = d }) d.words.now p.scratch.now
         a3 =
             record {
               kept = let k = a2.kept in record { script = k.script; limits = h.limits ∙ k.limits; words_loan = h.loan ∙ k.words_loan; scratch_loan = k.scratch_loan };
@@ -112,9 +103,9 @@ module _ (p : Parser) (k : ClassId) (g : Resting p) {p1 : Parser} {x : Result (U
             (M.attr_yes p.program.limits k g a.expects (ap (moved_in p1) f) colon (ap (ident_in p2) i) e refl)
         ended (Err z) e = M.attr_no3 p.program.limits k g a.expects (ap (moved_in p1) f) colon (ap (ident_in p2) i) e refl
 
-        pub attr_end : {j : ReadingRoom p2.script.now p2.scratch.now} (y : Result (Unit {0}) Refusal)
+        pub attr_end : (y : Result (Unit {0}) Refusal)
             → Declares p2.program.limits k.0 n p2.script.now p2.program.words.now p2.program.counts d.words.now y
-            → Attr (record p2 { program = d; room = j }) y
+            → Attr (record p2 { program = d }) y
         attr_end y e = takes_end a3 (ended y (rw (a2.kept.limits, a2.kept.script, a2.words) at e))
 
 -- ---- parse_member
@@ -135,15 +126,15 @@ module _ (p : Parser) (k : ClassId) (g : Resting p) {r : Result Word Refusal} (v
   pub member_none : {e : Refusal} → r ≡ Err e → Member p (Err e)
   member_none f = record { kept = kept_none p; turns = M.member_none p.program.limits k g v f }
 
-  module _ {x : Word} {h : ReadingRoom p.script.now p.scratch.now} (f : r ≡ Ok x) where
-    pub member_over : x.token ≡ K.EndOfText → Member (put p x.next h) (Ok false)
+  module _ {x : Word} (f : r ≡ Ok x) where
+    pub member_over : x.token ≡ K.EndOfText → Member (placed x.next p) (Ok false)
     member_over z = record { kept = kept_placed refl; turns = M.member_over p.program.limits k g v f refl z }
 
-    pub member_ends : x.token ≡ K.End → Member (put p x.next h) (Ok false)
+    pub member_ends : x.token ≡ K.End → Member (placed x.next p) (Ok false)
     member_ends z = record { kept = kept_placed refl; turns = M.member_ends p.program.limits k g v f refl (λ e. end_apart (sym z ∙ e)) z }
 
     module _ (z : x.token ≡ K.Def) {p1 : Parser} (y : Result (Unit {0}) Refusal)
-        (b : ParserTakes (λ L s. parse_method L s k.0) 1 (put p x.next h) p1 (through p1 y)) where
+        (b : ParserTakes (λ L s. parse_method L s k.0) 1 (placed x.next p) p1 (through p1 y)) where
       n0 : x.token ≡ K.EndOfText → ⊥
       n0 e = def_apart.0 (sym z ∙ e)
 
@@ -157,7 +148,7 @@ module _ (p : Parser) (k : ClassId) (g : Resting p) {r : Result Word Refusal} (v
       member_def i = record { kept = kept_trans (kept_placed refl) b.kept; turns = M.member_def p.program.limits k g v f refl n0 n5 z {y = moved_in p1 y} b.takes (ap (moved_in p1) i) }
 
     module _ (z : x.token ≡ K.AttrAccessor) {p1 : Parser} (y : Result (Unit {0}) Refusal)
-        (b : ParserTakes (λ L s. parse_attr L s k.0) 1 (put p x.next h) p1 (through p1 y)) where
+        (b : ParserTakes (λ L s. parse_attr L s k.0) 1 (placed x.next p) p1 (through p1 y)) where
       m0 : x.token ≡ K.EndOfText → ⊥
       m0 e = attr_apart.0 (sym z ∙ e)
 
@@ -174,7 +165,7 @@ module _ (p : Parser) (k : ClassId) (g : Resting p) {r : Result Word Refusal} (v
       member_attr i = record { kept = kept_trans (kept_placed refl) b.kept; turns = M.member_attr p.program.limits k g v f refl m0 m5 m3 z {y = moved_in p1 y} b.takes (ap (moved_in p1) i) }
 
     pub member_other : (x.token ≡ K.EndOfText → ⊥) → (x.token ≡ K.End → ⊥) → (x.token ≡ K.Def → ⊥) → (x.token ≡ K.AttrAccessor → ⊥)
-        → Member (put p x.next h) (Err Q.UnexpectedWord)
+        → Member (placed x.next p) (Err Q.UnexpectedWord)
     member_other n0 n5 n3 n9 = record { kept = kept_placed refl; turns = M.member_other p.program.limits k g v f refl n0 n5 n3 n9 }
 
 -- ---- loops over things
@@ -188,15 +179,6 @@ pub stands_start : (f : P.Limits → List ℕ → Unit {0} → Reads (Turn (Unit
 stands_start f p g = record { going = going_start (f (limits_of p.program.limits) p.script.now) _ _ _ _ g; kept = kept_none p }
 
 module _ {f : P.Limits → List ℕ → Unit {0} → Reads (Turn (Unit {0}) (Unit {0}))} {p₀ p : Parser} (i : Stands f p₀ p) where
-  pub stands_rests : Resting p
-  stands_rests = rw i.kept.script i.going.rests
-
-  pub stands_class : {k : ℕ} → k < p₀.program.counts.classes → k < p.program.counts.classes
-  stands_class h = omega (arith, i.going.onto.classes)
-
-  pub stands_outside : p₀.class ≡ None → p.class ≡ None
-  stands_outside h = i.going.onto.class ∙ h
-
   module _ {p1 : Parser} (r : Result Bool Refusal) (a : ParserTurns (λ L s. f L s tt) p p1 r) where
     turned : Turns (f (limits_of p₀.program.limits) p₀.script.now tt) p₀.script.now p.program.words.now p.scratch.now (cursor_of p)
         p1.program.words.now p1.scratch.now (turned_in p1 r)
@@ -210,9 +192,6 @@ module _ {f : P.Limits → List ℕ → Unit {0} → Reads (Turn (Unit {0}) (Uni
 
     pub stands_end : r ≡ Ok false → ParserTakes (λ L s. loop (f L s) (turns s) tt) 0 p₀ p1 (through p1 (Ok tt))
     stands_end h = record { kept = kept_on; takes = going_ends i.going turned (ap (turned_in p1) h) }
-
-    pub stands_less : r ≡ Ok true → length p₀.script.now - p1.at < length p₀.script.now - p.at
-    stands_less h = going_less i.going turned (ap (turned_in p1) h)
 
     pub stands_on : r ≡ Ok true → Stands f p₀ p1
     stands_on h = record { going = going_on i.going turned (ap (turned_in p1) h); kept = kept_on }
@@ -233,27 +212,21 @@ module _ (p : Parser) (g : Resting p) {p1 : Parser} {u : Result Name Refusal} (a
         p.program.words.now p1.program.counts d.words.now (View.class_of d.counts x)
     opened = rw ((F.c1 p g a).kept.limits, (F.c1 p g a).words) at b
 
-    kept2 : {j : ReadingRoom p1.script.now p1.scratch.now} → ParserKept p (record p1 { program = d; room = j })
+    kept2 : ParserKept p (record p1 { program = d })
     kept2 = let k = (F.c1 p g a).kept in record { script = k.script; limits = h.limits ∙ k.limits; words_loan = h.loan ∙ k.words_loan; scratch_loan = k.scratch_loan }
 
-    b2 : {j : ReadingRoom p1.script.now p1.scratch.now} → After p (record p1 { program = d; room = j }) d.words.now p.scratch.now
+    b2 : After p (record p1 { program = d }) d.words.now p.scratch.now
     b2 = record { kept = kept2; words = refl; scratch = (F.c1 p g a).scratch }
 
-    pub class_no2 : {j : ReadingRoom p1.script.now p1.scratch.now} {e : Refusal} → x ≡ Err e → Class (record p1 { program = d; room = j }) (Err e)
+    pub class_no2 : {e : Refusal} → x ≡ Err e → Class (record p1 { program = d }) (Err e)
     class_no2 i = takes_end b2 (C.class_no2 p.program.limits g a.idents (ap (ident_in p1) f) d.counts x opened i)
 
     module _ {k : ClassId} (i : x ≡ Ok k) where
-      b3 : {j : ReadingRoom p1.script.now p1.scratch.now} → After p (record p1 { program = d; class = Some k; room = j }) d.words.now p.scratch.now
-      b3 = after_same (b2 {j = p1.room}) refl refl refl
+      b3 : After p (record p1 { program = d; class = Some k }) d.words.now p.scratch.now
+      b3 = after_same b2 refl refl refl
 
-      pub class_rests : Resting (record p1 { program = d; class = Some k })
-      class_rests = rw ((F.c1 p g a).kept.script, (F.c1 p g a).scratch) (C.class_rests p.program.limits g a.idents (ap (ident_in p1) f) d.counts x opened i refl refl)
-
-      pub class-there : k.0 < d.counts.classes
-      class-there = C.class-there p.program.limits g a.idents (ap (ident_in p1) f) d.counts x opened i refl refl
-
-      module _ {p2 : Parser} (y : Result (Unit {0}) Refusal) {j : ReadingRoom p1.script.now p1.scratch.now}
-          (t : ParserTakes (λ L s. loop (parse_class_member L s k.0) (turns s) tt) 0 (record p1 { program = d; class = Some k; room = j }) p2 (through p2 y)) where
+      module _ {p2 : Parser} (y : Result (Unit {0}) Refusal)
+          (t : ParserTakes (λ L s. loop (parse_class_member L s k.0) (turns s) tt) 0 (record p1 { program = d; class = Some k }) p2 (through p2 y)) where
         members : Takes (loop (parse_class_member (limits_of p.program.limits) p.script.now k.0) (turns p.script.now) tt) 0 p.script.now d.words.now p.scratch.now
             (cursor_of (record p1 { program = d; class = Some k })) p2.program.words.now p2.scratch.now (moved_of (moved_in p2 y))
         members = takes_of b3 t
@@ -273,10 +246,10 @@ module _ (p : Parser) (g : Resting p) {p1 : Parser} {u : Result Name Refusal} (a
               takes_end b4
               (C.class_twice p.program.limits g a.idents (ap (ident_in p1) f) d.counts x opened i refl refl {y = moved_in p2 y} members (ap (moved_in p2) z) o known s)
 
-          b5 : {i : ReadingRoom p2.script.now p2.scratch.now} → After p (record p2 { class = None; room = i }) p2.program.words.now p2.scratch.now
+          b5 : After p (record p2 { class = None }) p2.program.words.now p2.scratch.now
           b5 = after_same b4 refl refl refl
 
-          pub class_single : {i : ReadingRoom p2.script.now p2.scratch.now} → is_some o ≡ false → p.class ≡ None → Class (record p2 { class = None; room = i }) (Ok tt)
+          pub class_single : is_some o ≡ false → p.class ≡ None → Class (record p2 { class = None }) (Ok tt)
           class_single s outside =
               takes_end b5
               (C.class_single p.program.limits g a.idents (ap (ident_in p1) f) d.counts x opened i refl refl {y = moved_in p2 y} members (ap (moved_in p2) z) o known s

@@ -4,6 +4,8 @@ use Rattle.variables.proofs.Laws.{zeros-blank}
 use Rattle.variables.specs.Layout.{bindings_most}
 use Rattle.phis.proofs.join_arms.Goals as goal
 
+-- Stays: three calls rest on the same facts; tried with the law named on the function, and the check didn't find it.
+
 pub join_rows-requires-clause-aside : goal.join_rows-requires-clause-aside
 join_rows-requires-clause-aside c = arms_aside c.requires.arms c.set_aside-rn.ensures c.requires.lies
 

@@ -3,7 +3,7 @@ use mathlib.Core.Path.{ap}
 use Rattle.cursor.specs.Parsers.{parsed_in, moved_in}
 use Rattle.lexer.proofs.Tried.{failed}
 use Rattle.cursor.proofs.Kept.{after_none, after_kept, after_adds, finish}
-use Rattle.statements.proofs.Paths.{return_no, expr_in, return_no2, return_yes}
+use Rattle.statements.proofs.Paths.{return_no, return_no2, return_yes}
 use Rattle.statements.proofs.Standing.{adds_of}
 use Rattle.statements.proofs.parse_return.Goals as goal
 
@@ -12,10 +12,6 @@ returns-in_err-v c =
     rw (failed _ c.from_residual.ensures.1)
     (finish (after_kept (after_none c.args.p.now) c.parse_expr.ensures.kept)
     (return_no c.args.p.now.program.limits _ c.args.depth {p = parsed_in c.parse_expr.new.p c.parse_expr.result} c.parse_expr.ensures.did (ap (parsed_in c.parse_expr.new.p) c.in_err-v.was)))
-
-pub add_end-requires : goal.add_end-requires
-add_end-requires c =
-    (expr_in c.args.p.now.program.limits _ c.args.depth {p = parsed_in c.parse_expr.new.p c.parse_expr.result} c.parse_expr.ensures.did (ap (parsed_in c.parse_expr.new.p) c.in_ok-v.was)).block
 
 pub returns-in_err-add_end : goal.returns-in_err-add_end
 returns-in_err-add_end c =

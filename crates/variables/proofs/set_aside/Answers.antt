@@ -1,5 +1,5 @@
 -- `variables::set_aside` meets its contract. Assumes nothing.
-use Rattle.variables.proofs.Laws.{leave-start, leave_sorted, leave-more, leave-done}
+use Rattle.variables.proofs.Laws.{leave-start, leave_sorted, leave-more}
 use borrow.Author.Rules.{rules}
 use Rattle.variables.proofs.set_aside.Goals as goal
 
@@ -11,6 +11,3 @@ insert-n-requires-clause-lies c = record { inside = search rules; sorted = searc
 
 pub loop-i-preserved : goal.loop-i-preserved
 loop-i-preserved c = search leave-more
-
-pub returns : goal.returns
-returns c = search leave-done

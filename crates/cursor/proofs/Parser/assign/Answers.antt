@@ -1,12 +1,12 @@
 -- `cursor::Parser::assign` meets its contract. Assumes nothing.
-use mathlib.Core.Path.{refl, sym, ◌∙◌}
-use Rattle.cursor.proofs.terms.Terms.{assign_no, assign_yes}
+use mathlib.Core.Path.{refl}
+use Rattle.lexer.proofs.Tried.{failed}
+use Rattle.cursor.specs.Parsers.{cursor_of}
 use Rattle.cursor.proofs.Parser.assign.Goals as goal
 
-pub returns-then-is_some-clause-assigns : goal.returns-then-is_some-clause-assigns
-returns-then-is_some-clause-assigns c =
-    assign_no _ c.args.n c.args.v _ _ c.fixed_value.ensures.fixed _ (sym c.is_some.ensures ∙ c.if-is_some.true)
+pub returns-in_err-assign-clause-assigns : goal.returns-in_err-assign-clause-assigns
+returns-in_err-assign-clause-assigns c =
+    rw (failed _ c.from_residual.ensures.1) (c.in_err-assign.ensures (cursor_of c.args.self.now) refl)
 
 pub returns-clause-assigns : goal.returns-clause-assigns
-returns-clause-assigns c =
-    assign_yes _ c.args.n c.args.v _ _ c.fixed_value.ensures.fixed (sym c.is_some.ensures ∙ c.if-is_some.false) c.set_var.ensures refl
+returns-clause-assigns c = c.in_ok-assign.ensures (cursor_of c.args.self.now) refl

@@ -2,12 +2,12 @@
 use mathlib.Core.Path.{ap, ◌∙◌}
 use Rattle.cursor.specs.Parsers.{parsed_in}
 use Rattle.lexer.proofs.Tried.{failed}
-use Rattle.cursor.proofs.Kept.{kept_trans, passed}
+use Rattle.cursor.proofs.Kept.{adds_trans, kept_trans, passed}
 use Rattle.cursor.proofs.terms.Terms.{open_of, new-here, new-args, create_no1, create_bare, create_no2, create_yes}
 use Rattle.cursor.proofs.Parser.create_instance.Goals as goal
 
-pub returns-in_err-o : goal.returns-in_err-o
-returns-in_err-o c = λ E.
+pub returns-in_err-o-clause-did : goal.returns-in_err-o-clause-did
+returns-in_err-o-clause-did c = λ E.
     rw (failed _ c.from_residual.ensures.1)
     (passed c.push.ensures.kept.kept c.push.ensures.kept.scratch
     (create_no1 _ _ _ _ _ c.args.k c.args.n c.requires.reading {p = parsed_in c.push.new.self c.push.result} c.push.ensures.adds (ap (parsed_in c.push.new.self) c.in_err-o.was) E))
@@ -21,8 +21,11 @@ push_call-requires-clause-n_bound c =
     new-args _ _ _ _ _ c.args.k c.args.n c.requires.reading {p = parsed_in c.push.new.self c.push.result} c.push.ensures.adds
     (ap (parsed_in c.push.new.self) c.in_ok-o.was) c.requires.n_bound
 
-pub returns-in_err-push_call : goal.returns-in_err-push_call
-returns-in_err-push_call c = λ E.
+pub returns-in_err-push_call-clause-kept : goal.returns-in_err-push_call-clause-kept
+returns-in_err-push_call-clause-kept c = adds_trans c.push.ensures.kept c.push_call.ensures.kept
+
+pub returns-in_err-push_call-clause-did : goal.returns-in_err-push_call-clause-did
+returns-in_err-push_call-clause-did c = λ E.
     rw (failed _ c.from_residual-in_err-push_call.ensures.1)
     (passed (kept_trans c.push.ensures.kept.kept c.push_call.ensures.kept.kept) (c.push_call.ensures.kept.scratch ∙ c.push.ensures.kept.scratch)
     (create_no2 _ _ _ _ _ c.args.k c.args.n c.requires.reading {p = parsed_in c.push.new.self c.push.result} c.push.ensures.adds (ap (parsed_in c.push.new.self) c.in_ok-o.was)
@@ -32,8 +35,11 @@ returns-in_err-push_call c = λ E.
     {p2 = parsed_in c.push_call.new.self c.push_call.result}
     (rw (c.push.ensures.kept.scratch, c.push.ensures.kept.kept.limits) at c.push_call.ensures.adds) (ap (parsed_in c.push_call.new.self) c.in_err-push_call.was) E))
 
-pub returns-in_ok-push_call : goal.returns-in_ok-push_call
-returns-in_ok-push_call c = λ E.
+pub returns-in_ok-push_call-clause-kept : goal.returns-in_ok-push_call-clause-kept
+returns-in_ok-push_call-clause-kept c = adds_trans c.push.ensures.kept c.push_call.ensures.kept
+
+pub returns-in_ok-push_call-clause-did : goal.returns-in_ok-push_call-clause-did
+returns-in_ok-push_call-clause-did c = λ E.
     passed (kept_trans c.push.ensures.kept.kept c.push_call.ensures.kept.kept) (c.push_call.ensures.kept.scratch ∙ c.push.ensures.kept.scratch)
     (create_yes _ _ _ _ _ c.args.k c.args.n c.requires.reading {p = parsed_in c.push.new.self c.push.result} c.push.ensures.adds (ap (parsed_in c.push.new.self) c.in_ok-o.was)
     (rw (c.program_so_far-program.ensures.script, c.program_so_far-program.ensures.words, c.program_so_far-program.ensures.counts, c.push.ensures.kept.kept.script) at
@@ -42,8 +48,8 @@ returns-in_ok-push_call c = λ E.
     {p2 = parsed_in c.push_call.new.self c.push_call.result}
     (rw (c.push.ensures.kept.scratch, c.push.ensures.kept.kept.limits) at c.push_call.ensures.adds) (ap (parsed_in c.push_call.new.self) c.in_ok-push_call.was) E)
 
-pub returns-in_default : goal.returns-in_default
-returns-in_default c = λ E.
+pub returns-in_default-clause-did : goal.returns-in_default-clause-did
+returns-in_default-clause-did c = λ E.
     passed c.push.ensures.kept.kept c.push.ensures.kept.scratch
     (create_bare _ _ _ _ _ c.args.k c.args.n c.requires.reading {p = parsed_in c.push.new.self c.push.result} c.push.ensures.adds (ap (parsed_in c.push.new.self) c.in_ok-o.was)
     (rw (

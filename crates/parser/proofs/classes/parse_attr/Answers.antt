@@ -1,6 +1,6 @@
 -- `parser::classes::parse_attr` meets its contract. Assumes nothing.
 use Rattle.lexer.proofs.Tried.{failed}
-use Rattle.parser.proofs.classes.Readers.{attr_no, attr_no2, attr_class, attr_end}
+use Rattle.parser.proofs.classes.Readers.{attr_no, attr_no2, attr_end}
 use Rattle.parser.proofs.classes.parse_attr.Goals as goal
 
 pub returns-in_err-expect : goal.returns-in_err-expect
@@ -10,9 +10,6 @@ returns-in_err-expect c =
 pub returns-in_err-n : goal.returns-in_err-n
 returns-in_err-n c =
     rw (failed _ c.from_residual-in_err-n.ensures.1) (attr_no2 c.args.p.now c.args.k c.requires.rests c.expect.ensures c.in_ok-expect.was c.expect_ident.ensures c.in_err-n.was)
-
-pub push_ivar-requires : goal.push_ivar-requires
-push_ivar-requires c = attr_class c.args.p.now c.args.k c.requires.rests c.expect.ensures c.in_ok-expect.was c.expect_ident.ensures c.in_ok-n.was c.requires.k_lt_classes
 
 pub returns : goal.returns
 returns c =

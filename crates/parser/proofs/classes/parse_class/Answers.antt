@@ -1,7 +1,7 @@
 -- `parser::classes::parse_class` meets its contract. Assumes nothing.
 use mathlib.Core.Path.{sym, ◌∙◌}
 use Rattle.lexer.proofs.Tried.{failed}
-use Rattle.parser.proofs.classes.Readers.{class_no, class_no2, class_rests, class-there, class_no3, class_twice, class_single}
+use Rattle.parser.proofs.classes.Readers.{class_no, class_no2, class_no3, class_twice, class_single}
 use Rattle.parser.proofs.classes.parse_class.Goals as goal
 
 pub returns-in_err-n : goal.returns-in_err-n
@@ -11,14 +11,6 @@ returns-in_err-n c =
 pub returns-in_err-k : goal.returns-in_err-k
 returns-in_err-k c =
     rw (failed _ c.from_residual-in_err-k.ensures.1) (class_no2 c.args.p.now c.requires.rests c.expect_ident.ensures c.in_ok-n.was c.new_class.ensures.kept _ c.new_class.ensures.did c.in_err-k.was)
-
-pub parse_members-requires-clause-rests : goal.parse_members-requires-clause-rests
-parse_members-requires-clause-rests c =
-    class_rests c.args.p.now c.requires.rests c.expect_ident.ensures c.in_ok-n.was c.new_class.ensures.kept _ c.new_class.ensures.did c.in_ok-k.was
-
-pub parse_members-requires-clause-k_lt_classes : goal.parse_members-requires-clause-k_lt_classes
-parse_members-requires-clause-k_lt_classes c =
-    class-there c.args.p.now c.requires.rests c.expect_ident.ensures c.in_ok-n.was c.new_class.ensures.kept _ c.new_class.ensures.did c.in_ok-k.was
 
 pub returns-in_err-parse_members : goal.returns-in_err-parse_members
 returns-in_err-parse_members c =

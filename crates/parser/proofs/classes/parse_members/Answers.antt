@@ -2,24 +2,15 @@
 use mathlib.Core.Path.{ap, ◌∙◌}
 use Rattle.std.specs.Prelude.{Ok}
 use Rattle.lexer.proofs.Tried.{failed}
-use Rattle.parser.proofs.classes.Readers.{stands_start, stands_rests, stands_class, stands_no, stands_end, stands_less, stands_on}
+use Rattle.parser.proofs.classes.Readers.{stands_start, stands_no, stands_end, stands_on}
 use Rattle.parser.proofs.classes.parse_members.Goals as goal
 
 pub loop-init : goal.loop-init
 loop-init c = stands_start _ _ c.requires.rests
 
-pub parse_member-requires-clause-rests : goal.parse_member-requires-clause-rests
-parse_member-requires-clause-rests c = stands_rests c.loop.invariant
-
-pub parse_member-requires-clause-k_lt_classes : goal.parse_member-requires-clause-k_lt_classes
-parse_member-requires-clause-k_lt_classes c = stands_class c.loop.invariant c.requires.k_lt_classes
-
 pub returns-in_err-parse_member : goal.returns-in_err-parse_member
 returns-in_err-parse_member c =
     rw (failed _ c.from_residual.ensures.1) (stands_no c.loop.invariant _ c.parse_member.ensures c.in_err-parse_member.was)
-
-pub loop-smaller : goal.loop-smaller
-loop-smaller c = stands_less c.loop.invariant _ c.parse_member.ensures (c.in_ok-parse_member.was ∙ ap Ok c.if-branch.true)
 
 pub loop-preserved : goal.loop-preserved
 loop-preserved c = stands_on c.loop.invariant _ c.parse_member.ensures (c.in_ok-parse_member.was ∙ ap Ok c.if-branch.true)

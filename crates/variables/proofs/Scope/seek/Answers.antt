@@ -1,5 +1,5 @@
 -- `variables::Scope::seek` meets its contract. Assumes nothing.
-use Rattle.variables.proofs.Laws.{seek_start, seek_none, seek_down, seek_at, seek_up}
+use Rattle.variables.proofs.Laws.{seek_start, seek_down, seek_at, seek_up}
 use Rattle.variables.proofs.Scope.seek.Goals as goal
 
 pub loop-a-init : goal.loop-a-init
@@ -13,6 +13,3 @@ returns-in-Equal c = search seek_at
 
 pub loop-a-preserved : goal.loop-a-preserved
 loop-a-preserved c = search seek_up
-
-pub returns : goal.returns
-returns c = search seek_none
