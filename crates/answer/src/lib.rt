@@ -77,8 +77,8 @@ impl Answer<'_> {
         self.words[3]
     }
 
-    // Stays: that the number of a block, an instruction, a place or a function is below its table's length is asked, here and below: an answer may hold any
-    // words, so its reader tests each number against a total.
+    // Stays: an id knows no table's length, so each reader asks that its number is below it, here and below; who reads an answer tests each number against a
+    // total first.
     #[tactic(auto, unfolding(crate::specs::Image::live_in))]
     pub fn live(&self, b: BlockId) -> bool
         requires { b.0 < blocks_most }
@@ -103,22 +103,20 @@ impl Answer<'_> {
         self.words[PAYLOADS + i.index()]
     }
 
-    // Where the users of an instruction start and end.
+    // Where the users of an instruction start, and end: the last one's end where those of a number behind it would start.
     #[tactic(auto, unfolding(crate::specs::Image::start_in))]
     pub fn users_start(&self, i: InsnId) -> usize
-        requires { i.0 < instructions_most }
+        requires { i.0 ≤ instructions_most }
         ensures { (result ≡ start_in self.now.words.now i.0) × (result ≤ uses_most) }
     {
         self.words[STARTS + i.index()].min(memory::USES_MOST)
     }
 
-    // Stays: beside `users_start`, which can't be asked for the place behind the last instruction, where the last one's users end.
-    #[tactic(auto, unfolding(crate::specs::Image::start_in))]
     pub fn users_end(&self, i: InsnId) -> usize
         requires { i.0 < instructions_most }
         ensures { (result ≡ start_in self.now.words.now (i.0 + 1)) × (result ≤ uses_most) }
     {
-        self.words[STARTS + (i.index() + 1)].min(memory::USES_MOST)
+        self.users_start(InsnId(i.0 + 1))
     }
 
     // The user at a place of their table.

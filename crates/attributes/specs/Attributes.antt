@@ -10,7 +10,7 @@ use Rattle.rules.specs.Machine.{State, Acts, kind_of, classes_of, add_read, get_
 use Rattle.program.specs.declared.Counts.{Counts}
 use Rattle.program.specs.declared.reader.Program.{Program as Tables}
 use Rattle.program.specs.View.{program_view}
-use Rattle.state.specs.declared.State.{State as Lent}
+use Rattle.state.specs.declared.Sizes.{Sizes}
 use Rattle.state.specs.View.{Attrs}
 use Rattle.machine.specs.receivers.Receivers.{StateMatches}
 
@@ -23,8 +23,8 @@ pub record ProgramIs (s m : List ℕ) (c : Counts) (p : Program) (v : Attrs) : T
 abbrev pub ProgramOf : Tables → Program → Attrs → Type 0
 ProgramOf t = ProgramIs t.script.now t.words.now t.counts
 
-abbrev pub Matches : Tables → Lent → Type 0
-Matches t s = StateMatches s.sizes t.words.now t.counts
+abbrev pub Matches : Tables → Sizes → Type 0
+Matches t z = StateMatches z t.words.now t.counts
 
 -- what a read sets off, and what it gives
 abbrev pub mark_reads : ℕ → P.Opnd → Acts (Unit {0})

@@ -19,13 +19,14 @@ use ids::{ClassId, InsnId};
 use kinds::Kind;
 use program::{Name, Op, Opnd, Program};
 use refusals::Refusal;
-use state::State;
+use state::{Held, State};
 
 // ---- a read: it met the classes, then the union of the attribute's kinds
 
 // Instruction i is a read that met each class of a set.
-// Stays: these clauses bound a set, an instruction, a class or an operand by the state's sizes, or tie the state to the program, and the two are lent apart:
-// no value holds both.
+// Stays: what bounds a set, an instruction, a class or an operand by the state's sizes is a clause, as is what ties state and program: they are lent apart, so
+// no change of the state has to promise that the program stays. A struct of both, to be read, would serve `read_one` and `read_each` alone, and `read_ivar`
+// would make it of the same clause.
 fn mark_each(state: &mut State, set: u64, i: InsnId)
     requires classes_below { ClassesBelow state.old.sizes.classes set }
     requires i_lt_insns { i.0 < state.old.sizes.insns }
@@ -44,15 +45,15 @@ pub fn mark_reads(state: &mut State, i: InsnId, o: Opnd) -> Result<(), Refusal>
     requires receiver_within { ReceiverWithin state.old.sizes state.old.words.now o }
     ensures { Did Every (λ L p. mark_reads i.0 (opnd_of o)) state.old state.new result }
 {
-    let set = machine::receivers::classes_of(state, o)?;
+    let set = machine::receivers::classes_of(&state.tables(), o)?;
     mark_each(state, set, i);
     Ok(())
 }
 
 // The union of k with the attribute's kind in one class, or 15.
 #[tactic(auto, using(crate::proofs::Classes::class_counted))]
-fn read_one(program: &Program, state: &State, n: Name, k: Kind, x: ClassId) -> Result<Kind, Refusal>
-    requires state_matches { Matches program.now state.now }
+fn read_one(program: &Program, state: &Held, n: Name, k: Kind, x: ClassId) -> Result<Kind, Refusal>
+    requires state_matches { Matches program.now state.now.sizes }
     requires x_lt_classes { x.0 < state.now.sizes.classes }
     ensures { StateReads state.now.sizes (ProgramOf program.now)
         (λ L P. get_ivar L P (name_in program.now.script.now n) k x.0) state.now.words.now result }
@@ -62,8 +63,8 @@ fn read_one(program: &Program, state: &State, n: Name, k: Kind, x: ClassId) -> R
 }
 
 // The union of the attribute's kinds in the classes of a set.
-fn read_each(program: &Program, state: &State, n: Name, set: u64) -> Result<Kind, Refusal>
-    requires state_matches { Matches program.now state.now }
+fn read_each(program: &Program, state: &Held, n: Name, set: u64) -> Result<Kind, Refusal>
+    requires state_matches { Matches program.now state.now.sizes }
     requires classes_below { ClassesBelow state.now.sizes.classes set }
     ensures { StateReads state.now.sizes (ProgramOf program.now)
         (λ L P. fold (get_ivar L P (name_in program.now.script.now n)) Kind.Empty (members_of set)) state.now.words.now result }
@@ -77,8 +78,8 @@ fn read_each(program: &Program, state: &State, n: Name, set: u64) -> Result<Kind
 
 // The kind that a read of attribute n of receiver o gives, or 14, 15 or 19.
 #[tactic(auto, using(crate::proofs::Classes::receiver_below))]
-pub fn read_ivar(program: &Program, state: &State, n: Name, o: Opnd) -> Result<Kind, Refusal>
-    requires state_matches { Matches program.now state.now }
+pub fn read_ivar(program: &Program, state: &Held, n: Name, o: Opnd) -> Result<Kind, Refusal>
+    requires state_matches { Matches program.now state.now.sizes }
     requires operand_inside { OperandInside state.now.sizes o }
     requires receiver_within { ReceiverWithin state.now.sizes state.now.words.now o }
     ensures { StateReads state.now.sizes (ProgramOf program.now)
@@ -103,12 +104,12 @@ fn gets(program: &Program, i: InsnId, n: Name) -> bool
 
 // The reads of attribute n that met class x wait.
 fn wake_reads(program: &Program, state: &mut State, n: Name, x: ClassId) -> Result<(), Refusal>
-    requires state_matches { Matches program.now state.old }
+    requires state_matches { Matches program.now state.old.sizes }
     requires x_lt_classes { x.0 < state.old.sizes.classes }
     ensures { Did (ProgramOf program.now)
         (λ L P. wake_reads L P x.0 (name_in program.now.script.now n)) state.old state.new result }
 {
-    // Stays: no iterator over the reads, since the state is changed within the loop, so that nothing may borrow them meanwhile.
+    // Stays: no iterator over the reads: it would borrow the state, which the loop changes.
     let mut from = InsnId(0);
     while let Some(i) = state.next_read(x, from) {
         if gets(program, i, n) {
@@ -128,7 +129,7 @@ fn widen_one(
     k: Kind,
     x: ClassId,
 ) -> Result<(), Refusal>
-    requires state_matches { Matches program.now state.old }
+    requires state_matches { Matches program.now state.old.sizes }
     requires x_lt_classes { x.0 < state.old.sizes.classes }
     ensures { Did (ProgramOf program.now)
         (λ L P. set_ivar L P (name_in program.now.script.now n) k x.0) state.old state.new result }
@@ -150,7 +151,7 @@ fn widen_each(
     k: Kind,
     set: u64,
 ) -> Result<(), Refusal>
-    requires state_matches { Matches program.now state.old }
+    requires state_matches { Matches program.now state.old.sizes }
     requires classes_below { ClassesBelow state.old.sizes.classes set }
     ensures { Did (ProgramOf program.now)
         (λ L P. each (members_of set) (set_ivar L P (name_in program.now.script.now n) k)) state.old state.new result }
@@ -170,13 +171,14 @@ pub fn set_ivar(
     o: Opnd,
     v: Opnd,
 ) -> Result<(), Refusal>
-    requires state_matches { Matches program.now state.old }
+    requires state_matches { Matches program.now state.old.sizes }
     requires operand_inside { OperandInside state.old.sizes o × OperandInside state.old.sizes v }
     requires receiver_within { ReceiverWithin state.old.sizes state.old.words.now o }
     ensures { Did (ProgramOf program.now)
         (λ L P. set_ivars L P (name_in program.now.script.now n) (opnd_of o) (opnd_of v)) state.old state.new result }
 {
-    let k = machine::opnds::kind_of(state, v);
-    let set = machine::receivers::classes_of(state, o)?;
+    let tables = state.tables();
+    let k = machine::opnds::kind_of(&tables, v);
+    let set = machine::receivers::classes_of(&tables, o)?;
     widen_each(program, state, n, k, set)
 }

@@ -1,28 +1,25 @@
 -- The arguments of a function's callers, and a Param's kind. Assumes nothing.
-use Rattle.std.specs.Prelude.{Ok as Of, Some as Set, None as Other, Option, Some, None as Done}
+use Rattle.std.specs.Prelude.{Ok as Of, Some as Set, Option, Some, None}
 use mathlib.Core.Bool.{Bool as 𝔹, true, false, cond, ◌||◌}
 use mathlib.Core.Path.{◌≡◌, refl, sym, ap, ◌∙◌}
 use mathlib.Core.Option.{none, some}
 use mathlib.Core.List.{List, [], ◌∷◌, map}
-use Prim.Native.Nat.{ℕ, zero, suc, ◌+◌, ◌-◌, ◌*◌, ◌≤◌, ◌<◌}
-use native.Mathlib.Numerals.{add-one}
+use Prim.Native.Nat.{ℕ, zero, suc, ◌+◌, ◌*◌, ◌≤◌, ◌<◌}
 use native.Mathlib.Omega.{arith}
-use borrow.Author.Tests.{ltb-true, ltb-false, ne_eqb}
-use mir.Syntax.{w32}
-use mir.Val.{Fits as FitsIn, bool_byte}
+use borrow.Author.Tests.{ne_eqb}
+use mir.Val.{bool_byte}
 use lib.Bits.{bit_or}
-use lib.Dec.{ltb, eqb}
-use lib.ListN.{length, get_or, drop, drop_of_length-le, get_or-eq_default}
-use lib.Seq.{drop-cons, get_or-drop}
-use Rattle.ids.specs.declared.InsnId.{InsnId}
-use Rattle.ids.proofs.Bits.{Either, yes, no, either}
+use lib.Dec.{eqb}
+use lib.ListN.{length, get_or, drop, get_or-eq_default}
+use lib.Seq.{get_or-drop}
 use Rattle.kinds.specs.declared.Kind.{Kind}
 use Rattle.kinds.specs.declared.Kind.TheVariants.{Empty, Nil, Objects}
 use Rattle.kinds.specs.Kinds.{is_set}
 use Rattle.kinds.specs.Union.{Joined, union_all}
 use Rattle.rules.specs.Actions.{lift}
 use Rattle.rules.specs.Values.{to_answer}
-use Rattle.rules.specs.Lists.{has, places_from, cons_if}
+use Rattle.rules.specs.Lists.{has, cons_if}
+use Rattle.rules.proofs.Exactness.Flows.{row_in}
 use Rattle.rules.specs.Program as P
 use Rattle.rules.specs.Program.{Limits, Program, Param, about, op_of, function_of}
 use Rattle.rules.specs.Machine.{State, marked, kind_of, join_all, opnd_set, callers_of, place_of, argument, flows_in, rule}
@@ -38,18 +35,22 @@ use Rattle.program.specs.View.{program_view, ProgramReady}
 use Rattle.program.proofs.Areas.{given-length}
 use Rattle.program.proofs.Reading.{insn_read, operand_read}
 use Rattle.state.specs.declared.Sizes.{Sizes}
-use Rattle.state.specs.View.{kinds_of, called_of, StateHeld}
+use Rattle.state.specs.View.{kinds_of, called_of}
 use Rattle.state.specs.View.{state_view}
-use Rattle.state.specs.Changes.{marks_from, Following}
+use Rattle.state.specs.Changes.{marks_from}
+use Rattle.memory.proofs.tables.Listed.{listed-length, rows_row}
+use Rattle.memory.proofs.tables.Words.{from, from_end, from_at}
 use Rattle.machine.specs.opnds.Reads.{OperandInside, kind_in, StateReads}
 use Rattle.machine.proofs.opnds.Given.{kind_of_lem}
 use Rattle.program.specs.Layout.{insns_at, opnds_at, insn_words}
 use Rattle.flows.specs.declared.Pass.{Pass}
+use Rattle.flows.specs.declared.Classes.{Classes}
 use Rattle.flows.specs.Tally.{Nothing, least, taken_all, finish, union_over, FitsAt, TallyFits}
-use Rattle.flows.specs.Flows.{AsSet, tally_of, Passed, Argues, ArguesAt, FlowsSound, FlowsKnown, PassedIn, pass_before, ByPasses, as_set, join_sets, SetsFrom, ParamIs}
+use Rattle.kinds.specs.InWords.{AsSet, as_set}
+use Rattle.flows.specs.Flows.{tally_of, Passed, Argues, ArguesAt, FlowsSound, FlowsKnown, PassedIn, pass_before, ByPasses, with_kind, join_sets, SetsFrom, ParamIs}
 use Rattle.flows.proofs.Whole.{union-over}
 use Rattle.flows.proofs.Sets.{sets-union}
-use Rattle.flows.proofs.Standing.{stands, stands_none}
+use Rattle.flows.proofs.Rows.{All, all_in, caller_below}
 use Rattle.flows.proofs.Tallied.{passed_none, passed_append}
 
 -- ---- arguments
@@ -115,7 +116,13 @@ pub row_inside : (p : Tables) (i : ℕ) → i < p.counts.insns
     → get_or p.words.now (insns_at + insn_words * i + 4) 0 + get_or p.words.now (insns_at + insn_words * i + 5) 0 ≤ opnds_at
 row_inside p i = row_range p.words.now p.counts i p.ready
 
-module _ (m : List ℕ) (c : Counts) (i n : ℕ) (r : ProgramReady m c) (below : i < c.insns) where
+module _ (p : Tables) (i n : ℕ) (below : i < p.counts.insns) where
+  abbrev m : List ℕ
+  m = p.words.now
+
+  abbrev c : Counts
+  c = p.counts
+
   abbrev first : ℕ
   first = get_or m (insns_at + insn_words * i + 4) 0
 
@@ -131,7 +138,7 @@ module _ (m : List ℕ) (c : Counts) (i n : ℕ) (r : ProgramReady m c) (below :
   argument_is : (L : Limits) (s : List ℕ) → has (about (op_of (program_view s m c) i)).callee ≡ true → argument L (program_view s m c) n i ≡ get_or given (skip + n) (P.Const Empty)
   argument_is L s h =
       let o : Op = op_from (get_or m (insns_at + insn_words * i) 0) (get_or m (insns_at + insn_words * i + 2) 0) (get_or m (insns_at + insn_words * i + 3) 0) in
-      let e : op_of (program_view s m c) i ≡ op_in s o given = ap (λ (y : P.Instruction). y.op) ((insn_read i r below refl).is s) in
+      let e : op_of (program_view s m c) i ≡ op_in s o given = ap (λ (y : P.Instruction). y.op) ((insn_read i p.ready below refl).is s) in
       let g : has (about (op_in s o given)).callee ≡ true = rw e at h in
       ap (λ (y : P.Op). get_or (about y).listed n (P.Const Empty)) e
       ∙ ap (λ (y : List P.Opnd). get_or y n (P.Const Empty)) (listed-is s o given g)
@@ -139,97 +146,83 @@ module _ (m : List ℕ) (c : Counts) (i n : ℕ) (r : ProgramReady m c) (below :
       ∙ ap (λ (y : ℕ). get_or given (y + n) (P.Const Empty)) (sym (skip-from (get_or m (insns_at + insn_words * i) 0)
       (get_or m (insns_at + insn_words * i + 2) 0) (get_or m (insns_at + insn_words * i + 3) 0)))
 
-  pub argument-here : skip + n < count → ArguesAt m c i n (opnds_at + 2 * first + 2 * (skip + n))
+  pub argument-here : skip + n < count → ArguesAt m c i n (Some (opnds_at + 2 * first + 2 * (skip + n)))
   argument-here lt = record {
     is = record {
       is = λ L s h.
-          operand_read m (opnds_at + 2 * first) count (skip + n) lt (stands m (λ e. omega arith))
+          operand_read m (opnds_at + 2 * first) count (skip + n) lt refl
           ∙ at-any given (skip + n) (P.Const Nil) (P.Const Empty) (let k = given-length m (opnds_at + 2 * first) count in omega arith)
           ∙ sym (argument_is L s h);
     };
-    inside = let a = row_range m c i r below in let b = r.len_mem in omega arith;
+    inside = let a = row_range m c i p.ready below in let b = p.ready.len_mem in omega arith;
   }
 
-  pub argument-none : count ≤ skip + n → ArguesAt m c i n 0
+  pub argument-none : count ≤ skip + n → ArguesAt m c i n None
   argument-none le = record {
     is = record {
       is = λ L s h.
-          ap opnd_of (stands_none m refl)
-          ∙ sym (argument_is L s h ∙ get_or-eq_default given (P.Const Empty) (let k = given-length m (opnds_at + 2 * first) count in omega arith));
+          sym (argument_is L s h ∙ get_or-eq_default given (P.Const Empty) (let k = given-length m (opnds_at + 2 * first) count in omega arith));
     };
-    inside = let b = r.len_mem in omega arith;
+    inside = tt;
   }
 
 pub fits-inside : (z : Sizes) (r : Opnd) → FitsAt z.insns (opnd_of r) → OperandInside z r
 fits-inside z (Const k) f = tt
 fits-inside z (Insn j) f = f
 
--- ---- the first mark of a row is a mark
+-- ---- pass_callers at its loop's head: l is left of the callers
 
-marked-first : (row : List 𝔹) (n k i : ℕ) (l : List ℕ) → length row ≤ k + n → places_from k (λ b. b) (drop k row) ≡ i ∷ l → get_or row i false ≡ true
-marked-first row zero k i l h e =
-    let z : places_from k (λ (b : 𝔹). b) [] ≡ i ∷ l = rw (drop_of_length-le row {i = k} (omega arith)) at e in
-    cc
-marked-first row (suc n) k i l h e = go (either (ltb k (length row))) (λ g. marked-first row n (suc k) i l (omega arith) g)
-  where
-    here : (b : 𝔹) → get_or row k false ≡ b → cons_if b k (places_from (suc k) (λ (x : 𝔹). x) (drop (suc k) row)) ≡ i ∷ l
-        → (places_from (suc k) (λ (x : 𝔹). x) (drop (suc k) row) ≡ i ∷ l → get_or row i false ≡ true) → get_or row i false ≡ true
-    here true f g ih = let y : k ≡ i = cc in ap (λ (j : ℕ). get_or row j false) (sym y) ∙ f
-    here false f g ih = ih g
+pub caller-within : {m : List ℕ} {c : Counts} {z : Sizes} {t : List (List 𝔹)} → FlowsKnown m c z t → {i : ℕ} → i < z.insns → i < c.insns
+caller-within q lt = let e = q.sizes in omega arith
 
-    go : Either (ltb k (length row)) → (places_from (suc k) (λ (x : 𝔹). x) (drop (suc k) row) ≡ i ∷ l → get_or row i false ≡ true) → get_or row i false ≡ true
-    go (yes g) ih = here (get_or row k false) refl (rw (drop-cons row k false (ltb-true k (length row) g)) at e) ih
-    go (no g) ih =
-        let z : places_from k (λ (b : 𝔹). b) [] ≡ i ∷ l = rw (drop_of_length-le row {i = k} (ltb-false k (length row) g)) at e in
-        cc
+pub record Passing (m : List ℕ) (c : Counts) (z : Sizes) (w : List ℕ) (f n : ℕ) (x₀ x : Pass) (l : List ℕ) : Type 0 where
+  pub callers : All (λ i. marked (called_of z w) f i ≡ true) l
+  pub on : (L : Limits) (s : List ℕ) (y : Pass) → FlowsSound (program_view s m c) z.insns (called_of z w) → Passed (kinds_of z w) (map (argument L (program_view s m c) n) l) x y
+      → Passed (kinds_of z w) (map (argument L (program_view s m c) n) (marks_from (called_of z w) f 0)) x₀ y
 
-mark-is : (t : List (List 𝔹)) (f k i : ℕ) → marks_from t f k ≡ i ∷ marks_from t f (suc i) → marked t f i ≡ true
+pub passing_start : {m : List ℕ} {c : Counts} {z : Sizes} {w : List ℕ} {f n : ℕ} {x : Pass} {l : List ℕ} → l ≡ marks_from (called_of z w) f 0 → Passing m c z w f n x x l
 unfolding marks_from
-mark-is t f k i e = marked-first (get_or t f []) (length (get_or t f [])) k i (marks_from t f (suc i)) (omega arith) e
+passing_start {z = z} {w} {f} e =
+    rw e (record { callers = all_in (get_or (called_of z w) f []) (length (get_or (called_of z w) f [])) 0 (omega arith); on = λ L s y so p. p })
 
--- ---- pass_callers at its loop's head
+module _ {m : List ℕ} {c : Counts} {z : Sizes} {w : List ℕ} {f n : ℕ} {x₀ x : Pass} {l : List ℕ} (g : Passing m c z w f n x₀ x l) where
+  module _ {i : ℕ} {k : List ℕ} (steps : l ≡ i ∷ k) where
+    here : All (λ j. marked (called_of z w) f j ≡ true) (i ∷ k)
+    here = rw steps at g.callers
 
-abbrev pub Passing : List ℕ → Counts → Sizes → List ℕ → ℕ → ℕ → Pass → Pass → ℕ → Type 0
-Passing m c z w f n x₀ x k = (y : Pass) → PassedIn m c z w f n k x y → PassedIn m c z w f n 0 x₀ y
+    pub passing_below : FlowsKnown m c z (called_of z w) → f < z.functions → i < c.insns
+    passing_below q lt = caller-within q (caller_below z w f i lt here.0)
 
-module _ {m : List ℕ} {c : Counts} {z : Sizes} (w : List ℕ) {f k : ℕ} {s : Option InsnId} (q : FlowsKnown m c z (called_of z w))
-    (h : Following (called_of z w) f z.insns k s) where
-  next-is : {t : Option InsnId} → s ≡ t → Following (called_of z w) f z.insns k t
-  next-is e = rw e at h
+    module _ {o : Opnd} (a : Argues m c i n o) where
+      pub passing_inside : FlowsKnown m c z (called_of z w) → OperandInside z o
+      passing_inside q = fits-inside z o (rw (a.is P.limits q.script (q.sound.calls f i here.0)) (q.sound.listed i n))
 
-  pub caller-falls : (i : InsnId) → s ≡ Some i → z.insns - (i.0 + 1) < z.insns - k
-  caller-falls i e = let b = (next-is e).ok in omega (arith, b.0, b.1)
+      pub passing_more : {x' : Pass} → Passed (kinds_of z w) (opnd_of o ∷ []) x x' → Passing m c z w f n x₀ x' k
+      passing_more {x'} p = record {
+        callers = here.1;
+        on = λ L s y so r.
+            let b : opnd_of o ≡ argument L (program_view s m c) n i = a.is L s (so.calls f i here.0) in
+            g.on L s y so
+            (rw steps (passed_append (kinds_of z w) (argument L (program_view s m c) n i ∷ []) (map (argument L (program_view s m c) n) k) x x' y (rw b at p) r));
+      }
 
-  pub caller-fits : StateHeld z w → (i : InsnId) → s ≡ Some i → FitsIn w32 (i.0 + 1)
-  caller-fits g i e = let b = (next-is e).ok.1 in record { fits = omega arith }
-
-  pub caller-inside : (n : ℕ) (i : InsnId) {o : Opnd} → s ≡ Some i → Argues m c i.0 n o → OperandInside z o
-  caller-inside n i {o} e a =
-      fits-inside z o (rw (a.is P.limits q.script (q.sound.calls f i.0 (mark-is (called_of z w) f k i.0 (next-is e).is))) (q.sound.listed i.0 n))
-
-  pub caller-done : (n : ℕ) (x₀ x : Pass) → s ≡ Done → Passing m c z w f n x₀ x k → PassedIn m c z w f n 0 x₀ x
-  caller-done n x₀ x e g = g x (record { passed = λ L y _. rw (next-is e).is (passed_none (kinds_of z w) x) })
-
-  pub caller-more : (n : ℕ) (x₀ x : Pass) (i : InsnId) {o : Opnd} {x' : Pass} → s ≡ Some i → Argues m c i.0 n o → Passed (kinds_of z w) (opnd_of o ∷ []) x x'
-      → Passing m c z w f n x₀ x k → Passing m c z w f n x₀ x' (i.0 + 1)
-  caller-more n x₀ x i {o} {x'} e a p g y r = g y (record {
-    passed = λ L u so.
-        let b : opnd_of o ≡ argument L (program_view u m c) n i.0 = a.is L u (so.calls f i.0 (mark-is (called_of z w) f k i.0 (next-is e).is)) in
-        let t : marks_from (called_of z w) f k ≡ i.0 ∷ marks_from (called_of z w) f (i.0 + 1) = (next-is e).is ∙ ap (λ (j : ℕ). i.0 ∷ marks_from (called_of z w) f j) (sym (add-one i.0)) in
-        rw t
-        (passed_append (kinds_of z w) (argument L (program_view u m c) n i.0 ∷ [])
-        (map (argument L (program_view u m c) n) (marks_from (called_of z w) f (i.0 + 1))) x x' y (rw b at p) (r.passed L u so));
-  })
-
-pub callers-start : (m : List ℕ) (c : Counts) (z : Sizes) (w : List ℕ) (f n : ℕ) (x : Pass) → Passing m c z w f n x x 0
-callers-start m c z w f n x y p = p
+  pub passing_done : l ≡ [] → PassedIn m c z w f n 0 x₀ x
+  passing_done e = record { passed = λ L s so. g.on L s x so (rw e (passed_none (kinds_of z w) x)) }
 
 -- ---- a step of join_sets
 
-pub join_step : (ks : List Kind) (b : 𝔹) (s : ℕ) (o : P.Opnd) (l : List P.Opnd) {x : AsSet} → as_set (kind_in ks o) ≡ x
-    → join_sets ks b s (o ∷ l) ≡ elim x [ Set t ↦ join_sets ks (b || is_set (kind_in ks o)) (bit_or s t) l | Other ↦ Other ]
+pub join_step : (ks : List Kind) (x : Classes) (o : P.Opnd) (l : List P.Opnd) {r : Option Classes} → with_kind x (kind_in ks o) ≡ r
+    → join_sets ks x.met x.union (o ∷ l) ≡ elim r [ Some y ↦ join_sets ks y.met y.union l | None ↦ None ]
 unfolding join_sets
-join_step ks b s o l e = ap (λ (y : AsSet). elim y [ Set t ↦ join_sets ks (b || is_set (kind_in ks o)) (bit_or s t) l | Other ↦ Other ]) e
+join_step ks x o l {r} e = go (as_set (kind_in ks o)) e
+  where
+    next : Option Classes → AsSet
+    next a = elim a [ Some y ↦ join_sets ks y.met y.union l | None ↦ None ]
+
+    go : (a : AsSet) → ◌≡◌ {A = Option Classes} (elim a [ Some t ↦ Some (record { union = bit_or x.union t; met = x.met || is_set (kind_in ks o) }) | None ↦ None ]) r
+        → ◌≡◌ {A = AsSet} (elim a [ Some t ↦ join_sets ks (x.met || is_set (kind_in ks o)) (bit_or x.union t) l | None ↦ None ]) (next r)
+    go (Some t) h = ap next h
+    go None h = ap next h
 
 pub join-none : (ks : List Kind) (b : 𝔹) (s : ℕ) → join_sets ks b s [] ≡ Set (cond b s 0)
 unfolding join_sets
@@ -275,11 +268,11 @@ two_passes ks n l {x} {y} {r} px py e f =
     h ∙ union-over ks n l f
 
 -- the union of the arguments, in the rule's words
-param_union : (m : List ℕ) (c : Counts) (z : Sizes) (w : List ℕ) (f n : ℕ) {r : Joined}
+param_union : {m : List ℕ} {c : Counts} {z : Sizes} {w : List ℕ} {f n : ℕ} {r : Joined}
     → ((L : Limits) (u : List ℕ) → FlowsSound (program_view u m c) z.insns (called_of z w)
     → r ≡ union_all Empty (map (kind_in (kinds_of z w)) (opnd_set (map (argument L (program_view u m c) n) (marks_from (called_of z w) f 0)))))
     → (i : ℕ) → StateReads z (ParamIs m c z (called_of z w) i f n) (λ L p. rule L p i (Param n)) w r
-param_union m c z w f n {r} h i = record {
+param_union {m} {c} {z} {w} {f} {n} {r} h i = record {
   is = λ L p v g q.
       let u = program_view g.script m c in
       let s = state_view z v w q in
@@ -289,18 +282,18 @@ param_union m c z w f n {r} h i = record {
       rw g.program (ap (λ (j : Joined). lift (to_answer j) s) (k ∙ ap (λ (o : List P.Opnd). union_all Empty (map (kind_of s) (opnd_set o))) b) ∙ sym (param_is L u i n s g.op));
 }
 
-pub param_kind : (m : List ℕ) (c : Counts) (z : Sizes) (w : List ℕ) (f n : ℕ) {walks : Pass → Pass → Type 0} {r : Joined}
+pub param_kind : {m : List ℕ} {c : Counts} {z : Sizes} {w : List ℕ} {f n : ℕ} {walks : Pass → Pass → Type 0} {r : Joined}
     → ((x y : Pass) → walks x y → PassedIn m c z w f n 0 x y) → ByPasses z.insns walks r
     → (i : ℕ) → StateReads z (ParamIs m c z (called_of z w) i f n) (λ L p. rule L p i (Param n)) w r
-param_kind m c z w f n h g =
-    param_union m c z w f n (λ L u so.
+param_kind {m} {c} {z} {w} {f} {n} h g =
+    param_union (λ L u so.
     let l = map (argument L (program_view u m c) n) (marks_from (called_of z w) f 0) in
     two_passes (kinds_of z w) z.insns l ((h _ _ g.first).passed L u so) ((h _ _ g.again).passed L u so) g.is
     (arguments_fit L (program_view u m c) z (called_of z w) n (marks_from (called_of z w) f 0) so))
 
-pub param_set : (m : List ℕ) (c : Counts) (z : Sizes) (w : List ℕ) (f n : ℕ) {x : AsSet} {s : ℕ} → SetsFrom m c z w f n 0 false 0 x → x ≡ Set s → 0 < s
+pub param_set : {m : List ℕ} {c : Counts} {z : Sizes} {w : List ℕ} {f n : ℕ} {x : AsSet} {s : ℕ} → SetsFrom m c z w f n 0 false 0 x → x ≡ Set s → 0 < s
     → (i : ℕ) → StateReads z (ParamIs m c z (called_of z w) i f n) (λ L p. rule L p i (Param n)) w (Of (Objects s))
-param_set m c z w f n {s = s} h e lt =
-    param_union m c z w f n (λ L u so.
+param_set {m} {c} {z} {w} {f} {n} {s = s} h e lt =
+    param_union (λ L u so.
     let l = map (argument L (program_view u m c) n) (marks_from (called_of z w) f 0) in
     sets-union (kinds_of z w) z.insns s l (arguments_fit L (program_view u m c) z (called_of z w) n (marks_from (called_of z w) f 0) so) (sym (h.passed L u so) ∙ e) lt)

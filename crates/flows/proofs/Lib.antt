@@ -7,3 +7,4 @@ pub mod Tallied
 pub mod Callers
 pub mod Joining
 pub mod Sounds
+pub mod Rows

@@ -20,7 +20,8 @@ use Rattle.rules.specs.Machine.{opnd_set}
 use Rattle.rules.proofs.Wellformed.Tests.{or_false_lem as or_parts}
 use Rattle.machine.specs.opnds.Reads.{kind_in}
 use Rattle.flows.specs.Tally.{Tally, Nothing, One, Many, lower, least, before, add, take, taken_all, close, union_over, FitsAt, TallyFits}
-use Rattle.flows.specs.Flows.{AsSet, as_set, join_sets}
+use Rattle.kinds.specs.InWords.{AsSet, as_set}
+use Rattle.flows.specs.Flows.{join_sets}
 use Rattle.flows.proofs.Order.{same-is}
 use Rattle.flows.proofs.Whole.{union-over, take_empty}
 

@@ -12,10 +12,10 @@ use Rattle.kinds.specs.declared.Kind.TheVariants.{Empty, Any}
 use Rattle.kinds.specs.Kinds.{is_empty, is_any}
 use Rattle.kinds.specs.Union.{Joined, union_of, join_of}
 use Rattle.rules.specs.Program as P
-use Rattle.rules.specs.Program.{same_opnd}
 use Rattle.program.specs.declared.Opnd.{Opnd}
 use Rattle.program.specs.declared.Opnd.TheVariants.{Insn}
 use Rattle.program.specs.Rows.{opnd_of}
+use Rattle.program.proofs.Operands.{one_opnd, two_opnds}
 use Rattle.machine.specs.opnds.Reads.{kind_in}
 use Rattle.flows.specs.declared.Tally.{Tally as Told}
 use Rattle.flows.specs.declared.Tally.TheVariants.{Nothing as None, One as Single, Many as Several}
@@ -30,12 +30,11 @@ module _ {t : Told} (k : Kind) (o : Opnd) where
   pub add_first : t ≡ None → TallyAdds t k o (Single o k)
   add_first e = record { is = λ ks h. rw e (ap (One (opnd_of o)) h) }
 
-  pub add_same : {w : Opnd} {j : Kind} {b : 𝔹} → t ≡ Single w j → b ≡ same_opnd (opnd_of o) (opnd_of w) → b ≡ true → TallyAdds t k o (Single w j)
-  add_same e h g = record { is = λ ks x. rw (e, sym h ∙ g) }
+  pub add_same : {w : Opnd} {j : Kind} → t ≡ Single w j → o ≡ w → TallyAdds t k o (Single w j)
+  add_same {w} e h = record { is = λ ks x. rw (e, one_opnd o w h) }
 
-  pub add_other : {w : Opnd} {j : Kind} {b : 𝔹} {r : Joined} → t ≡ Single w j → b ≡ same_opnd (opnd_of o) (opnd_of w) → b ≡ false → r ≡ union_of j k
-      → TallyAdds t k o (Several r)
-  add_other {w} {j} e h g u = record { is = λ ks x. rw (e, sym h ∙ g) (ap Many (u ∙ ap (union_of j) x)) }
+  pub add_other : {w : Opnd} {j : Kind} {r : Joined} → t ≡ Single w j → (o ≡ w → ⊥) → r ≡ union_of j k → TallyAdds t k o (Several r)
+  add_other {w} {j} e h u = record { is = λ ks x. rw (e, two_opnds o w h) (ap Many (u ∙ ap (union_of j) x)) }
 
   pub add_more : {j r : Joined} → t ≡ Several j → r ≡ join_of j k → TallyAdds t k o (Several r)
   add_more {j} e u = record { is = λ ks x. rw e (ap Many (u ∙ ap (join_of j) x)) }

@@ -1,8 +1,8 @@
 -- What the passes promise over the operands of callers. Assumes nothing.
-use Rattle.std.specs.Prelude.{Bool as 𝔹, true, cond, ◌||◌, ◌≡◌, List, [], ◌∷◌, map, ℕ, ◌+◌, ◌<◌, eqb, length, get_or, Option, Some, None}
+use Rattle.std.specs.Prelude.{Bool as 𝔹, true, cond, ◌||◌, ◌≡◌, List, [], ◌∷◌, map, ℕ, ◌+◌, ◌<◌, length, get_or, Option, Some, None, Ok, ◌⊎◌}
 use Rattle.std.specs.Int.Bits.{bit_or}
 use Rattle.kinds.specs.declared.Kind.{Kind}
-use Rattle.kinds.specs.declared.Kind.TheVariants.{Empty}
+use Rattle.kinds.specs.declared.Kind.TheVariants.{Empty, Objects}
 use Rattle.kinds.specs.Kinds.{kind_from, is_set}
 use Rattle.kinds.specs.Union.{Joined, set_of, is_alone}
 use Rattle.rules.specs.Lists.{has}
@@ -16,13 +16,14 @@ use Rattle.program.specs.declared.Program.{Program as Tables}
 use Rattle.program.specs.Rows.{opnd_of, opnd_from, opnd_at}
 use Rattle.program.specs.View.{program_view, ProgramReady}
 use Rattle.state.specs.declared.Sizes.{Sizes}
-use Rattle.state.specs.declared.State.{State}
 use Rattle.state.specs.View.{Attrs, kinds_of, called_of}
 use Rattle.state.specs.Changes.{marks_from}
 use Rattle.flows.specs.declared.Tally.{Tally as Told}
 use Rattle.flows.specs.declared.Tally.TheVariants.{Nothing as NothingYet, One as Single, Many as Several}
 use Rattle.flows.specs.declared.Pass.{Pass}
-use Rattle.flows.specs.declared.Words.{Words}
+use Rattle.kinds.specs.declared.words.Words.{Words}
+use Rattle.kinds.specs.InWords.{AsSet, as_set}
+use Rattle.flows.specs.declared.Classes.{Classes}
 use Rattle.machine.specs.opnds.Reads.{kind_in}
 use Rattle.flows.specs.Tally.{Tally, Nothing, One, Many, add, least, taken_all, finish, FitsAt}
 
@@ -53,23 +54,30 @@ pub record ByPasses (n : ℕ) (walks : Pass → Pass → Type 0) (r : Joined) : 
   pub again : walks (pass_before once.least) twice
   pub is : r ≡ finish [] n once.least (tally_of twice.tally)
 
+-- r is the set s, if there is one that isn't empty, else what a walk comes to
+abbrev pub Joins : Option ℕ → ℕ → (Pass → Pass → Type 0) → Joined → Type 0
+Joins s n walks r = ((t : ℕ) × (s ≡ Some t) × (0 < t) × (r ≡ Ok (Objects t))) ⊎ ByPasses n walks r
+
 -- r is the argument that i has for place n, if i is a call
 pub record Argues (m : List ℕ) (c : Counts) (i n : ℕ) (r : Opnd) : Type 0 where
   pub is : (L : Limits) (s : List ℕ) → has (about (op_of (program_view s m c) i)).callee ≡ true → opnd_of r ≡ argumentOf L (program_view s m c) n i
 
--- the operand that stands at a word, Empty for 0
-unfoldable pub standing : List ℕ → ℕ → Opnd
-standing m at = cond (eqb at 0) (Const Empty) (opnd_at m at)
+-- the operand that stands at a word, Empty for none
+abbrev pub standing : List ℕ → Option ℕ → Opnd
+standing m (Some at) = opnd_at m at
+standing m None = Const Empty
+
+-- both words of that operand are among the words m
+abbrev pub PlaceInside : List ℕ → Option ℕ → Type 0
+PlaceInside m (Some at) = at + 1 < length m
+PlaceInside m None = Unit {0}
 
 -- the argument that i has for place n stands at word r, if i is a call
-pub record ArguesAt (m : List ℕ) (c : Counts) (i n r : ℕ) : Type 0 where
+pub record ArguesAt (m : List ℕ) (c : Counts) (i n : ℕ) (r : Option ℕ) : Type 0 where
   pub is : Argues m c i n (standing m r)
-  pub inside : r + 1 < length m
+  pub inside : PlaceInside m r
 
 -- the kind that two words stand for, and the operand
-abbrev pub words_of : Words → Kind
-words_of x = kind_from x.tag x.bits
-
 abbrev pub operand_of : Words → Opnd
 operand_of x = opnd_from x.tag x.bits
 
@@ -85,20 +93,21 @@ pub record FlowsKnown (m : List ℕ) (c : Counts) (z : Sizes) (t : List (List �
   pub sound : FlowsSound (program_view script m c) z.insns t
 
 -- the same, of tables and a state
-abbrev pub FlowsOf : Tables → State → Type 0
-FlowsOf p s = FlowsKnown p.words.now p.counts s.sizes (called_of s.sizes s.words.now)
+abbrev pub FlowsOf : Tables → Sizes → List ℕ → Type 0
+FlowsOf p z w = FlowsKnown p.words.now p.counts z (called_of z w)
 
 -- the arguments for place n of the callers of f that are not below k
 pub record PassedIn (m : List ℕ) (c : Counts) (z : Sizes) (w : List ℕ) (f n k : ℕ) (x y : Pass) : Type 0 where
   pub passed : (L : Limits) (s : List ℕ) → FlowsSound (program_view s m c) z.insns (called_of z w)
       → Passed (kinds_of z w) (map (argumentOf L (program_view s m c) n) (marks_from (called_of z w) f k)) x y
 
--- a kind as the set of its classes, unless it is a name or Any
-abbrev pub AsSet : Type 0
-AsSet = Option ℕ
+-- the classes x with those of one kind more, unless it is a name or Any
+abbrev pub with_kind : Classes → Kind → Option Classes
+with_kind x k = elim (as_set k) [ Some t ↦ Some (record { union = bit_or x.union t; met = x.met || is_set k }) | None ↦ None ]
 
-abbrev pub as_set : Kind → AsSet
-as_set k = cond (is_alone k) None (Some (set_of k))
+-- their set: 0 where none of the kinds was a set
+abbrev pub set_from : Classes → ℕ
+set_from x = cond x.met x.union 0
 
 -- the union of s with the classes of operands, if none is a name or Any: 0 unless one is a set, of them or before (b)
 unfoldable pub join_sets : List Kind → 𝔹 → ℕ → List P.Opnd → AsSet

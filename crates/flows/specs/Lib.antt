@@ -1,3 +1,4 @@
 pub mod returning
 pub mod Tally
 pub mod Flows
+pub mod Left

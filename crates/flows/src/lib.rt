@@ -1,6 +1,7 @@
 // The union of a set of operands in the reference's order, by one or two passes over the operands as they come; and what has flowed to a Param.
 #![tactic(auto)]
 
+mod calls;
 pub mod returning;
 
 ghost use Rattle.std.specs.Prelude.{true, false, ◌≡◌, [], ◌∷◌, ℕ, ◌+◌, ◌<◌, length, get_or};
@@ -10,13 +11,15 @@ ghost use Rattle.program.specs.Rows.{opnd_of};
 ghost use Rattle.state.specs.View.{kinds_of, called_of};
 ghost use Rattle.machine.specs.opnds.Reads.{OperandInside, kind_in, StateReads};
 ghost use Rattle.flows.specs.Tally.{lower, before, take as taken, close, finish};
-ghost use Rattle.flows.specs.Flows.{tally_of, TallyAdds, Passed, Argues, standing, ArguesAt, words_of, operand_of, FlowsOf, PassedIn, ByPasses, as_set, SetsFrom, ParamIs};
+ghost use Rattle.kinds.specs.InWords.{words_of, as_set};
+ghost use Rattle.flows.specs.Flows.{tally_of, TallyAdds, Passed, Argues, standing, PlaceInside, ArguesAt, operand_of, FlowsOf, PassedIn, ByPasses, SetsFrom, Joins, ParamIs};
 
+use calls::Callers;
 use ids::{FunId, InsnId};
-use kinds::Kind;
+use kinds::{Kind, Words};
 use program::{Opnd, Program};
 use refusals::Refusal;
-use state::State;
+use state::Held;
 
 // What was met so far: no operand, one operand and its kind, or the union of several.
 #[derive(Clone, Copy)]
@@ -27,8 +30,8 @@ pub enum Tally {
 }
 
 // A pass finds the least instruction whose kind is Any, and takes what stands before its bound. The first has no bound; where it finds an Any, that is the bound of a second.
-// Stays: n and no `None` where there is no bound or no Any was met: each operand is compared with the bound, so that an option would be looked into for each,
-// and the definitions `least` and `finish` are by n.
+// Stays: n and no `None` where there is no bound, and where no Any was met: the definitions `lower` and `finish` are by a number, so that an option would be
+// made of it and unmade for each operand.
 #[derive(Clone, Copy)]
 pub struct Pass {
     pub bound: usize,
@@ -52,56 +55,6 @@ impl Pass {
     }
 }
 
-// Stays: two words and no `Kind` or `Opnd`, told apart by their numbers, as `Kind::tag` gives them: with kinds made a ring of parameters took more than twice the time (docs/DECISIONS.md, 42).
-// The byte and payload of a kind, or of an operand.
-#[derive(Clone, Copy, PartialEq, Eq)]
-pub struct Words {
-    pub tag: usize,
-    pub bits: usize,
-}
-
-impl Words {
-    ghost use Rattle.std.specs.Prelude.{◌≡◌};
-    ghost use Rattle.kinds.specs.Kinds.{is_empty, is_name, is_set, is_any};
-    ghost use Rattle.flows.specs.Flows.{words_of};
-
-    pub const EMPTY: Words = Words { tag: 0, bits: 0 };
-
-    pub const NIL: Words = Words { tag: 1, bits: 0 };
-
-    #[inline(always)]
-    #[tactic(auto, using(crate::proofs::Standing::empty_tag))]
-    pub fn is_empty(self) -> bool
-        ensures { result ≡ is_empty (words_of self) }
-    {
-        self.tag == 0
-    }
-
-    #[inline(always)]
-    #[tactic(auto, using(crate::proofs::Standing::name_tag))]
-    pub fn is_name(self) -> bool
-        ensures { result ≡ is_name (words_of self) }
-    {
-        (self.tag == 4) | (self.tag == 5)
-    }
-
-    #[inline(always)]
-    #[tactic(auto, using(crate::proofs::Standing::set_tag))]
-    pub fn is_set(self) -> bool
-        ensures { result ≡ is_set (words_of self) }
-    {
-        self.tag == 8
-    }
-
-    #[inline(always)]
-    #[tactic(auto, using(crate::proofs::Standing::any_tag))]
-    pub fn is_any(self) -> bool
-        ensures { result ≡ is_any (words_of self) }
-    {
-        8 < self.tag
-    }
-}
-
 #[tactic(auto, using(crate::proofs::Tallied::before_insn))]
 fn before(a: usize, o: Opnd) -> bool
     ensures { result ≡ before [] a (opnd_of o) }
@@ -113,7 +66,7 @@ fn before(a: usize, o: Opnd) -> bool
 }
 
 // Stays: the operand's clause, as at `machine::opnds::kind_of`.
-fn lower(state: &State, a: usize, o: Opnd) -> usize
+fn lower(state: &Held, a: usize, o: Opnd) -> usize
     requires operand_inside { OperandInside state.now.sizes o }
     ensures { result ≡ lower (kinds_of state.now.sizes state.now.words.now) a (opnd_of o) }
 {
@@ -146,7 +99,7 @@ fn add(t: Tally, k: Kind, o: Opnd) -> Tally
 }
 
 #[tactic(auto, using(crate::proofs::Tallied::take_none, crate::proofs::Tallied::take_void, crate::proofs::Tallied::take_it))]
-fn take(state: &State, a: usize, t: Tally, o: Opnd) -> Tally
+fn take(state: &Held, a: usize, t: Tally, o: Opnd) -> Tally
     requires operand_inside { OperandInside state.now.sizes o }
     ensures { tally_of result ≡ taken (kinds_of state.now.sizes state.now.words.now) a (tally_of t) (opnd_of o) }
 {
@@ -164,7 +117,7 @@ fn take(state: &State, a: usize, t: Tally, o: Opnd) -> Tally
 }
 
 // One operand in a pass.
-pub fn pass_one(state: &State, x: Pass, o: Opnd) -> Pass
+pub fn pass_one(state: &Held, x: Pass, o: Opnd) -> Pass
     requires operand_inside { OperandInside state.now.sizes o }
     ensures { Passed (kinds_of state.now.sizes state.now.words.now) (opnd_of o ∷ []) x result }
 {
@@ -175,24 +128,26 @@ pub fn pass_one(state: &State, x: Pass, o: Opnd) -> Pass
     }
 }
 
-// Stays: that an instruction is one of the program's bounds one argument by another.
-// Where the argument that call i has for place n stands among the operands; 0 where it has none.
+// The first word of a send's row: its receiver stands before its arguments.
+// Stays: that i is one of the program's instructions ties two arguments, since an id doesn't hold its program. Three words of the row are read, where `insn`
+// reads all six and makes the sort, as at sends' `place_of`.
+// Where the argument that call i has for place n stands among the operands.
 #[tactic(auto, using(crate::proofs::Callers::row_inside))]
-pub fn argument_at(program: &Program, i: InsnId, n: usize) -> usize
+pub fn argument_at(program: &Program, i: InsnId, n: usize) -> Option<usize>
     requires i_lt_insns { i.0 < program.now.counts.insns }
     ensures { ArguesAt program.now.words.now program.now.counts i.0 n result }
 {
     let at = program::INSNS + program::INSN_WORDS * i.index();
-    let skip = (program.words[at] == 4) as usize;
+    let skip = (program.words[at] == program::SEND_DYNAMIC) as usize;
     let first = program.words[at + 4];
     let count = program.words[at + 5];
     if n < count {
         let j = skip + n;
         if j < count {
-            return program::OPNDS + 2 * first + 2 * j;
+            return Some(program::OPNDS + 2 * first + 2 * j);
         }
     }
-    0
+    None
 }
 
 // The argument that call i has for place n; Empty where it has none.
@@ -201,15 +156,14 @@ pub fn argument(program: &Program, i: InsnId, n: usize) -> Opnd
     requires i_lt_insns { i.0 < program.now.counts.insns }
     ensures { Argues program.now.words.now program.now.counts i.0 n result }
 {
-    let at = argument_at(program, i, n);
-    if at == 0 {
-        return Opnd::Const(Kind::Empty);
+    match argument_at(program, i, n) {
+        Some(at) => program::read_opnd(program.words, at),
+        None => Opnd::Const(Kind::Empty),
     }
-    program::read_opnd(program.words, at)
 }
 
 // The kind of instruction i, in words: they are read faster than the kind is made.
-pub fn insn_words(state: &State, i: InsnId) -> Words
+pub fn insn_words(state: &Held, i: InsnId) -> Words
     requires i_lt_insns { i.0 < state.now.sizes.insns }
     ensures { words_of result ≡ get_or (kinds_of state.now.sizes state.now.words.now) i.0 Kind.Empty }
 {
@@ -220,107 +174,112 @@ pub fn insn_words(state: &State, i: InsnId) -> Words
     }
 }
 
-// Stays: that a place is inside the words bounds one argument by another.
-// The operand that stands at a word, in words; Empty for 0.
+// Stays: that the place lies in the words ties two arguments, since a number doesn't hold the memory that it is a place of.
+// The operand that stands at a word, in words; Empty for none.
 #[tactic(auto, using(crate::proofs::Standing::stood_none, crate::proofs::Standing::stood))]
-fn standing_words(program: &Program, at: usize) -> Words
-    requires { at + 1 < length program.now.words.now }
-    ensures { operand_of result ≡ standing program.now.words.now at }
+fn standing_words(words: &[usize], at: Option<usize>) -> Words
+    requires { PlaceInside words.now at }
+    ensures { operand_of result ≡ standing words.now at }
 {
-    if at == 0 {
-        return Words::EMPTY;
-    }
-    Words {
-        tag: program.words[at],
-        bits: program.words[at + 1],
+    match at {
+        Some(at) => Words {
+            tag: words[at],
+            bits: words[at + 1],
+        },
+        None => Words::EMPTY,
     }
 }
 
 // The kind of an operand, both in words.
 #[tactic(auto, using(crate::proofs::Standing::words_insn, crate::proofs::Standing::words_const))]
-fn words_of(state: &State, o: Words) -> Words
+fn words_of(state: &Held, o: Words) -> Words
     requires operand_inside { OperandInside state.now.sizes (operand_of o) }
     ensures { words_of result ≡ kind_in (kinds_of state.now.sizes state.now.words.now) (opnd_of (operand_of o)) }
 {
-    if o.tag == 10 {
+    if o.tag == program::INSN_TAG {
         return insn_words(state, InsnId(ids::number_in(o.bits)));
     }
     o
 }
 
-// The kind of the operand that stands at a word, in words.
-pub fn opnd_words(program: &Program, state: &State, at: usize) -> Words
-    requires at_in_bounds { at + 1 < length program.now.words.now }
-    requires operand_inside { OperandInside state.now.sizes (standing program.now.words.now at) }
-    ensures { words_of result ≡ kind_in (kinds_of state.now.sizes state.now.words.now) (opnd_of (standing program.now.words.now at)) }
+// The kind of the operand that stands at a word, in words; Empty for none.
+pub fn opnd_words(words: &[usize], state: &Held, at: Option<usize>) -> Words
+    requires at_in_bounds { PlaceInside words.now at }
+    requires operand_inside { OperandInside state.now.sizes (standing words.now at) }
+    ensures { words_of result ≡ kind_in (kinds_of state.now.sizes state.now.words.now) (opnd_of (standing words.now at)) }
 {
-    let o = standing_words(program, at);
+    let o = standing_words(words, at);
     words_of(state, o)
 }
 
 // Stays: what is known of program and state ties two values that are lent apart, and the function is bounded by the state's sizes.
 // The arguments for place n of the callers of f, in a pass.
-fn pass_callers(program: &Program, state: &State, f: FunId, n: usize, start: Pass) -> Pass
-    requires flows_known { FlowsOf program.now state.now }
+fn pass_callers(program: &Program, state: &Held, f: FunId, n: usize, start: Pass) -> Pass
+    requires flows_known { FlowsOf program.now state.now.sizes state.now.words.now }
     requires f_lt_functions { f.0 < state.now.sizes.functions }
     ensures { PassedIn program.now.words.now program.now.counts state.now.sizes state.now.words.now f.0 n 0 start result }
 {
     let mut x = start;
-    let mut from = InsnId(0);
-    while let Some(i) = state.next_caller(f, from) {
+    for i in Callers::of(state, f) {
         x = pass_one(state, x, argument(program, i, n));
-        from = InsnId(i.0 + 1);
     }
     x
 }
 
-// The classes of a kind, unless it is a name or Any. The built-in classes are 0 to 3: bits 1, 2, 4 and 8.
-#[tactic(auto, using(crate::proofs::Standing::sets))]
-pub fn as_set(k: Words) -> Option<u64>
-    ensures { result ≡ as_set (words_of k) }
-{
-    match k.tag {
-        8 => Some(k.bits as u64),
-        0 => Some(0),
-        1 => Some(1),
-        2 | 6 => Some(2),
-        7 => Some(12),
-        3 => Some(if k.bits == 0 { 8 } else { 4 }),
-        _ => None,
+// The classes of the kinds that were joined so far, and whether one of these was a set: nil, numbers and truths have classes too, but make no set alone.
+#[derive(Clone, Copy)]
+struct Classes {
+    union: u64,
+    met: bool,
+}
+
+impl Classes {
+    ghost use Rattle.std.specs.Prelude.{◌≡◌};
+    ghost use Rattle.kinds.specs.InWords.{words_of};
+    ghost use Rattle.flows.specs.Flows.{with_kind, set_from};
+
+    const NONE: Classes = Classes {
+        union: 0,
+        met: false,
+    };
+
+    // The classes with those of one kind more, unless it is a name or Any.
+    #[inline(always)]
+    fn with_kind(self, k: Words) -> Option<Classes>
+        ensures { result ≡ with_kind self (words_of k) }
+    {
+        Some(Classes {
+            union: self.union | k.as_set()?,
+            met: self.met | k.is_set(),
+        })
+    }
+
+    // Their set; empty where none of the kinds was a set.
+    fn set(self) -> u64
+        ensures { result ≡ set_from self }
+    {
+        if self.met { self.union } else { 0 }
     }
 }
 
 // The union of the kinds of the arguments for place n of the callers of f, if none is a name or Any and one is a set; 0 where none is a set. An operand
 // that came just before adds nothing.
-fn join_sets(program: &Program, state: &State, f: FunId, n: usize) -> Option<u64>
-    requires flows_known { FlowsOf program.now state.now }
+fn join_sets(program: &Program, state: &Held, f: FunId, n: usize) -> Option<u64>
+    requires flows_known { FlowsOf program.now state.now.sizes state.now.words.now }
     requires f_lt_functions { f.0 < state.now.sizes.functions }
     ensures { SetsFrom program.now.words.now program.now.counts state.now.sizes state.now.words.now f.0 n 0 false 0 result }
 {
-    let mut met = false;
-    let mut s = 0;
+    let mut sum = Classes::NONE;
     let mut last = Words::EMPTY;
-    for k in 0..state.sizes.insns.div_ceil(64) {
-        // Stays: a word's bits by hand, since an iterator over them would serve this one loop.
-        let mut left = state.caller_word(f, k);
-        while left != 0 {
-            let b = memory::tables::lowest_bit(left);
-            let i = InsnId((k * 64 + b.place) as u32);
-            let at = argument_at(program, i, n);
-            let o = standing_words(program, at);
-            if o != last {
-                let x = words_of(state, o);
-                s = s | as_set(x)?;
-                met = met | x.is_set();
-                last = o;
-            }
-            left = b.rest;
+    for i in Callers::of(state, f) {
+        let at = argument_at(program, i, n);
+        let o = standing_words(program.words, at);
+        if o != last {
+            sum = sum.with_kind(words_of(state, o))?;
+            last = o;
         }
     }
-    if met {
-        return Some(s);
-    }
-    Some(0)
+    Some(sum.set())
 }
 
 #[tactic(auto, using(crate::proofs::Tallied::close_none, crate::proofs::Tallied::close_one))]
@@ -359,15 +318,28 @@ fn by_passes<F: Fn(Pass) -> Pass>(n: usize, walk: F) -> Result<Kind, Refusal>
     finish_pass(n, a, twice.tally)
 }
 
+// The kind of a set of classes, if there is one and it isn't empty; else the union of the operands that a walk goes over.
+fn joined<F: Fn(Pass) -> Pass>(set: Option<u64>, n: usize, walk: F) -> Result<Kind, Refusal>
+    requires { F.IsAlwaysCallable walk }
+    ensures { Joins set n (F.post walk) result }
+{
+    match set {
+        Some(s) if 0 < s => Ok(Kind::Objects(s)),
+        _ => by_passes(n, walk),
+    }
+}
+
 // The kind of a Param of function f with place n. Classes are joined at once, since their order means nothing.
-pub fn param(program: &Program, state: &State, f: FunId, n: usize) -> Result<Kind, Refusal>
-    requires flows_known { FlowsOf program.now state.now }
+pub fn param(program: &Program, state: &Held, f: FunId, n: usize) -> Result<Kind, Refusal>
+    requires flows_known { FlowsOf program.now state.now.sizes state.now.words.now }
     requires f_lt_functions { f.0 < state.now.sizes.functions }
     ensures { (i : ℕ) → StateReads state.now.sizes (ParamIs program.now.words.now program.now.counts state.now.sizes (called_of state.now.sizes state.now.words.now) i f.0 n)
         (λ L program. rule L program i (Param n)) state.now.words.now result }
 {
-    match join_sets(program, state, f, n) {
-        Some(s) if 0 < s => Ok(Kind::Objects(s)),
-        _ => by_passes(state.sizes.insns, |x| pass_callers(program, state, f, n, x)),
-    }
+    let set = join_sets(program, state, f, n);
+    joined(
+        set,
+        state.sizes.insns,
+        |x| pass_callers(program, state, f, n, x),
+    )
 }

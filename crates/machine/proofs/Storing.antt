@@ -4,11 +4,13 @@ use mathlib.Core.Path.{◌≡◌, sym, ap, ◌∙◌, subst}
 use mathlib.Core.List.{List, [], ◌∷◌}
 use Prim.Native.Nat.{ℕ, zero, suc, ◌+◌, ◌-◌, ◌≤◌, ◌<◌}
 use native.Mathlib.Omega.{arith}
-use lib.ListN.{length, get_or, take}
+use lib.ListN.{length, get_or, take, drop}
 use lib.Seq.{slice, length-slice, get_or-drop, get_or-take, ext_get_or}
 use Rattle.kinds.specs.declared.Kind.{Kind}
 use Rattle.kinds.specs.declared.Kind.TheVariants.{Empty}
-use Rattle.std.specs.Prelude.{Result, Ok, Err}
+use Rattle.std.specs.Prelude.{Result, Ok, Err, All}
+use Rattle.std.proofs.lemmas.List.{drop-take}
+use Rattle.std.proofs.lemmas.List.Elements.{All-from_get_or}
 use Rattle.refusals.specs.declared.Refusal.{Refusal}
 use Rattle.kinds.specs.Kinds.{same_kind}
 use Rattle.kinds.specs.Union.{Joined, union_of}
@@ -21,11 +23,12 @@ use Rattle.program.specs.View.{program_view, instructions_of, ProgramReady, Read
 use Rattle.program.specs.declared.Counts.{Counts}
 use Rattle.program.specs.declared.Row.{Row}
 use Rattle.program.proofs.Tables.{tab-at, tab-length}
+use Rattle.program.proofs.Viewing.{instructions-length}
 use Rattle.uses.specs.Users.{words}
 use Rattle.state.specs.declared.Sizes.{Sizes}
 use Rattle.state.specs.declared.State.{State}
 use Rattle.state.specs.View.{Attrs, kinds_of}
-use Rattle.state.specs.Changes.{Listing, HomesOf, push_live}
+use Rattle.state.specs.Changes.{HomesOf, UsersOf, push_live}
 use Rattle.state.specs.Methods.{view, Put, Did}
 use Rattle.state.proofs.Wakes.{keep_no, keep-old, keep-new}
 use Rattle.state.proofs.Methods.{along_start, along_put, along_last, along_end, along_refused}
@@ -113,24 +116,29 @@ module _ (p : List ℕ) (c : Counts) (u : List ℕ) (g : Users p c u) where
     users_are : (s : List ℕ) → slice from to u ≡ uses (program_view s p c) i
     users_are s = subst (λ (t : ℕ). slice from t u ≡ uses (program_view s p c) i) ends (part-words u from (start (i + 1) - start i) (omega (arith, ends, inside)) ∙ g.part s i h)
 
-    user_at : (k : ℕ) → from ≤ k → k < to → get_or u k 0 < c.insns
-    unfolding instructions_of
-    user_at k a b =
-        let n = start (i + 1) - start i in
-        let w = words u from n in
-        let e : from + (k - from) ≡ k = omega arith in
-        let l : k - from < n = omega (arith, ends) in
-        let len : length (uses (program_view [] p c) i) ≡ n = ap length (sym (g.part [] i h)) ∙ tab-length (λ q. get_or u (from + q) 0) n in
-        let x : get_or (uses (program_view [] p c) i) (k - from) 0 ≡ get_or u k 0 = ap (λ (y : List ℕ). get_or y (k - from) 0) (sym (g.part [] i h))
-        ∙ tab-at (λ q. get_or u (from + q) 0) n (k - from) 0 l ∙ ap (λ (y : ℕ). get_or u y 0) e in
-        let y = user_below (program_view [] p c) i (k - from) 0 (omega (arith, len)) in
-        omega (arith, tab-length (instruction_at [] p) c.insns)
+    pub users_of_lem : (z : Sizes) → ProgramReady p c → MachineSized c z → (P : Program) (v : Attrs) → TablesOf p c P v → UsersOf z u from to (homes_of p c) i P v
+    users_of_lem z r e P v t =
+        subst (λ (Q : Program). UsersOf z u from to (homes_of p c) i Q v) (sym t.is) (record { users = users_are t.script; blocks = homes_of_lem p c z r e t.script v })
 
-    pub users-listed : (z : Sizes) → MachineSized c z → Listing z u (users_at + get_or u (starts_at + i) 0) (users_at + get_or u (starts_at + (i + 1)) 0)
-    users-listed z e = record { order = omega (arith, g.rises i h); last = inside; below = λ k a b. omega (arith, user_at k a b, e.insns) }
+  -- the part of the memory that holds them, and that they are instructions
+  module _ (z : Sizes) (e : MachineSized c z) (i : ℕ) (h : i < z.insns) where
+    pub users-order : users_at + start i ≤ users_at + start (i + 1)
+    users-order = omega (arith, g.rises i (omega (arith, e.insns)))
 
-  pub users_listed_at : (z : Sizes) → MachineSized c z → (i : ℕ) → i < z.insns → Listing z u (users_at + get_or u (starts_at + i) 0) (users_at + get_or u (starts_at + (i + 1)) 0)
-  users_listed_at z e i h = users-listed i (omega (arith, e.insns)) z e
+    pub users-inside : users_at + start (i + 1) ≤ length u
+    users-inside = inside i (omega (arith, e.insns))
+
+    pub users-part : slice (users_at + start i) (users_at + start (i + 1)) u ≡ take (users_at + start (i + 1) - (users_at + start i)) (drop (users_at + start i) u)
+    users-part =
+        let n = users_at + start (i + 1) - (users_at + start i) in
+        let e : users_at + start i + n ≡ users_at + start (i + 1) = omega (arith, users-order) in
+        subst (λ (t : ℕ). slice (users_at + start i) t u ≡ take n (drop (users_at + start i) u)) e (drop-take (users_at + start i) n u)
+
+    pub users-listed : All (λ j. j < z.insns) (take (users_at + start (i + 1) - (users_at + start i)) (drop (users_at + start i) u))
+    users-listed =
+        let P = program_view [] p c in
+        subst (All (λ j. j < z.insns)) (sym (users_are i (omega (arith, e.insns)) []) ∙ users-part)
+        (All-from_get_or (λ j. j < z.insns) (uses P i) 0 (λ k l. omega (arith, user_below P i k 0 l, instructions-length [] p c.insns, e.insns)))
 
 -- ---- the ways through store
 
@@ -149,10 +157,11 @@ module _ (p : List ℕ) (c : Counts) (u : List ℕ) (s : State) (g : Users p c u
   same_way w f q = along_end (along_start s) (λ L room P v t. keep-old L P k i (view v s) w (joined f) (told w q))
 
   pub new_way : (w : Kind) {t x : State} (a : Result (Unit {0}) Refusal) → j ≡ Ok w → same_kind w o ≡ false → Put (set_kind i k) s t
-      → Did (HomesOf t.sizes (homes_of p c)) (λ L P. push_live L P (slice (users_at + get_or u (starts_at + i) 0) (users_at + get_or u (starts_at + (i + 1)) 0) u)) t x a
+      → Did (HomesOf t.sizes (homes_of p c))
+      (λ L P. push_live L P (take (users_at + get_or u (starts_at + (i + 1)) 0 - (users_at + get_or u (starts_at + i) 0)) (drop (users_at + get_or u (starts_at + i) 0) u))) t x a
       → Did (TablesOf p c) (λ L P. store L P i k) s x a
   new_way w {t} a f q put d =
       let lt : i < c.insns = omega (arith, e.insns) in
       along_last (along_put (along_start s) (λ L P. push_live L P (uses P i)) put (λ L room P v _. keep-new L P k i (view v s) w (joined f) (told w q))) a d
-      (λ P v y. rw put.lent.sizes (subst (λ (Q : Program). HomesOf s.sizes (homes_of p c) Q v) (sym y.is) (homes_of_lem p c s.sizes r e y.script v)))
-      (λ L room P v y. ap (λ (l : List ℕ). push_live L P l (view v t)) (sym (users_are p c u g i lt y.script ∙ ap (λ (Q : Program). uses Q i) (sym y.is))))
+      (λ P v y. rw put.lent.sizes (users_of_lem p c u g i lt s.sizes r e P v y).blocks)
+      (λ L room P v y. ap (λ (l : List ℕ). push_live L P l (view v t)) (sym (users_of_lem p c u g i lt s.sizes r e P v y).users ∙ users-part p c u g s.sizes e i h))

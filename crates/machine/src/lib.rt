@@ -6,10 +6,9 @@ pub mod opnds;
 pub mod receivers;
 pub mod tables;
 
-ghost use Rattle.std.specs.Prelude.{◌≡◌, ◌<◌};
-ghost use Rattle.std.proofs.Math.Seq.{slice};
+ghost use Rattle.std.specs.Prelude.{◌≡◌, ◌<◌, All};
 ghost use Rattle.rules.specs.Machine.{store as stored};
-ghost use Rattle.state.specs.Changes.{Listing, HomesOf, push_live};
+ghost use Rattle.state.specs.Changes.{HomesOf, push_live};
 ghost use Rattle.state.specs.Methods.{Did};
 ghost use Rattle.machine.specs.Analysed.{sizes_of, MachineSized, homes_of, Users, TablesOf};
 
@@ -33,27 +32,21 @@ pub fn sizes(counts: Counts) -> Sizes
 }
 
 // Stays: the sizes' clause is no ghost field, since tables and state are lent apart: so no change of the state has to promise that the tables stay.
-// Stays: program and users apart, since `Tables` would ask for chains, which this was never promised with.
-// The instructions of a part of a list wait whose blocks are live, or 20.
-fn push_users(
-    program: &Program,
-    users: &[usize],
-    from: usize,
-    to: usize,
-    state: &mut State,
-) -> Result<(), Refusal>
+// The instructions of a list wait whose blocks are live, or 20.
+fn push_users(program: &Program, users: &[usize], state: &mut State) -> Result<(), Refusal>
     requires machine_sized { MachineSized program.now.counts state.old.sizes }
-    requires listing { Listing state.old.sizes users.now from to }
-    ensures { Did (HomesOf state.old.sizes (homes_of program.now.words.now program.now.counts)) (λ L P. push_live L P (slice from to users.now))
+    requires listed { All (λ j. j < state.old.sizes.insns) users.now }
+    ensures { Did (HomesOf state.old.sizes (homes_of program.now.words.now program.now.counts)) (λ L P. push_live L P users.now)
         state.old state.new result }
 {
-    for k in from..to {
-        let j = InsnId(users[k] as u32);
+    for &user in users {
+        let j = InsnId(user as u32);
         state.push_live(program.insn(j).block, j)?;
     }
     Ok(())
 }
 
+// Stays: program and users apart, and no `Tables`, since these hold chains, which are not read here.
 // Kind k is stored for instruction i, and its users in live blocks wait, if the union with the old kind is another.
 pub fn store(
     program: &Program,
@@ -75,5 +68,5 @@ pub fn store(
     let n = i.index();
     let from = answer::USERS + users[answer::STARTS + n];
     let to = answer::USERS + users[answer::STARTS + (n + 1)];
-    push_users(program, users, from, to, state)
+    push_users(program, &users[from..to], state)
 }

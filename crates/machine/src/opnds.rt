@@ -13,10 +13,10 @@ use ids::{BlockId, FunId};
 use kinds::{Arith, Kind};
 use program::Opnd;
 use refusals::Refusal;
-use state::State;
+use state::{Held, State};
 
 // Stays: an operand is inside by the sizes of the state that is asked, so a type could say it only of an operand that holds the state's loan.
-pub fn kind_of(state: &State, o: Opnd) -> Kind
+pub fn kind_of(state: &Held, o: Opnd) -> Kind
     requires { OperandInside state.now.sizes o }
     ensures { result ≡ kind_in (kinds_of state.now.sizes state.now.words.now) (opnd_of o) }
 {
@@ -32,7 +32,7 @@ pub fn choose(state: &mut State, o: Opnd, t: BlockId, e: BlockId) -> Result<(), 
     requires t_lt_blocks { (t.0 < state.old.sizes.blocks) × (e.0 < state.old.sizes.blocks) }
     ensures { (i : ℕ) → Did Every (λ L p. leave L p i (IfTrue (opnd_of o) t.0 e.0)) state.old state.new result }
 {
-    let k = kind_of(state, o);
+    let k = kind_of(&state.tables(), o);
     if k.admits(true) {
         state.push_block(t)?;
     }
@@ -48,14 +48,14 @@ pub fn give_back(state: &mut State, f: FunId, o: Opnd) -> Result<(), Refusal>
     requires f_lt_functions { f.0 < state.old.sizes.functions }
     ensures { (i : ℕ) → Did (FunctionIs i f.0) (λ L p. leave L p i (Return (opnd_of o))) state.old state.new result }
 {
-    let k = kind_of(state, o);
+    let k = kind_of(&state.tables(), o);
     if k.is_empty() {
         return Ok(());
     }
     state.wake_callers(f, k)
 }
 
-pub fn compute(state: &State, o: Arith, v: Opnd, w: Opnd) -> Result<Kind, Refusal>
+pub fn compute(state: &Held, o: Arith, v: Opnd, w: Opnd) -> Result<Kind, Refusal>
     requires { OperandInside state.now.sizes v × OperandInside state.now.sizes w }
     ensures { (i : ℕ) → StateReads state.now.sizes Every (λ L p. rule L p i (Compute o (opnd_of v) (opnd_of w))) state.now.words.now result }
 {
@@ -63,7 +63,7 @@ pub fn compute(state: &State, o: Arith, v: Opnd, w: Opnd) -> Result<Kind, Refusa
 }
 
 // A union with an operand's kind, where the operand's block is live.
-fn join_if(state: &State, j: Result<Kind, Refusal>, live: bool, v: Opnd) -> Result<Kind, Refusal>
+fn join_if(state: &Held, j: Result<Kind, Refusal>, live: bool, v: Opnd) -> Result<Kind, Refusal>
     requires { OperandInside state.now.sizes v }
     ensures { result ≡ cond live (join_of j (kind_in (kinds_of state.now.sizes state.now.words.now) (opnd_of v))) j }
 {
@@ -73,7 +73,7 @@ fn join_if(state: &State, j: Result<Kind, Refusal>, live: bool, v: Opnd) -> Resu
     j
 }
 
-pub fn phi(state: &State, b: BlockId, v: Opnd, c: BlockId, w: Opnd) -> Result<Kind, Refusal>
+pub fn phi(state: &Held, b: BlockId, v: Opnd, c: BlockId, w: Opnd) -> Result<Kind, Refusal>
     requires operand_inside { OperandInside state.now.sizes v × OperandInside state.now.sizes w }
     requires b_lt_blocks { (b.0 < state.now.sizes.blocks) × (c.0 < state.now.sizes.blocks) }
     ensures { (i : ℕ) → StateReads state.now.sizes Every (λ L p. rule L p i (Phi b.0 (opnd_of v) c.0 (opnd_of w))) state.now.words.now result }

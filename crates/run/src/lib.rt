@@ -16,7 +16,7 @@ use refusals::Refusal;
 use state::State;
 
 // The instruction that the next step takes; 0 where it takes a block.
-// Stays: 0 and no `None`, since `step` asks itself whether a block is next, and was promised for any record then.
+// Stays: 0 where a block is next: `step` looks at the registers itself, and an option would say the same a second time.
 fn front(state: &State) -> InsnId
     ensures { Front state.now.sizes state.now.words.now state.now.regs result.0 }
 {
@@ -43,6 +43,7 @@ pub fn run(
     ensures { Lent state.old state.new × RunRan tables.now.code.program.script.now tables.now.code.program.words.now tables.now.code.program.counts
         state.old.sizes state.new.words.now (acted_of state.new.regs result) }
 {
+    // The stamp 0 is none, so no epoch is 0.
     let mut epoch = 1;
     while !state.at_rest() {
         let i = front(state);

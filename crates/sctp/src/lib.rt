@@ -22,11 +22,6 @@ use program::{Counts, Program};
 use refusals::Refusal;
 use state::{Regs, Sizes, State};
 
-// The words of the program part that its tables take, and those of the index.
-const TABLES: usize = program::SIZE;
-
-const CHAINS: usize = chains::SIZE;
-
 // The chains of the index are made in work memory, and what is in use of them goes behind the program's tables.
 // Stays: script, words and counts stand apart here, since the C interface lends the tables and the room for their chains as one memory: a Program borrows its front part alone, for reading.
 fn lay_index(script: &[u8], program: &mut [usize], counts: Counts, scratch: &mut [usize])
@@ -37,11 +32,11 @@ fn lay_index(script: &[u8], program: &mut [usize], counts: Counts, scratch: &mut
 {
     let tables = Program {
         script,
-        words: &program[..TABLES],
+        words: &program[..program::SIZE],
         counts,
     };
-    chains::build_index(&tables, &mut scratch[..CHAINS]);
-    chains::copy_index(&scratch[..CHAINS], counts, program, TABLES);
+    chains::build_index(&tables, &mut scratch[..chains::SIZE]);
+    chains::copy_index(&scratch[..chains::SIZE], counts, program, program::SIZE);
 }
 
 // What the start finds clear: the kinds, live blocks, callers and reads of as many things as the program has.
@@ -141,7 +136,7 @@ pub fn sctp(
 {
     state.regs = Regs::no_entries();
     lay_index(script, program, counts, state.words);
-    let (words, chains) = program.split_at(TABLES);
+    let (words, chains) = program.split_at(program::SIZE);
     let tables = Program {
         script,
         words,

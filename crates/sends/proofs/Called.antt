@@ -133,23 +133,24 @@ module _ (m : List ℕ) (c : Counts) (i k f : ℕ) {t u : S.State} {a : Result (
 pub idle_did : {s : S.State} {fits : Program → Attrs → Type 0} {f : Limits → Program → Acts (Unit {0})} → PassIdle s.sizes fits f s.words.now → Did fits f s s (Ok tt)
 idle_did {s} h = record { lent = lent_same s; did = h.is s.regs s.ready }
 
-module _ {m : List ℕ} {c : Counts} (i f : ℕ) (t : S.State) {b : 𝔹} (e : b ≡ marked (called_of t.sizes t.words.now) f i) (y : b ≡ true) where
-  pub caller-known : (k : ℕ) (s : List ℕ) → Did (CallsIn s m c i k) (λ L p. add_call L p i f) t t (Ok tt)
-  caller-known k s = along_end (along_start t) (λ L room p v g. old-is L p i f (view v t) (sym e ∙ y))
+pub caller-known : {m : List ℕ} {c : Counts} (i f : ℕ) (t : S.State) {b : 𝔹} → b ≡ marked (called_of t.sizes t.words.now) f i → b ≡ true
+    → (k : ℕ) (s : List ℕ) → Did (CallsIn s m c i k) (λ L p. add_call L p i f) t t (Ok tt)
+caller-known i f t e y k s = along_end (along_start t) (λ L room p v g. old-is L p i f (view v t) (sym e ∙ y))
 
-  pub call-idle : {x : List ℕ} → Calling t.sizes m c x i → f < c.functions → {r : Function} → ReadsFun m c f r
-      → ((j : ℕ) → PassIdle t.sizes (PassIn m c t.sizes x i j r.entry.0) (λ L p. pass_arguments L p i j) t.words.now)
-      → (s : List ℕ) (k : ℕ) → PassIdle t.sizes (CallsIn s m c i k) (λ L p. call_to L p i f) t.words.now
-  call-idle h lt d g s k = record {
-    is = λ q r.
-        let w = (args-idle h lt d g s k).is q r in
-        record {
-          is = λ L room p v u.
-              w.is L room p v u
-              ∙ ap (λ (a : Answer (Unit {0} × State)). if_answered a (λ x. pass_arguments L p i f x.1)) (sym (old-is L p i f (state_view t.sizes v t.words.now q) (sym e ∙ y)));
-          ok = w.ok;
-        };
-  }
+pub call-idle : {m : List ℕ} {c : Counts} (i f : ℕ) {z : Sizes} {w : List ℕ} {b : 𝔹} → b ≡ marked (called_of z w) f i → b ≡ true
+    → {x : List ℕ} → Calling z m c x i → f < c.functions → {r : Function} → ReadsFun m c f r
+    → ((j : ℕ) → PassIdle z (PassIn m c z x i j r.entry.0) (λ L p. pass_arguments L p i j) w)
+    → (s : List ℕ) (k : ℕ) → PassIdle z (CallsIn s m c i k) (λ L p. call_to L p i f) w
+call-idle i f {z} {w} e y h lt d g s k = record {
+  is = λ q r.
+      let n = (args-idle h lt d g s k).is q r in
+      record {
+        is = λ L room p v u.
+            n.is L room p v u
+            ∙ ap (λ (a : Answer (Unit {0} × State)). if_answered a (λ x. pass_arguments L p i f x.1)) (sym (old-is L p i f (state_view z v w q) (sym e ∙ y)));
+        ok = n.ok;
+      };
+}
 
 -- ---- one class
 

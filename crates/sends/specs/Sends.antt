@@ -9,7 +9,6 @@ use Rattle.program.specs.declared.Counts.{Counts}
 use Rattle.program.specs.Rows.{fun_at}
 use Rattle.program.specs.View.{program_view}
 use Rattle.state.specs.declared.Sizes.{Sizes}
-use Rattle.state.specs.declared.State.{State as Lent}
 use Rattle.state.specs.View.{Attrs}
 use Rattle.chains.specs.declared.view.Indexed.{Indexed}
 use Rattle.chains.specs.Chains.{Index}
@@ -39,8 +38,8 @@ pub record Calling (z : Sizes) (m : List ℕ) (c : Counts) (x : List ℕ) (i : �
   pub entries : (f : ℕ) → f < c.functions → (fun_at m f).entry.0 < c.blocks
 
 -- the same of values that are lent
-abbrev pub CallingOf : Indexed → Lent → ℕ → Type 0
-CallingOf c s i = Calling s.sizes c.program.words.now c.program.counts c.chains.now i
+abbrev pub CallingOf : Indexed → Sizes → ℕ → Type 0
+CallingOf c z i = Calling z c.program.words.now c.program.counts c.chains.now i
 
 -- the program that a script and tables stand for, in which call i has k arguments
 pub record CallsIn (s m : List ℕ) (c : Counts) (i k : ℕ) (p : Program) (v : Attrs) : Type 0 where

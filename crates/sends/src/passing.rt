@@ -4,39 +4,41 @@ ghost use Rattle.kinds.specs.Union.{union_of};
 ghost use Rattle.rules.specs.Machine.{pass_arguments};
 ghost use Rattle.state.specs.Methods.{Did};
 ghost use Rattle.chains.specs.Chains.{ChainIs};
-ghost use Rattle.flows.specs.Flows.{words_of};
+ghost use Rattle.kinds.specs.InWords.{words_of};
 ghost use Rattle.sends.specs.passing.Passing.{pass_to, ParamPlaced, HasParams, CallerOf, CallIn, PassesOf, CoversTells, KeepsOf, PassOf, PassIdle};
 
-use chains::{Chain, Indexed, Sort};
-use flows::Words;
+use chains::{Chain, Sort};
 use ids::{BlockId, InsnId};
+use kinds::Words;
 use program::Program;
 use refusals::Refusal;
-use state::State;
+use state::{Held, State};
 
 // A Param's place.
-// Stays: two words of the row are read, where `insn` reads all six and makes the sort: by its `op` rings of parameters took 6 in 100 longer.
+// Stays: two words of the row are read, the first as a number, where `insn` reads all six and makes the sort: by its `op` rings of parameters took 6 in 100
+// longer.
 fn place_of(program: &Program, j: InsnId) -> usize
     requires j_lt_insns { j.0 < program.now.counts.insns }
     ensures { ParamPlaced program.now.words.now program.now.counts j.0 result }
 {
     let at = program::INSNS + program::INSN_WORDS * j.index();
-    if program.words[at] == 10 {
+    if program.words[at] == program::PARAM {
         return program.words[at + 2];
     }
     0
 }
 
 // The kind of the argument that call i has for Param j, in words.
-// Stays: these clauses tie the program to the state, which is lent apart from it, and bound one argument by another: no value holds both.
-fn passed_words(program: &Program, state: &State, i: InsnId, j: InsnId) -> Words
-    requires caller { CallerOf program.now state.now i.0 }
+// Stays: what ties the program to the state is a clause, here and below: a struct of both and of i would take it from two readers, and their two callers
+// would each make the struct of that same clause. The next bounds one argument by another.
+fn passed_words(program: &Program, state: &Held, i: InsnId, j: InsnId) -> Words
+    requires caller { CallerOf program.now state.now.sizes i.0 }
     requires j_lt_insns { j.0 < state.now.sizes.insns }
-    ensures { PassesOf program.now state.now i.0 j.0 (words_of result) }
+    ensures { PassesOf program.now state.now.sizes state.now.words.now i.0 j.0 (words_of result) }
 {
     let n = place_of(program, j);
     let at = flows::argument_at(program, i, n);
-    flows::opnd_words(program, state, at)
+    flows::opnd_words(program.words, state, at)
 }
 
 // A quick test that the union of a with k is a: k is Empty, a is Any, a is a set that has k's classes, or they are one kind and no name.
@@ -56,7 +58,7 @@ fn compare(a: Words, k: Words) -> Option<bool>
         return Some(true);
     }
     if a.is_set() {
-        let t = flows::as_set(k)? as usize;
+        let t = k.as_set()? as usize;
         return Some((a.bits | t) == a.bits);
     }
     if a.is_any() {
@@ -69,10 +71,10 @@ fn compare(a: Words, k: Words) -> Option<bool>
 }
 
 // A quick test that the argument of call i for Param j leaves the Param's kind as it is.
-fn surely_keeps(program: &Program, state: &State, i: InsnId, j: InsnId) -> bool
-    requires caller { CallerOf program.now state.now i.0 }
+fn surely_keeps(program: &Program, state: &Held, i: InsnId, j: InsnId) -> bool
+    requires caller { CallerOf program.now state.now.sizes i.0 }
     requires j_lt_insns { j.0 < state.now.sizes.insns }
-    ensures { result ≡ true → KeepsOf program.now state.now i.0 j.0 }
+    ensures { result ≡ true → KeepsOf program.now state.now.sizes state.now.words.now i.0 j.0 }
 {
     let k = passed_words(program, state, i, j);
     let old = flows::insn_words(state, j);
@@ -81,47 +83,55 @@ fn surely_keeps(program: &Program, state: &State, i: InsnId, j: InsnId) -> bool
 
 // Param j waits if the argument of call i would change its kind. A union is made only where the quick test doesn't tell.
 fn pass_to(program: &Program, state: &mut State, i: InsnId, j: InsnId) -> Result<(), Refusal>
-    requires caller { CallerOf program.now state.old i.0 }
+    requires caller { CallerOf program.now state.old.sizes i.0 }
     requires j_lt_insns { j.0 < state.old.sizes.insns }
     ensures { Did (CallIn program.now.words.now program.now.counts i.0) (λ L program. pass_to L program i.0 j.0) state.old state.new result }
 {
-    let k = passed_words(program, state, i, j);
-    let old = flows::insn_words(state, j);
+    let tables = state.tables();
+    let k = passed_words(program, &tables, i, j);
+    let old = flows::insn_words(&tables, j);
     match compare(old, k) {
         Some(true) => Ok(()),
         Some(false) => state.push_insn(j),
-        None => state.wake_if_wider(kinds::kind_from(k.tag, k.bits), j),
+        None => state.wake_if_wider(k.kind(), j),
     }
 }
 
 // The Params of a function with this entry wait whose kinds the arguments of call i would change.
 pub fn pass_arguments(
-    code: &Indexed,
+    program: &Program,
+    chains: &[usize],
     state: &mut State,
     i: InsnId,
     entry: BlockId,
 ) -> Result<(), Refusal>
-    requires caller { CallerOf code.now.program state.old i.0 }
-    requires has_params { HasParams state.old.sizes.insns code.now.chains.now entry.0 }
-    ensures { (f : ℕ) → Did (PassOf code.now state.old i.0 f entry.0)
+    requires caller { CallerOf program.now state.old.sizes i.0 }
+    requires has_params { HasParams state.old.sizes.insns chains.now entry.0 }
+    ensures { (f : ℕ) → Did (PassOf program.now chains.now state.old.sizes i.0 f entry.0)
         (λ L program. pass_arguments L program i.0 f) state.old state.new result }
 {
-    for j in Chain::new(code.chains, Sort::Params, entry.index(), state.sizes.insns) {
-        pass_to(&code.program, state, i, j)?;
+    for j in Chain::new(chains, Sort::Params, entry.index(), state.sizes.insns) {
+        pass_to(program, state, i, j)?;
     }
     Ok(())
 }
 
 // A quick test that the arguments of call i leave the kinds of all Params of a function with this entry as they are.
-pub fn surely_keeps_all(code: &Indexed, state: &State, i: InsnId, entry: BlockId) -> bool
-    requires caller { CallerOf code.now.program state.now i.0 }
-    requires has_params { HasParams state.now.sizes.insns code.now.chains.now entry.0 }
+pub fn surely_keeps_all(
+    program: &Program,
+    chains: &[usize],
+    state: &Held,
+    i: InsnId,
+    entry: BlockId,
+) -> bool
+    requires caller { CallerOf program.now state.now.sizes i.0 }
+    requires has_params { HasParams state.now.sizes.insns chains.now entry.0 }
     ensures { result ≡ true → (f : ℕ) → PassIdle state.now.sizes
-        (PassOf code.now state.now i.0 f entry.0)
+        (PassOf program.now chains.now state.now.sizes i.0 f entry.0)
         (λ L program. pass_arguments L program i.0 f) state.now.words.now }
 {
-    let mut params = Chain::new(code.chains, Sort::Params, entry.index(), state.sizes.insns);
-    params.all(|j| surely_keeps(&code.program, state, i, j))
+    let mut params = Chain::new(chains, Sort::Params, entry.index(), state.sizes.insns);
+    params.all(|j| surely_keeps(program, state, i, j))
 }
 
 // How many Params a function with this entry has, in a program of n instructions.

@@ -32,8 +32,8 @@ use Rattle.state.specs.View.{Attrs, kinds_of}
 use Rattle.state.specs.View as State
 use Rattle.machine.specs.opnds.Reads.{OperandInside, kind_in}
 use Rattle.machine.proofs.opnds.Given.{kind_of_lem}
-use Rattle.flows.specs.declared.Words.{Words}
-use Rattle.flows.specs.Flows.{words_of}
+use Rattle.kinds.specs.declared.words.Words.{Words}
+use Rattle.kinds.specs.InWords.{words_of}
 use Rattle.machine.specs.receivers.Receivers.{ClassesBelow}
 use Rattle.sends.proofs.passing.Passes.{objects_from}
 use Rattle.machine.specs.Analysed.{MachineFits}

@@ -44,11 +44,11 @@ pub record SettledFor (s p : List ℕ) (c : Counts) (z : Sizes) (m : List ℕ) (
   pub is : (P : Program) (v : Attrs) → MachineFits s p c P v → Settled P (name_in s n) i b (kinds_of z m) (ivars_of z v m) (reads_of z m)
 
 -- the same of values that are lent
-abbrev pub ClassSettled : Tables → State → Name → ℕ → Kind → ℕ → Type 0
-ClassSettled t s n i k x = SettledAt t.script.now t.words.now t.counts s.sizes s.words.now n i k x
+abbrev pub ClassSettled : Tables → Sizes → List ℕ → Name → ℕ → Kind → ℕ → Type 0
+ClassSettled t z m n i k x = SettledAt t.script.now t.words.now t.counts z m n i k x
 
-abbrev pub ClassesSettled : Tables → State → Name → ℕ → ℕ → Type 0
-ClassesSettled t s n i b = SettledFor t.script.now t.words.now t.counts s.sizes s.words.now n i b
+abbrev pub ClassesSettled : Tables → Sizes → List ℕ → Name → ℕ → ℕ → Type 0
+ClassesSettled t z m n i b = SettledFor t.script.now t.words.now t.counts z m n i b
 
 -- the operands of an instruction are in the tables; a read's receiver and a setting's value are the program's
 pub record Operands (p : List ℕ) (c : Counts) (z : Sizes) (x : Record) : Type 0 where

@@ -4,7 +4,7 @@
 ghost use Rattle.std.specs.Prelude.{◌≡◌, ◌+◌, ◌*◌, ◌≤◌, ◌<◌};
 ghost use Rattle.memory.specs.Layout.{functions_most, row_words};
 ghost use Rattle.state.specs.Layout.{state_size};
-ghost use Rattle.state.specs.View.{StateReady};
+ghost use Rattle.state.specs.View.{StateHeld, StateReady};
 
 use ids::{BlockId, ClassId, FunId, InsnId};
 use kinds::Kind;
@@ -34,6 +34,14 @@ pub struct Regs {
     pub blocks: Ring,
     pub draining: bool,
     pub count: u64,
+}
+
+// The tables in lent words, for so many things, to be read.
+#[derive(Clone, Copy)]
+pub struct Held<'a> {
+    pub words: &'a [usize],
+    pub sizes: Sizes,
+    pub ghost held: { StateHeld sizes words.now },
 }
 
 // The tables in lent words, for so many things, and the registers.
@@ -73,8 +81,10 @@ pub const SIZE: usize = BLOCKS + memory::WORKLIST_MOST;
 pub const STATE_LEN: usize = SIZE + memory::INSTRUCTIONS_MOST;
 
 impl Regs {
-    ghost use Rattle.std.specs.Prelude.{◌≡◌};
-    ghost use Rattle.state.specs.View.{no_entries};
+    ghost use Rattle.std.specs.Prelude.{◌≡◌, List, ℕ, ◌≤◌};
+    ghost use Rattle.rules.specs.Machine.{at_rest};
+    ghost use Rattle.memory.specs.Layout.{worklist_most};
+    ghost use Rattle.state.specs.View.{Attrs, state_view, no_entries};
 
     // The registers at the start.
     pub fn no_entries() -> Regs
@@ -86,6 +96,14 @@ impl Regs {
             draining: false,
             count: 0,
         }
+    }
+
+    // Nothing waits.
+    pub fn at_rest(&self) -> bool
+        requires { (self.now.insns.len ≤ worklist_most) × (self.now.blocks.len ≤ worklist_most) }
+        ensures { (z : Sizes) (v : Attrs) (m : List ℕ) → result ≡ at_rest (state_view z v m self.now) }
+    {
+        self.insns.len + self.blocks.len == 0
     }
 }
 
@@ -121,17 +139,17 @@ impl Ring {
     }
 }
 
-impl State<'_> {
-    ghost use Rattle.std.specs.Prelude.{false, ◌≡◌, List, [], ℕ, ◌+◌, ◌*◌, ◌/◌, ◌≤◌, ◌<◌, ◌^◌, get_or};
-    ghost use Rattle.rules.specs.Machine.{set_kind, set_live, marked, add_read, set_ivar_kind, at_rest, push_insn, push_block, wake_if_wider};
+impl Held<'_> {
+    ghost use Rattle.std.specs.Prelude.{false, ◌≡◌, [], ◌+◌, ◌*◌, ◌≤◌, ◌<◌, get_or};
+    ghost use Rattle.rules.specs.Machine.{marked};
     ghost use Rattle.memory.specs.tables.Bits.{bit_at, Next, RowWord};
     ghost use Rattle.memory.specs.Layout.{ivars_most, row_words};
-    ghost use Rattle.state.specs.Layout.{called_at, insn_ring_at, state_size};
+    ghost use Rattle.state.specs.Layout.{state_size};
     ghost use Rattle.state.specs.View.{Attrs, kinds_of, live_of, ivars_of, called_of, reads_of};
-    ghost use Rattle.state.specs.Changes.{Every, Following, push_where, wake_callers};
-    ghost use Rattle.state.specs.Methods.{view, Put, Did, Added, Marked, bit_of, InFront, TookInsn, TookBlock};
+    ghost use Rattle.state.specs.Changes.{Following};
+    ghost use Rattle.state.specs.Methods.{bit_of};
 
-    // Stays: that a number is one of the state's is a clause of each method that takes it, since no type of the number alone knows the sizes.
+    // Stays: that a number is one of the sizes' is a clause of each method that takes it, here and at `State`, since no type of the number alone knows them.
     #[tactic(auto, using(crate::proofs::Tables::kind_at))]
     pub fn kind_at(&self, i: InsnId) -> Kind
         requires i_lt_insns { i.0 < self.now.sizes.insns }
@@ -141,28 +159,12 @@ impl State<'_> {
         kinds::kind_from(self.words[at], self.words[BITS + at])
     }
 
-    pub fn set_kind(&mut self, i: InsnId, k: Kind)
-        requires i_lt_insns { i.0 < self.old.sizes.insns }
-        ensures { Put (set_kind i.0 k) self.old self.new }
-    {
-        let at = i.index();
-        self.words[at] = k.tag();
-        self.words[BITS + at] = k.payload();
-    }
-
     #[tactic(auto, using(crate::proofs::Tables::live_at_lem))]
     pub fn is_live(&self, b: BlockId) -> bool
         requires b_lt_blocks { b.0 < self.now.sizes.blocks }
         ensures { result ≡ get_or (live_of self.now.sizes self.now.words.now) b.0 false }
     {
         self.words[LIVE + b.index()] != 0
-    }
-
-    pub fn set_live(&mut self, b: BlockId)
-        requires b_lt_blocks { b.0 < self.old.sizes.blocks }
-        ensures { Put (set_live b.0) self.old self.new }
-    {
-        self.words[LIVE + b.index()] = 1;
     }
 
     // The kind of the attribute at place a of class c.
@@ -175,15 +177,6 @@ impl State<'_> {
         kinds::kind_from(self.words[IVARS + at], self.words[IVAR_BITS + at])
     }
 
-    pub fn set_ivar(&mut self, c: ClassId, a: usize, k: Kind)
-        requires c_lt_classes { (c.0 < self.old.sizes.classes) × (a < ivars_most) }
-        ensures { Put (set_ivar_kind c.0 a k) self.old self.new }
-    {
-        let at = c.index() * memory::IVARS_MOST + a;
-        self.words[IVARS + at] = k.tag();
-        self.words[IVAR_BITS + at] = k.payload();
-    }
-
     // Stays: callers and reads are rows of two tables for ids of two sorts; what they share is `has_mark`, `add_mark` and `next_mark`.
     // Instruction i has called f.
     #[tactic(auto, using(crate::proofs::Tables::called_at_lem))]
@@ -194,18 +187,6 @@ impl State<'_> {
         self.has_mark(row(CALLERS, f.index()), i)
     }
 
-    // Instruction i is a caller of f from now on; true where it is a new one.
-    pub fn add_caller(&mut self, f: FunId, i: InsnId) -> bool
-        requires f_lt_functions { (f.0 < self.old.sizes.functions) × (i.0 < self.old.sizes.insns) }
-        ensures { Added f.0 i.0 self.old self.new result }
-    {
-        if self.has_called(f, i) {
-            return false;
-        }
-        self.add_mark(row(CALLERS, f.index()), i);
-        true
-    }
-
     // Read i has met class c.
     #[tactic(auto, using(crate::proofs::Tables::read_at))]
     pub fn has_read(&self, c: ClassId, i: InsnId) -> bool
@@ -213,13 +194,6 @@ impl State<'_> {
         ensures { result ≡ marked (reads_of self.now.sizes self.now.words.now) c.0 i.0 }
     {
         self.has_mark(row(READS, c.index()), i)
-    }
-
-    pub fn add_read(&mut self, c: ClassId, i: InsnId)
-        requires c_lt_classes { (c.0 < self.old.sizes.classes) × (i.0 < self.old.sizes.insns) }
-        ensures { Put (add_read c.0 i.0) self.old self.new }
-    {
-        self.add_mark(row(READS, c.index()), i);
     }
 
     // The first caller of f that is not below `from`.
@@ -246,6 +220,151 @@ impl State<'_> {
         ensures { RowWord (get_or (called_of self.now.sizes self.now.words.now) f.0 []) k result }
     {
         memory::tables::row_word(self.words, row(CALLERS, f.index()), self.sizes.insns, k)
+    }
+
+    // Bit i of the row of bits at a word, one for each instruction.
+    fn has_mark(&self, at: usize, i: InsnId) -> bool
+        requires at_bound { (at + row_words ≤ state_size) × (i.0 < self.now.sizes.insns) }
+        ensures { result ≡ bit_at self.now.words.now at i.0 }
+    {
+        memory::tables::test_bit(self.words, at, i.index())
+    }
+
+    // The first set bit of such a row that is not below `from`.
+    fn next_mark(&self, at: usize, from: InsnId) -> Option<InsnId>
+        requires at_bound { at + row_words ≤ state_size }
+        ensures { Next (bit_at self.now.words.now at) self.now.sizes.insns from.0 (bit_of result) }
+    {
+        let j = memory::tables::next_bit(self.words, at, from.index(), self.sizes.insns)?;
+        Some(InsnId(j as u32))
+    }
+}
+
+impl State<'_> {
+    ghost use Rattle.std.specs.Prelude.{false, ◌≡◌, List, [], ℕ, ◌+◌, ◌*◌, ◌/◌, ◌≤◌, ◌<◌, ◌^◌, get_or};
+    ghost use Rattle.rules.specs.Machine.{set_kind, set_live, marked, add_read, set_ivar_kind, at_rest, push_insn, push_block, wake_if_wider};
+    ghost use Rattle.memory.specs.tables.Bits.{RowWord};
+    ghost use Rattle.memory.specs.Layout.{ivars_most, row_words};
+    ghost use Rattle.state.specs.Layout.{called_at, insn_ring_at};
+    ghost use Rattle.state.specs.View.{Attrs, kinds_of, live_of, ivars_of, called_of, reads_of};
+    ghost use Rattle.state.specs.Changes.{Every, Following, push_where, wake_callers};
+    ghost use Rattle.state.specs.Methods.{view, Put, Did, Added, Marked, InFront, TookInsn, TookBlock};
+
+    // The tables, to be read.
+    pub fn tables(&self) -> Held<'_>
+        ensures { (result.words.now ≡ self.now.words.now) × (result.sizes ≡ self.now.sizes) }
+    {
+        Held {
+            words: self.words,
+            sizes: self.sizes,
+        }
+    }
+
+    // Stays: the readers of `Held` again, for what changes a state: asked by `tables()` at each place, each proof there would carry its two equations.
+    pub fn kind_at(&self, i: InsnId) -> Kind
+        requires i_lt_insns { i.0 < self.now.sizes.insns }
+        ensures { result ≡ get_or (kinds_of self.now.sizes self.now.words.now) i.0 Kind.Empty }
+    {
+        self.tables().kind_at(i)
+    }
+
+    pub fn set_kind(&mut self, i: InsnId, k: Kind)
+        requires i_lt_insns { i.0 < self.old.sizes.insns }
+        ensures { Put (set_kind i.0 k) self.old self.new }
+    {
+        let at = i.index();
+        self.words[at] = k.tag();
+        self.words[BITS + at] = k.payload();
+    }
+
+    pub fn is_live(&self, b: BlockId) -> bool
+        requires b_lt_blocks { b.0 < self.now.sizes.blocks }
+        ensures { result ≡ get_or (live_of self.now.sizes self.now.words.now) b.0 false }
+    {
+        self.tables().is_live(b)
+    }
+
+    pub fn set_live(&mut self, b: BlockId)
+        requires b_lt_blocks { b.0 < self.old.sizes.blocks }
+        ensures { Put (set_live b.0) self.old self.new }
+    {
+        self.words[LIVE + b.index()] = 1;
+    }
+
+    // The kind of the attribute at place a of class c.
+    pub fn ivar_at(&self, c: ClassId, a: usize) -> Kind
+        requires c_lt_classes { (c.0 < self.now.sizes.classes) × (a < ivars_most) }
+        ensures { (v : Attrs) → a < v.count c.0 → result ≡ get_or (get_or (ivars_of self.now.sizes v self.now.words.now) c.0 []) a Kind.Empty }
+    {
+        self.tables().ivar_at(c, a)
+    }
+
+    pub fn set_ivar(&mut self, c: ClassId, a: usize, k: Kind)
+        requires c_lt_classes { (c.0 < self.old.sizes.classes) × (a < ivars_most) }
+        ensures { Put (set_ivar_kind c.0 a k) self.old self.new }
+    {
+        let at = c.index() * memory::IVARS_MOST + a;
+        self.words[IVARS + at] = k.tag();
+        self.words[IVAR_BITS + at] = k.payload();
+    }
+
+    // Instruction i has called f.
+    pub fn has_called(&self, f: FunId, i: InsnId) -> bool
+        requires f_lt_functions { (f.0 < self.now.sizes.functions) × (i.0 < self.now.sizes.insns) }
+        ensures { result ≡ marked (called_of self.now.sizes self.now.words.now) f.0 i.0 }
+    {
+        self.tables().has_called(f, i)
+    }
+
+    // Instruction i is a caller of f from now on; true where it is a new one.
+    pub fn add_caller(&mut self, f: FunId, i: InsnId) -> bool
+        requires f_lt_functions { (f.0 < self.old.sizes.functions) × (i.0 < self.old.sizes.insns) }
+        ensures { Added f.0 i.0 self.old self.new result }
+    {
+        if self.has_called(f, i) {
+            return false;
+        }
+        self.add_mark(row(CALLERS, f.index()), i);
+        true
+    }
+
+    // Read i has met class c.
+    pub fn has_read(&self, c: ClassId, i: InsnId) -> bool
+        requires c_lt_classes { (c.0 < self.now.sizes.classes) × (i.0 < self.now.sizes.insns) }
+        ensures { result ≡ marked (reads_of self.now.sizes self.now.words.now) c.0 i.0 }
+    {
+        self.tables().has_read(c, i)
+    }
+
+    pub fn add_read(&mut self, c: ClassId, i: InsnId)
+        requires c_lt_classes { (c.0 < self.old.sizes.classes) × (i.0 < self.old.sizes.insns) }
+        ensures { Put (add_read c.0 i.0) self.old self.new }
+    {
+        self.add_mark(row(READS, c.index()), i);
+    }
+
+    // The first caller of f that is not below `from`.
+    pub fn next_caller(&self, f: FunId, from: InsnId) -> Option<InsnId>
+        requires f_lt_functions { f.0 < self.now.sizes.functions }
+        ensures { Following (called_of self.now.sizes self.now.words.now) f.0 self.now.sizes.insns from.0 result }
+    {
+        self.tables().next_caller(f, from)
+    }
+
+    // The first read that met class c and is not below `from`.
+    pub fn next_read(&self, c: ClassId, from: InsnId) -> Option<InsnId>
+        requires c_lt_classes { c.0 < self.now.sizes.classes }
+        ensures { Following (reads_of self.now.sizes self.now.words.now) c.0 self.now.sizes.insns from.0 result }
+    {
+        self.tables().next_read(c, from)
+    }
+
+    // Word k of the callers of f: a bit for each instruction.
+    pub fn caller_word(&self, f: FunId, k: usize) -> usize
+        requires f_lt_functions { (f.0 < self.now.sizes.functions) × (k < row_words) }
+        ensures { RowWord (get_or (called_of self.now.sizes self.now.words.now) f.0 []) k result }
+    {
+        self.tables().caller_word(f, k)
     }
 
     // Instruction i waits, or 20.
@@ -300,7 +419,7 @@ impl State<'_> {
     pub fn at_rest(&self) -> bool
         ensures { (v : Attrs) → result ≡ at_rest (view v self.now) }
     {
-        self.regs.insns.len + self.regs.blocks.len == 0
+        self.regs.at_rest()
     }
 
     // Instruction i waits if k would change its kind.
@@ -340,28 +459,11 @@ impl State<'_> {
         Ok(())
     }
 
-    // Bit i of the row of bits at a word, one for each instruction.
-    fn has_mark(&self, at: usize, i: InsnId) -> bool
-        requires at_bound { (at + row_words ≤ state_size) × (i.0 < self.now.sizes.insns) }
-        ensures { result ≡ bit_at self.now.words.now at i.0 }
-    {
-        memory::tables::test_bit(self.words, at, i.index())
-    }
-
     fn add_mark(&mut self, at: usize, i: InsnId)
         requires at_bound { (called_at ≤ at) × (at + row_words ≤ insn_ring_at) × (i.0 < self.old.sizes.insns) }
         ensures { Marked at i.0 self.old self.new }
     {
         memory::tables::set_bit(self.words, at, i.index());
-    }
-
-    // The first set bit of such a row that is not below `from`.
-    fn next_mark(&self, at: usize, from: InsnId) -> Option<InsnId>
-        requires at_bound { at + row_words ≤ state_size }
-        ensures { Next (bit_at self.now.words.now at) self.now.sizes.insns from.0 (bit_of result) }
-    {
-        let j = memory::tables::next_bit(self.words, at, from.index(), self.sizes.insns)?;
-        Some(InsnId(j as u32))
     }
 }
 

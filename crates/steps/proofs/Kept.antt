@@ -30,8 +30,8 @@ use Rattle.state.proofs.Pushes.{insns-length}
 use Rattle.machine.specs.opnds.Reads.{kind_in}
 use Rattle.machine.proofs.opnds.Given.{kind_of_lem}
 use Rattle.machine.specs.blocks.Blocks.{blocks_in, BlockStepped}
-use Rattle.flows.specs.declared.Words.{Words}
-use Rattle.flows.specs.Flows.{words_of}
+use Rattle.kinds.specs.declared.words.Words.{Words}
+use Rattle.kinds.specs.InWords.{words_of}
 use Rattle.machine.specs.receivers.Receivers.{StateMatches, ClassesBelow}
 use Rattle.machine.specs.Analysed.{Analysed, MachineFits, Steady}
 use Rattle.machine.proofs.States.{attrs, attrs-fit}

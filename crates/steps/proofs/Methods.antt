@@ -28,8 +28,8 @@ use Rattle.machine.specs.opnds.Reads.{kind_in}
 use Rattle.machine.specs.blocks.Blocks.{CodeIs, blocks_in, BlockStepped, Stepped}
 use Rattle.machine.specs.Analysed.{Analysed, MachineFits}
 use Rattle.machine.specs.receivers.Receivers.{StateMatches, ClassesBelow}
-use Rattle.flows.specs.declared.Words.{Words}
-use Rattle.flows.specs.Flows.{words_of}
+use Rattle.kinds.specs.declared.words.Words.{Words}
+use Rattle.kinds.specs.InWords.{words_of}
 use Rattle.visits.specs.Visits.{operands_of}
 use Rattle.settled.specs.Reads.{whole, name_of, SettledFor, Decides, Unsettled}
 use Rattle.settled.proofs.Stamps.{whole_tables, whole_set}
@@ -171,6 +171,10 @@ module _ (T : Tables) where
         }
 
   -- ---- the step, by what it takes
+
+  -- the stamps that a step leaves, by another name
+  pub stamps_are : {f : Step} {s t : State} {a k l : List ℕ} {r : Result ℕ Refusal} → k ≡ l → TimelyIn f T s a t l r → TimelyIn f T s a t k r
+  stamps_are {f} {s} {t} {a} {k} {l} {r} e d = subst (λ (o : List ℕ). TimelyIn f T s a t o r) (sym e) d
 
   module _ (s t : State) (a : List ℕ) {y : 𝔹} (b : y ≡ block_next s.regs) where
     pub step_insn : {l : List ℕ} {r : Result ℕ Refusal} → y ≡ false → TimelyIn insn_next T s a t l r → TimelyIn step T s a t l r

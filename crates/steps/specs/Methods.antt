@@ -1,5 +1,5 @@
 -- What a step relies on and promises, of the tables, the state and the stamps that are lent. Assumes nothing.
-use Rattle.std.specs.Prelude.{List, ℕ, Result}
+use Rattle.std.specs.Prelude.{List, ℕ, Result, Ok, Err}
 use Rattle.refusals.specs.declared.Refusal.{Refusal}
 use Rattle.rules.specs.Actions.{Answer}
 use Rattle.rules.specs.Program.{Limits, Program}
@@ -27,6 +27,11 @@ DatedIn t s a epoch = Dated t.code.program.script.now t.code.program.words.now t
 
 abbrev pub StampedIn : Tables → State → List ℕ → ℕ → Type 0
 StampedIn t s a epoch = Stamped t.code.program.script.now t.code.program.words.now t.code.program.counts s.sizes (whole s a) s.regs epoch
+
+-- the epoch after a step, or its refusal
+abbrev pub with_epoch : ℕ → Result (Unit {0}) Refusal → Result ℕ Refusal
+with_epoch e (Ok x) = Ok e
+with_epoch e (Err x) = Err x
 
 -- from the state s with stamps a to the state r with stamps b
 pub record VisitedIn (t : Tables) (s : State) (a : List ℕ) (r : State) (b : List ℕ) (e : Result ℕ Refusal) : Type 0 where

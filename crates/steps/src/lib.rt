@@ -1,4 +1,7 @@
 // One step of the analysis, and the stamps that tell which visits do nothing.
+// A stamp is a word for each instruction: 0 is none, else that of a read of an attribute is the set of classes for which it is settled, that of an instruction
+// that neither reads nor sets one the epoch in which its visit did nothing.
+// Stays: words and no enum, since the C interface lends them as the end of the state part.
 #![tactic(auto)]
 
 ghost use Rattle.std.specs.Prelude.{true, false, ◌≡◌, ◌+◌, ◌<◌, ◌^◌};
@@ -7,7 +10,7 @@ ghost use Rattle.machine.specs.blocks.Blocks.{Stepped};
 ghost use Rattle.machine.specs.Analysed.{Analysed, MachineFits, Steady};
 ghost use Rattle.steps.specs.Stamps.{Passes};
 ghost use Rattle.steps.specs.Steps.{block_next, RecordOf, Front};
-ghost use Rattle.steps.specs.Methods.{insn_next, FacingIn, DatedIn, StampedIn, VisitedIn, TimelyIn};
+ghost use Rattle.steps.specs.Methods.{insn_next, with_epoch, FacingIn, DatedIn, StampedIn, VisitedIn, TimelyIn};
 
 use ids::InsnId;
 use machine::Tables;
@@ -16,8 +19,23 @@ use records::{Access, Record};
 use refusals::Refusal;
 use state::{Regs, State};
 
+// The instruction in front, with its record.
+#[derive(Clone, Copy)]
+struct Entry {
+    i: InsnId,
+    insn: Record,
+}
+
+// The stamps, as they are lent, and the epoch.
+#[derive(Drop)]
+struct Stamping<'a> {
+    words: &'a mut [usize],
+    epoch: usize,
+}
+
 // Stays: that tables, state and stamps fit are clauses, since each is lent apart: so no change of the state has to promise that the tables stay.
 // The instruction in front is taken off, and visited; insn is its record.
+#[tactic(auto, using(crate::proofs::Methods::insn_done))]
 fn step_insn(tables: &Tables, state: &mut State, insn: Record) -> Result<(), Refusal>
     requires analysed { Analysed tables.now.code.program.script.now tables.now.code.program.words.now tables.now.code.program.counts
         tables.now.code.chains.now tables.now.users.now state.old.sizes }
@@ -38,87 +56,97 @@ pub fn block_next(regs: Regs) -> bool
     (regs.draining & (regs.blocks.len != 0)) | (regs.insns.len == 0)
 }
 
-// The instruction i in front is taken off and visited; insn is its record. Where it neither reads nor sets an attribute, and the visit left kinds,
-// live blocks and callers, and put nothing in, i is stamped with the epoch. The epoch after it.
-fn visit_timed(
-    tables: &Tables,
-    state: &mut State,
-    stamps: &mut [usize],
-    i: InsnId,
-    insn: Record,
-    epoch: usize,
-) -> Result<usize, Refusal>
-    requires facing { FacingIn tables.now state.old i.0 insn }
-    requires dated { DatedIn tables.now state.old stamps.old epoch }
-    ensures { VisitedIn tables.now state.old stamps.old state.new stamps.new result }
-{
-    let kind = flows::insn_words(state, i);
-    let before = state.regs;
-    step_insn(tables, state, insn)?;
-    if (flows::insn_words(state, i) != kind) | (state.regs.blocks.len != before.blocks.len) {
-        return Ok(epoch + 1);
-    }
-    if matches!(insn.access(), Access::Neither) & (state.regs.insns.len + 1 == before.insns.len) {
-        stamps[i.index()] = epoch;
-    }
-    Ok(epoch)
-}
-
-// The same; a read is then stamped with those of its receiver's classes for which it is settled, and after a setting that woke reads only those stay stamped whose kinds cover the kind that was set.
-fn visit_insn(
-    tables: &Tables,
-    state: &mut State,
-    stamps: &mut [usize],
-    i: InsnId,
-    insn: Record,
-    epoch: usize,
-) -> Result<usize, Refusal>
-    requires facing { FacingIn tables.now state.old i.0 insn }
-    requires stamped { StampedIn tables.now state.old stamps.old epoch }
-    ensures { TimelyIn insn_next tables.now state.old stamps.old state.new stamps.new result }
-{
-    let k = settled::decisive_words(&tables.code.program, state, insn);
-    let waiting = state.regs.insns.len;
-    let next = visit_timed(tables, state, stamps, i, insn, epoch)?;
-    match insn.access() {
-        Access::Neither => {}
-        Access::Read => {
-            let n = Name {
-                start: insn.x,
-                len: insn.y,
-            };
-            stamps[i.index()] = settled::stamp(&tables.code.program, state, n, i, k);
+impl<'a> Stamping<'a> {
+    // The instruction in front is taken off and visited. Where it neither reads nor sets an attribute, and the visit left kinds, live blocks and callers, and put
+    // nothing in, it is stamped with the epoch.
+    fn visit_timed(
+        &mut self,
+        tables: &Tables,
+        state: &mut State,
+        entry: Entry,
+    ) -> Result<(), Refusal>
+        requires facing { FacingIn tables.now state.old entry.i.0 entry.insn }
+        requires dated { DatedIn tables.now state.old self.old.words.now self.old.epoch }
+        ensures loan { self.new.words.ghost_name ≡ self.old.words.ghost_name }
+        ensures visited { VisitedIn tables.now state.old self.old.words.now state.new self.new.words.now (with_epoch self.new.epoch result) }
+    {
+        let kind = flows::insn_words(&state.tables(), entry.i);
+        let before = state.regs;
+        step_insn(tables, state, entry.insn)?;
+        if (flows::insn_words(&state.tables(), entry.i) != kind)
+            | (state.regs.blocks.len != before.blocks.len)
+        {
+            self.epoch += 1;
+            return Ok(());
         }
-        Access::Setting => {
-            if state.regs.insns.len + 1 != waiting {
-                settled::unsettle(&tables.code.program, state, stamps, k);
+        if matches!(entry.insn.access(), Access::Neither)
+            & (state.regs.insns.len + 1 == before.insns.len)
+        {
+            self.words[entry.i.index()] = self.epoch;
+        }
+        Ok(())
+    }
+
+    // The same; a read is then stamped with those of its receiver's classes for which it is settled, and after a setting that woke reads only those stay stamped
+    // whose kinds cover the kind that was set.
+    fn visit_insn(
+        &mut self,
+        tables: &Tables,
+        state: &mut State,
+        entry: Entry,
+    ) -> Result<(), Refusal>
+        requires facing { FacingIn tables.now state.old entry.i.0 entry.insn }
+        requires stamped { StampedIn tables.now state.old self.old.words.now self.old.epoch }
+        ensures loan { self.new.words.ghost_name ≡ self.old.words.ghost_name }
+        ensures timely { TimelyIn insn_next tables.now state.old self.old.words.now state.new self.new.words.now (with_epoch self.new.epoch result) }
+    {
+        let k = settled::decisive_words(&tables.code.program, &state.tables(), entry.insn);
+        let waiting = state.regs.insns.len;
+        self.visit_timed(tables, state, entry)?;
+        match entry.insn.access() {
+            Access::Neither => {}
+            Access::Read => {
+                let n = Name {
+                    start: entry.insn.x,
+                    len: entry.insn.y,
+                };
+                self.words[entry.i.index()] = settled::stamp(
+                    &tables.code.program,
+                    &state.tables(),
+                    n,
+                    entry.i,
+                    k,
+                );
+            }
+            Access::Setting => {
+                if state.regs.insns.len + 1 != waiting {
+                    settled::unsettle(tables.code.program.words, state, self.words, k);
+                }
             }
         }
+        Ok(())
     }
-    Ok(next)
-}
 
-// Whether a visit of the instruction i in front surely does nothing: it is stamped with this epoch, or is a read that is settled for its receiver's classes.
-fn idle(
-    tables: &Tables,
-    state: &State,
-    stamps: &[usize],
-    i: InsnId,
-    insn: Record,
-    epoch: usize,
-) -> bool
-    requires facing { FacingIn tables.now state.now i.0 insn }
-    requires stamped { StampedIn tables.now state.now stamps.now epoch }
-    ensures { result ≡ true → Passes tables.now.code.program.script.now tables.now.code.program.words.now tables.now.code.program.counts
-        state.now.sizes state.now.words.now i.0 }
-{
-    match insn.access() {
-        Access::Neither => stamps[i.index()] == epoch,
-        Access::Read => {
-            let o = settled::operand_words(&tables.code.program, state, insn, 0);
-            o.is_set() & (stamps[i.index()] == o.bits)
+    // Whether a visit of the instruction in front surely does nothing: it is stamped with this epoch, or is a read that is settled for its receiver's classes.
+    fn idle(&self, tables: &Tables, state: &State, entry: Entry) -> bool
+        requires facing { FacingIn tables.now state.now entry.i.0 entry.insn }
+        requires stamped { StampedIn tables.now state.now self.now.words.now self.now.epoch }
+        ensures { result ≡ true → Passes tables.now.code.program.script.now tables.now.code.program.words.now tables.now.code.program.counts
+            state.now.sizes state.now.words.now entry.i.0 }
+    {
+        match entry.insn.access() {
+            Access::Neither => self.words[entry.i.index()] == self.epoch,
+            Access::Read => {
+                let o = settled::operand_words(
+                    &tables.code.program,
+                    &state.tables(),
+                    entry.insn,
+                    0,
+                );
+                o.is_set() & (self.words[entry.i.index()] == o.bits)
+            }
+            Access::Setting => false,
         }
-        Access::Setting => false,
     }
 }
 
@@ -145,9 +173,15 @@ pub fn step(
         machine::blocks::step_block(state, tables.code.chains)?;
         return Ok(epoch + 1);
     }
-    if idle(tables, state, stamps, i, insn, epoch) {
+    let mut stamping = Stamping {
+        words: stamps,
+        epoch,
+    };
+    let entry = Entry { i, insn };
+    if stamping.idle(tables, state, entry) {
         state.take_insn();
         return Ok(epoch);
     }
-    visit_insn(tables, state, stamps, i, insn, epoch)
+    stamping.visit_insn(tables, state, entry)?;
+    Ok(stamping.epoch)
 }

@@ -36,7 +36,10 @@ use Rattle.machine.proofs.receivers.Fine.{within-good}
 use Rattle.flows.specs.Flows.{FlowsSound, FlowsKnown}
 use Rattle.flows.proofs.Sounds.{sound_of, second}
 use Rattle.program.specs.Layout.{opnds_at}
+use Rattle.state.specs.declared.State.{State}
 use Rattle.visits.specs.Visits.{operands_of, Visiting}
+use Rattle.visits.specs.Methods.{VisitOf}
+use Rattle.visits.specs.declared.Visited.{Visited}
 
 -- ---- operands
 
@@ -61,6 +64,11 @@ const_good C (Objects t) h = absurd (omega arith)
 const_good C Any h = tt
 
 -- ---- the instruction
+
+-- what the rules of all sorts rely on
+pub visiting : (v : Visited) {t : State} (h : VisitOf v.code.now t) → let a = v.code.now in
+    Visiting a.program.script.now a.program.words.now a.program.counts a.chains.now t.sizes t.words.now t.regs v.i.0 v.row
+visiting v {t} h = record { indexed = h.indexed; steady = h.steady; ready = t.ready; below = let e = h.indexed.sized.insns in omega (arith, v.below); read = v.read }
 
 module _ {s p : List ℕ} {c : Counts} {x : List ℕ} {z : Sizes} {m : List ℕ} {q : Regs} {i : ℕ} {row : Row} (g : Visiting s p c x z m q i row) where
   pub inside : i < c.insns

@@ -6,14 +6,14 @@ use Rattle.kinds.specs.declared.Kind.TheVariants.{Empty}
 use Rattle.kinds.specs.Union.{Joined}
 use Rattle.rules.specs.Program.{Limits, Program}
 use Rattle.rules.specs.Machine.{Acts}
-use Rattle.program.specs.declared.Row.{Row}
 use Rattle.state.specs.View.{Attrs}
 use Rattle.state.specs.Methods.{Lent}
 use Rattle.state.specs.declared.State.{State}
 use Rattle.chains.specs.declared.view.Indexed.{Indexed}
+use Rattle.machine.specs.Analysed as M
 use Rattle.machine.specs.Analysed.{Analysed, MachineFits, Steady}
 use Rattle.machine.specs.declared.tables.Tables.{Tables}
-use Rattle.visits.specs.Visits.{kind_of, Rules, rule_of, Visiting}
+use Rattle.visits.specs.Visits.{kind_of, Rules, rule_of}
 
 -- a change with no kind
 abbrev pub nothing_in : Result (Unit {0}) Refusal → Joined
@@ -25,10 +25,12 @@ pub record Gave (fits : Program → Attrs → Type 0) (f : Limits → Program �
   pub lent : Lent s t
   pub rules : Rules s.sizes fits f s.words.now s.regs t.words.now (kind_of t.regs r)
 
--- what the rules of all sorts may rely on, and what they promise: row is that of instruction i
-abbrev pub VisitOf : Indexed → State → ℕ → Row → Type 0
-VisitOf c s i row = Visiting c.program.script.now c.program.words.now c.program.counts c.chains.now s.sizes s.words.now s.regs i row
+-- what the rules of all sorts may rely on: a program that was read, and a state that its analysis comes to
+pub record VisitOf (c : Indexed) (s : State) : Type 0 where
+  pub indexed : M.Indexed c.program.script.now c.program.words.now c.program.counts c.chains.now s.sizes
+  pub steady : Steady c.program.script.now c.program.words.now c.program.counts s.sizes s.words.now
 
+-- and what the rule of instruction i promises
 abbrev pub Gives : Indexed → State → State → ℕ → Joined → Type 0
 Gives c s t i r = Gave (MachineFits c.program.script.now c.program.words.now c.program.counts) (rule_of i) s t r
 

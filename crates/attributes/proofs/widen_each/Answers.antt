@@ -1,23 +1,13 @@
 -- `attributes::widen_each` meets its contract. Assumes nothing.
-use mathlib.Core.Path.{◌≡◌}
-use Rattle.std.specs.Prelude.{Err}
-use borrow.Author.Rules.{rules}
 use Rattle.rules.specs.Machine.{set_ivar}
 use Rattle.program.specs.Rows.{name_in}
 use Rattle.ids.proofs.Members.{walk_step}
-use Rattle.machine.proofs.receivers.Walk.{class-below, walk-on, going_more, going_stop, going_done}
+use Rattle.machine.proofs.receivers.Walk.{class-below, walk-on, going_more}
 use Rattle.attributes.specs.Attributes.{ProgramIs}
 use Rattle.attributes.proofs.widen_each.Goals as goal
 
 pub widen_one-requires-clause-x_lt_classes : goal.widen_one-requires-clause-x_lt_classes
 widen_one-requires-clause-x_lt_classes c = rw c.loop-x.invariant.0.along.lent.sizes (class-below (walk_step c.loop-x.x-iterator c.next.new.self _ c.in-Some.ensures.steps) c.loop-x.invariant.1)
-
-pub returns-in_err-widen_one : goal.returns-in_err-widen_one
-returns-in_err-widen_one c =
-    let e : c.from_residual.result ≡ Err c.in_err-widen_one.field-0.0 = search rules in
-    rw e (going_stop (ProgramIs c.args.program.now.script.now c.args.program.now.words.now c.args.program.now.counts)
-    (λ L p. set_ivar L p (name_in c.args.program.now.script.now c.args.n) c.args.k) c.loop-x.invariant.0
-    (walk_step c.loop-x.x-iterator c.next.new.self _ c.in-Some.ensures.steps) c.widen_one.ensures c.in_err-widen_one.was)
 
 pub loop-x-preserved : goal.loop-x-preserved
 loop-x-preserved c = (
@@ -26,7 +16,3 @@ loop-x-preserved c = (
       (walk_step c.loop-x.x-iterator c.next.new.self _ c.in-Some.ensures.steps) c.widen_one.ensures c.in_ok-widen_one.was,
   walk-on (walk_step c.loop-x.x-iterator c.next.new.self _ c.in-Some.ensures.steps) c.loop-x.invariant.1,
 )
-
-pub returns : goal.returns
-returns c = going_done (ProgramIs c.args.program.now.script.now c.args.program.now.words.now c.args.program.now.counts)
-    (λ L p. set_ivar L p (name_in c.args.program.now.script.now c.args.n) c.args.k) c.loop-x.invariant.0 c.in-None.ensures.steps.0

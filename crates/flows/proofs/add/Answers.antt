@@ -1,12 +1,10 @@
 -- `flows::add` meets its contract. Assumes nothing.
-use mathlib.Core.Path.{refl}
 use borrow.Author.Rules.{rules}
-use Rattle.program.proofs.Operands.{one_opnd, two_opnds}
 use Rattle.flows.proofs.Tallied.{add_same, add_other}
 use Rattle.flows.proofs.add.Goals as goal
 
 pub returns-then-eq : goal.returns-then-eq
-returns-then-eq c = add_same c.args.k c.args.o c.in-One.is refl (one_opnd c.args.o c.in-One.w (search rules))
+returns-then-eq c = add_same c.args.k c.args.o c.in-One.is (search rules)
 
 pub returns-else-eq : goal.returns-else-eq
-returns-else-eq c = add_other c.args.k c.args.o c.in-One.is refl (two_opnds c.args.o c.in-One.w (search rules)) c.union.ensures
+returns-else-eq c = add_other c.args.k c.args.o c.in-One.is (search rules) c.union.ensures

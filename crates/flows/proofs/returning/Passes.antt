@@ -190,11 +190,11 @@ back_fit : (p : Program) (n : ℕ) (t : List (List 𝔹)) (i : ℕ) → ReturnSo
 unfolding back_from
 back_fit p n t i h = returns-fit p n h (places_from 0 (λ row. get_or row i false) (drop 0 t))
 
-pub call-union : (m : List ℕ) (c : Counts) (z : Sizes) (w : List ℕ) (i f n : ℕ) {r : Joined}
+pub call-union : {m : List ℕ} {c : Counts} {z : Sizes} {w : List ℕ} {i f n : ℕ} {r : Joined}
     → ((u : List ℕ) → ReturnAmong (called_of z w) i f n → TallyFits z.insns (back_from (program_view u m c) (called_of z w) i 0)
     → r ≡ union_all Empty (map (kind_in (kinds_of z w)) (opnd_set (back_from (program_view u m c) (called_of z w) i 0))))
     → StateReads z (BackIn m c z (called_of z w) i f n) (λ L p. call_kind L p i) w r
-call-union m c z w i f n {r} h = record {
+call-union {m} {c} {z} {w} {i} {f} {n} {r} h = record {
   is = λ L p v g q.
       let u = program_view g.script m c in
       let s = state_view z v w q in
@@ -204,8 +204,8 @@ call-union m c z w i f n {r} h = record {
       rw g.program (ap (λ (j : Joined). lift (to_answer j) s) k ∙ sym (call-is L u i s));
 }
 
-pub call-kind-is : (m : List ℕ) (c : Counts) (z : Sizes) (w : List ℕ) (i f n : ℕ) {walks : Pass → Pass → Type 0} {r : Joined}
+pub call-kind-is : {m : List ℕ} {c : Counts} {z : Sizes} {w : List ℕ} {i f n : ℕ} {walks : Pass → Pass → Type 0} {r : Joined}
     → ((x y : Pass) → walks x y → PassedAll m c z w i f n x y) → ByPasses z.insns walks r → StateReads z (BackIn m c z (called_of z w) i f n) (λ L p. call_kind L p i) w r
-call-kind-is m c z w i f n h g =
-    call-union m c z w i f n (λ u a fits.
+call-kind-is {m} {c} {z} {w} {i} h g =
+    call-union (λ u a fits.
     two_passes (kinds_of z w) z.insns (back_from (program_view u m c) (called_of z w) i 0) ((h _ _ g.first).passed a u) ((h _ _ g.again).passed a u) g.is fits)

@@ -4,7 +4,7 @@ use native.Mathlib.Omega.{arith}
 use Rattle.std.specs.Prelude.{Err}
 use borrow.Author.Rules.{rules}
 use Rattle.kinds.proofs.Same.{eq_same, ne_same}
-use Rattle.machine.proofs.Storing.{start-few, users_listed_at, refused_way, same_way, new_way}
+use Rattle.machine.proofs.Storing.{start-few, users-inside, users-listed, refused_way, same_way, new_way}
 use Rattle.machine.proofs.store.Goals as goal
 
 pub returns-in_err-union : goal.returns-in_err-union
@@ -30,9 +30,19 @@ overflow_add-to-3 c = let f = start-few c.args.program.now.words.now c.args.prog
     c.args.state.now.sizes c.requires.machine_sized c.args.i.0 c.requires.i_lt_insns in
     rw c.index-n.ensures (record { fits = omega (arith, f.1) })
 
-pub push_users-requires-clause-listing : goal.push_users-requires-clause-listing
-push_users-requires-clause-listing c =
-    rw (c.set_kind.ensures.lent.sizes, c.index-n.ensures) (users_listed_at c.args.program.now.words.now c.args.program.now.counts c.args.users.now c.requires.users
+pub offset_bounds-users-from : goal.offset_bounds-users-from
+offset_bounds-users-from c = let f = start-few c.args.program.now.words.now c.args.program.now.counts c.args.users.now c.requires.users
+    c.args.state.now.sizes c.requires.machine_sized c.args.i.0 c.requires.i_lt_insns in
+    rw c.index-n.ensures (record { fits = omega (arith, f.0) })
+
+pub slice_bounds-push_users-end : goal.slice_bounds-push_users-end
+slice_bounds-push_users-end c = let f = users-inside c.args.program.now.words.now c.args.program.now.counts c.args.users.now c.requires.users
+    c.args.state.now.sizes c.requires.machine_sized c.args.i.0 c.requires.i_lt_insns in
+    rw c.index-n.ensures (omega (arith, f))
+
+pub push_users-requires-clause-listed : goal.push_users-requires-clause-listed
+push_users-requires-clause-listed c =
+    rw (c.set_kind.ensures.lent.sizes, c.index-n.ensures) (users-listed c.args.program.now.words.now c.args.program.now.counts c.args.users.now c.requires.users
     c.args.state.now.sizes c.requires.machine_sized c.args.i.0 c.requires.i_lt_insns)
 
 pub returns : goal.returns

@@ -12,10 +12,10 @@ use mathlib.Core.List.{List, [], ◌∷◌}
 use lib.Dec.{eqb}
 use Rattle.std.specs.Bool.{then_some}
 use Rattle.rules.specs.Actions.{each}
-use Rattle.state.proofs.Methods.{along_start, along_step, along_last, along_end}
+use Rattle.state.proofs.Methods.{along_start, along_last, along_end}
 use Rattle.chains.specs.Chains.{ChainIs}
 use Rattle.chains.proofs.Remaining.{Within, chain_within, Each}
-use Rattle.machine.proofs.blocks.Walk.{walk_of}
+use Rattle.machine.proofs.blocks.Walk.{Walking, walk_start, walk_more, walk_done, walk_of}
 use Rattle.refusals.specs.declared.Refusal.{Refusal}
 use Rattle.kinds.specs.declared.Kind.{Kind}
 use Rattle.kinds.specs.declared.Kind.TheVariants.{Empty, Nil, Num, Truth, Fun, Class, Int, Bool, Objects, Any}
@@ -44,9 +44,10 @@ use Rattle.state.specs.Methods.{view, Did}
 use Rattle.state.proofs.Wakes.{wake_old, wake_new}
 use Rattle.machine.specs.opnds.Reads.{OperandInside, kind_in}
 use Rattle.machine.proofs.opnds.Given.{kind_of_lem}
-use Rattle.flows.specs.Flows.{Argues, as_set}
+use Rattle.kinds.specs.InWords.{as_set}
+use Rattle.flows.specs.Flows.{Argues}
 use Rattle.flows.proofs.Callers.{fits-inside}
-use Rattle.flows.proofs.Standing.{set_tag}
+use Rattle.kinds.proofs.Told.{set_tag}
 use Rattle.program.specs.Layout.{insns_at, insn_words}
 use Rattle.sends.specs.passing.Passing.{pass_to, HasParams, Caller, ParamPlaced, ArgumentPasses, Widens, Keeps, CallIn, PassIn, PassIdle, CoversTells}
 
@@ -203,16 +204,25 @@ module _ {m : List ℕ} {c : Counts} {x : List ℕ} {i e : ℕ} {s : State} {h :
 
 -- ---- surely_keeps_all: from whatever registers no Param changes
 
-abbrev pub with_regs : (s : State) (q : Regs) → StateReady s.sizes s.words.now q → State
-with_regs s q r = record { words = s.words; sizes = s.sizes; regs = q; ready = r }
+-- a state of these tables; wherever they lie, the rules say the same of them
+abbrev pub with_regs : (z : Sizes) (w : List ℕ) (q : Regs) → StateReady z w q → State
+with_regs z w q r = record { words = record { ref_ptr = (0, 0); ghost_name = 0; now = w }; sizes = z; regs = q; ready = r }
 
-kept_each : {m : List ℕ} {c : Counts} {i : ℕ} (s : State) (h : List ℕ) → Each (Keeps m c s.sizes s.words.now i) h
-    → Did (CallIn m c i) (λ L p. each h (pass_to L p i)) s s (Ok tt)
-kept_each s [] k = along_end (along_start s) (λ L room p v u. refl)
-kept_each {i = i} s (x ∷ l) k =
-    along_last (along_step (along_start s) {left' = λ L p. each l (pass_to L p i)} (kept_on s k.0) refl (λ p v u. u) (λ L room p v u. refl)) (Ok tt) (kept_each s l k.1)
-    (λ p v u. u) (λ L room p v u. refl)
+-- the walk through the Params h has come to l and left the state as it is
+abbrev pub Keeping : List ℕ → Counts → ℕ → List ℕ → Sizes → List ℕ → List ℕ → Type 0
+Keeping m c i h z w l = (q : Regs) (r : StateReady z w q) → Walking (λ L p. pass_to L p i) (CallIn m c i) h (with_regs z w q r) (with_regs z w q r) l
 
-pub kept_all : {m : List ℕ} {c : Counts} {x : List ℕ} {i e : ℕ} (s : State) {h : List ℕ} → ((l : List ℕ) → ChainIs x s.sizes.insns 1 e l → h ≡ l) → Each (Keeps m c s.sizes s.words.now i) h
-    → (f : ℕ) → PassIdle s.sizes (PassIn m c s.sizes x i f e) (λ L p. pass_arguments L p i f) s.words.now
-kept_all s {h} is k f = record { is = λ q r. (passed_all {s = with_regs s q r} is (kept_each (with_regs s q r) h k) f).did }
+module _ {m : List ℕ} {c : Counts} {i : ℕ} {h : List ℕ} (z : Sizes) (w : List ℕ) where
+  -- one Param further
+  pub keeping_more : {j : ℕ} {l : List ℕ} → Keeping m c i h z w (j ∷ l) → {b : 𝔹} → (b ≡ true → Keeps m c z w i j) → b ≡ true → Keeping m c i h z w l
+  keeping_more g keeps e q r = walk_more (g q r) refl (kept_on (with_regs z w q r) (keeps e)) refl
+
+  keeping_rest : (l : List ℕ) → Keeping m c i h z w l → Each (Keeps m c z w i) l → Keeping m c i h z w []
+  keeping_rest [] g k = g
+  keeping_rest (x ∷ l) g k = keeping_rest l (keeping_more g (λ (e : true ≡ true). k.0) refl) k.1
+
+pub kept_all : {m : List ℕ} {c : Counts} {x : List ℕ} {i e : ℕ} (z : Sizes) (w : List ℕ) {h : List ℕ} → HasParams z.insns x e → ((l : List ℕ) → ChainIs x z.insns 1 e l → h ≡ l)
+    → Each (Keeps m c z w i) h → (f : ℕ) → PassIdle z (PassIn m c z x i f e) (λ L p. pass_arguments L p i f) w
+kept_all {m} {c} {i = i} z w {h} u is k f =
+    let start : Keeping m c i h z w h = λ q r. walk_start _ _ h (with_regs z w q r) (params_within u is) in
+    record { is = λ q r. (passed_all {s = with_regs z w q r} is (walk_done (keeping_rest z w h start k q r) refl) f).did }

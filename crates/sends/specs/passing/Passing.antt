@@ -14,8 +14,6 @@ use Rattle.program.specs.declared.reader.Program.{Program as Tables}
 use Rattle.program.specs.View.{program_view, ProgramReady}
 use Rattle.state.specs.declared.Sizes.{Sizes}
 use Rattle.state.specs.declared.Regs.{Regs}
-use Rattle.state.specs.declared.State.{State}
-use Rattle.chains.specs.declared.view.Indexed.{Indexed}
 use Rattle.state.specs.Acted.{On}
 use Rattle.state.specs.View.{Attrs, kinds_of}
 use Rattle.state.specs.View.{StateReady}
@@ -91,14 +89,14 @@ pub record PassIdle (z : Sizes) (fits : Program → Attrs → Type 0) (f : Limit
   pub is : (q : Regs) → StateReady z m q → StateDid z fits f m q m (On q)
 
 -- the same of values that are lent
-abbrev pub CallerOf : Tables → State → ℕ → Type 0
-CallerOf p s i = Caller p.words.now p.counts s.sizes i
+abbrev pub CallerOf : Tables → Sizes → ℕ → Type 0
+CallerOf p z i = Caller p.words.now p.counts z i
 
-abbrev pub PassesOf : Tables → State → ℕ → ℕ → Kind → Type 0
-PassesOf p s i j k = ArgumentPasses p.words.now p.counts s.sizes s.words.now i j k
+abbrev pub PassesOf : Tables → Sizes → List ℕ → ℕ → ℕ → Kind → Type 0
+PassesOf p z w i j k = ArgumentPasses p.words.now p.counts z w i j k
 
-abbrev pub KeepsOf : Tables → State → ℕ → ℕ → Type 0
-KeepsOf p s i j = Keeps p.words.now p.counts s.sizes s.words.now i j
+abbrev pub KeepsOf : Tables → Sizes → List ℕ → ℕ → ℕ → Type 0
+KeepsOf p z w i j = Keeps p.words.now p.counts z w i j
 
-abbrev pub PassOf : Indexed → State → ℕ → ℕ → ℕ → Program → Attrs → Type 0
-PassOf c s i f e = PassIn c.program.words.now c.program.counts s.sizes c.chains.now i f e
+abbrev pub PassOf : Tables → List ℕ → Sizes → ℕ → ℕ → ℕ → Program → Attrs → Type 0
+PassOf p x z i f e = PassIn p.words.now p.counts z x i f e

@@ -1,12 +1,8 @@
 -- `settled::operand_words` meets its contract. Assumes nothing.
 use Rattle.state.specs.View.{kinds_of}
-use Rattle.settled.proofs.Operands.{stands_inside, operand_kind, operand_nil}
+use Rattle.settled.proofs.Operands.{operand_kind, operand_nil}
 use native.Mathlib.Omega.{arith}
 use Rattle.settled.proofs.operand_words.Goals as goal
-
-pub opnd_words-requires-clause-operand_inside : goal.opnd_words-requires-clause-operand_inside
-opnd_words-requires-clause-operand_inside c = let insn = c.args.insn in
-    let j = c.args.j in stands_inside insn j c.args.program.now.ready c.requires.count_bound c.args.state.now.sizes (c.requires.operand_inside (omega arith))
 
 pub returns-then-j-insn : goal.returns-then-j-insn
 returns-then-j-insn c =

@@ -1,7 +1,7 @@
 -- `settled::settled` meets its contract. Assumes nothing.
 use Rattle.ids.proofs.Members.{walk_step}
 use Rattle.machine.proofs.receivers.Walk.{class-below}
-use Rattle.settled.proofs.Settling.{settling_more, settling_done}
+use Rattle.settled.proofs.Settling.{settling_more}
 use Rattle.settled.proofs.settled.Goals as goal
 
 pub settled_in-requires-clause-x_lt_classes : goal.settled_in-requires-clause-x_lt_classes
@@ -13,8 +13,3 @@ loop-x-preserved c =
     let at = c.loop-x.invariant in
     settling_more at (walk_step c.loop-x.x-iterator c.next.new.self _ c.in-Some.ensures.steps)
     (c.settled_in.ensures c.if-not-settled_in.false)
-
-pub returns : goal.returns
-returns c =
-    λ _.
-    settling_done c.loop-x.invariant c.insn_words-k.ensures c.in-None.ensures.steps.0

@@ -1,5 +1,5 @@
 -- What the loop of `settled::settled` keeps.
-use Rattle.flows.specs.Flows.{words_of}
+use Rattle.kinds.specs.InWords.{words_of}
 use Rattle.settled.proofs.Settling.{Settling}
 use Rattle.settled.proofs.settled.Given as goal
 

@@ -2,7 +2,7 @@
 use Rattle.settled.proofs.Settling.{none_settled}
 use mathlib.Core.Path.{sym, ◌∙◌}
 use borrow.Author.Tests.{eqb-true}
-use Rattle.flows.proofs.Standing.{set_tag}
+use Rattle.kinds.proofs.Told.{set_tag}
 use Rattle.settled.proofs.stamp.Goals as goal
 
 pub settled-requires-clause-classes_below : goal.settled-requires-clause-classes_below

@@ -3,10 +3,10 @@ use borrow.Author.Tests.{ne_eqb}
 use Rattle.settled.proofs.Stamps.{touched_none, touched_read}
 use Rattle.settled.proofs.touched.Goals as goal
 
-pub returns-then-program-at-eq13 : goal.returns-then-program-at-eq13
-returns-then-program-at-eq13 c =
-    touched_read c.args.program.now.words.now c.args.state.now.words.now c.insn_words.ensures (rw c.index.ensures at c.if-program-at-eq13.true) c.covers.ensures
+pub returns-then-words-at-eq-GET_IVAR : goal.returns-then-words-at-eq-GET_IVAR
+returns-then-words-at-eq-GET_IVAR c =
+    touched_read c.args.words.now c.args.state.now.words.now c.insn_words.ensures (rw c.index.ensures at c.if-words-at-eq-GET_IVAR.true) c.covers.ensures
 
-pub returns-else-program-at-eq13 : goal.returns-else-program-at-eq13
-returns-else-program-at-eq13 c =
-    rw (ne_eqb _ _ c.if-program-at-eq13.false) (touched_none c.args.program.now.words.now c.args.state.now.words.now (rw c.index.ensures at c.if-program-at-eq13.false))
+pub returns-else-words-at-eq-GET_IVAR : goal.returns-else-words-at-eq-GET_IVAR
+returns-else-words-at-eq-GET_IVAR c =
+    rw (ne_eqb _ _ c.if-words-at-eq-GET_IVAR.false) (touched_none c.args.words.now c.args.state.now.words.now (rw c.index.ensures at c.if-words-at-eq-GET_IVAR.false))

@@ -4,7 +4,7 @@ use borrow.Author.Rules.{rules}
 use Rattle.std.specs.Prelude.{Err}
 use Rattle.steps.proofs.Stepping.{code-held}
 use Rattle.steps.proofs.Kept.{facing}
-use Rattle.steps.proofs.Methods.{idle_taken, step_insn, step_no, step_block}
+use Rattle.steps.proofs.Methods.{stamps_are, idle_taken, step_insn, step_no, step_block}
 use Rattle.steps.proofs.step.Goals as goal
 
 pub step_block-requires-clause-has_code : goal.step_block-requires-clause-has_code
@@ -27,5 +27,13 @@ returns-then-idle c =
     step_insn c.args.tables.now c.args.state.now c.take_insn.new.self c.args.stamps.now c.block_next.ensures c.if-block_next.false
     (idle_taken c.args.tables.now c.args.state.now c.args.stamps.now F c.requires.stamped (c.idle.ensures c.if-idle.true) c.take_insn.ensures)
 
+pub returns-in_err-visit_insn : goal.returns-in_err-visit_insn
+returns-in_err-visit_insn c =
+    let e : c.from_residual-in_err-visit_insn.result ≡ Err c.in_err-visit_insn.field-0.0 = search rules in
+    rw e (stamps_are c.args.tables.now (search rules) (step_insn c.args.tables.now c.args.state.now c.visit_insn.new.state c.args.stamps.now c.block_next.ensures c.if-block_next.false
+    (rw c.in_err-visit_insn.was at c.visit_insn.ensures.timely)))
+
 pub returns : goal.returns
-returns c = step_insn c.args.tables.now c.args.state.now c.visit_insn.new.state c.args.stamps.now c.block_next.ensures c.if-block_next.false c.visit_insn.ensures
+returns c =
+    stamps_are c.args.tables.now (search rules) (step_insn c.args.tables.now c.args.state.now c.visit_insn.new.state c.args.stamps.now c.block_next.ensures c.if-block_next.false
+    (rw c.in_ok-visit_insn.was at c.visit_insn.ensures.timely))

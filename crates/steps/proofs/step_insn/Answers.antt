@@ -1,10 +1,6 @@
 -- `steps::step_insn` meets its contract. Assumes nothing.
 use Rattle.steps.proofs.Stepping.{front-row}
-use Rattle.steps.proofs.Methods.{insn_done}
 use Rattle.steps.proofs.step_insn.Goals as goal
 
 pub visit-requires-clause-reads_insn : goal.visit-requires-clause-reads_insn
 visit-requires-clause-reads_insn c = front-row c.requires.analysed c.take_insn-i.ensures.took c.requires.record_of c.row.ensures
-
-pub returns : goal.returns
-returns c = insn_done c.visit.result c.take_insn-i.ensures c.visit.ensures

@@ -5,4 +5,4 @@ use Rattle.flows.proofs.returning.Sets.{Gathering}
 use Rattle.flows.proofs.returning.join_returns.Given as goal
 
 abbrev pub invariant-loop-j : goal.invariant-loop-j
-invariant-loop-j l = Gathering l.code.program.words.now l.code.program.counts l.fn.f.0 (kinds_of l.state.sizes l.state.words.now) l.fn.was l.fn.classes l.met l.s (left l.j-iterator)
+invariant-loop-j l = Gathering l.code.program.words.now l.code.program.counts l.fn.f.0 (kinds_of l.state.sizes l.state.words.now) l.fn.met l.sum (left l.j-iterator)

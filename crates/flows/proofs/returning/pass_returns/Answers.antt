@@ -2,7 +2,7 @@
 use mathlib.Core.Path.{ap, ◌∙◌}
 use native.Mathlib.Omega.{arith}
 use Rattle.chains.specs.Left.{left}
-use Rattle.flows.proofs.returning.Passes.{walk_start, back_inside, back_more, back_done}
+use Rattle.flows.proofs.returning.Passes.{walk_start, back_inside, back_more}
 use Rattle.flows.proofs.returning.pass_returns.Goals as goal
 
 pub loop-j-init : goal.loop-j-init
@@ -11,9 +11,6 @@ loop-j-init c =
 
 pub loop-j-preserved : goal.loop-j-preserved
 loop-j-preserved c = back_more c.args.state.now.sizes c.args.state.now.words.now c.loop-j.invariant c.in-Some.ensures.steps c.returned.ensures c.pass_one-y.ensures
-
-pub returns : goal.returns
-returns c = back_done c.args.state.now.sizes c.args.state.now.words.now c.loop-j.invariant c.in-None.ensures.steps.0
 
 pub pass_one-y-requires : goal.pass_one-y-requires
 pass_one-y-requires c = record { operand_inside = back_inside c.loop-j.invariant c.in-Some.ensures.steps c.requires.backs c.returned.ensures }

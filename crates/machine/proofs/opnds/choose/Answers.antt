@@ -18,21 +18,25 @@ first c = elim c.if-admits.branch [
 pub returns-in_err-push_block : goal.returns-in_err-push_block
 returns-in_err-push_block c =
     let e : c.from_residual.result ≡ Err c.in_err-push_block.field-0.0 = search rules in
-    rw e (choice_stop c.args.state.now c.args.o c.args.t.0 c.args.e.0 c.kind_of-k.ensures c.admits.ensures refl
+    rw e (choice_stop c.args.state.now c.args.o c.args.t.0 c.args.e.0 (rw (c.tables.ensures.0, c.tables.ensures.1) at c.kind_of-k.ensures) c.admits.ensures refl
     (block_pushed _ _ _ _ c.if-admits.true c.push_block.ensures) c.in_err-push_block.was)
 
 pub returns-in_err-push_block-2 : goal.returns-in_err-push_block-2
 returns-in_err-push_block-2 c =
     let e : c.from_residual-in_err-push_block-2.result ≡ Err c.in_err-push_block-2.field-0.0 = search rules in
-    rw e (choice_both c.args.state.now c.args.o c.args.t.0 c.args.e.0 c.kind_of-k.ensures c.admits.ensures c.admits-2.ensures _ (first (goal.at.returns-in_err-push_block-2 c).Joined-admits) refl
+    rw e (choice_both c.args.state.now c.args.o c.args.t.0 c.args.e.0
+    (rw (c.tables.ensures.0, c.tables.ensures.1) at c.kind_of-k.ensures) c.admits.ensures c.admits-2.ensures _
+    (first (goal.at.returns-in_err-push_block-2 c).Joined-admits) refl
     (block_pushed _ _ _ _ c.if-admits-2.true (rw c.in_err-push_block-2.was at c.push_block-then-admits-2.ensures)))
 
 pub returns-in_ok-push_block-2 : goal.returns-in_ok-push_block-2
 returns-in_ok-push_block-2 c =
-    choice_both c.args.state.now c.args.o c.args.t.0 c.args.e.0 c.kind_of-k.ensures c.admits.ensures c.admits-2.ensures _ (first (goal.at.returns-in_ok-push_block-2 c).Joined-admits) refl
+    choice_both c.args.state.now c.args.o c.args.t.0 c.args.e.0
+    (rw (c.tables.ensures.0, c.tables.ensures.1) at c.kind_of-k.ensures) c.admits.ensures c.admits-2.ensures _
+    (first (goal.at.returns-in_ok-push_block-2 c).Joined-admits) refl
     (block_pushed _ _ _ _ c.if-admits-2.true (rw c.in_ok-push_block-2.was at c.push_block-then-admits-2.ensures))
 
 pub returns-else-admits-2 : goal.returns-else-admits-2
 returns-else-admits-2 c =
-    choice_both c.args.state.now c.args.o c.args.t.0 c.args.e.0 c.kind_of-k.ensures c.admits.ensures c.admits-2.ensures _
+    choice_both c.args.state.now c.args.o c.args.t.0 c.args.e.0 (rw (c.tables.ensures.0, c.tables.ensures.1) at c.kind_of-k.ensures) c.admits.ensures c.admits-2.ensures _
     (first (goal.at.returns-else-admits-2 c).Joined-admits) refl (block_passed _ _ _ c.if-admits-2.false)

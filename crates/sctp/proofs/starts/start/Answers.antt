@@ -9,7 +9,10 @@ pub returns-then-code-eq0 : goal.returns-then-code-eq0
 returns-then-code-eq0 c = (record { words = refl; sizes = refl }, start_none c.requires.indexed c.if-code-eq0.true)
 
 pub invariant_of-flow : goal.invariant_of-flow
-invariant_of-flow c = record { inside = jumps_inside c.requires.indexed; entries = entries-inside c.requires.indexed }
+invariant_of-flow c = record { inside = jumps_inside c.requires.indexed }
+
+pub all_first_kinds-requires-clause-entries : goal.all_first_kinds-requires-clause-entries
+all_first_kinds-requires-clause-entries c = entries-inside c.requires.indexed
 
 pub returns-in_err-all_first_kinds : goal.returns-in_err-all_first_kinds
 returns-in_err-all_first_kinds c =

@@ -11,6 +11,6 @@ all-requires-clause-callable c =
 
 pub returns : goal.returns
 returns c =
-    λ e. kept_all c.args.state.now (λ l d. c.new-params.ensures l (rw c.index.ensures d))
-    (left_each (Keeps c.args.code.now.program.words.now c.args.code.now.program.counts c.args.state.now.sizes c.args.state.now.words.now c.args.i.0)
+    λ e. kept_all c.args.state.now.sizes c.args.state.now.words.now c.requires.has_params (λ l d. c.new-params.ensures l (rw c.index.ensures d))
+    (left_each (Keeps c.args.program.now.words.now c.args.program.now.counts c.args.state.now.sizes c.args.state.now.words.now c.args.i.0)
     c.new-params.result c.all.new.self (λ x q k. search rules) c.all.result c.all.ensures.ran e)
