@@ -1,4 +1,5 @@
 -- The ways through the call. Assumes nothing.
+use mathlib.Core.Bool.{Bool as 𝔹, true, false}
 use mathlib.Core.Path.{◌≡◌, refl, sym, ap, ◌∙◌, subst}
 use mathlib.Core.Option.{some}
 use mathlib.Core.List.{List, ◌++◌}
@@ -6,6 +7,7 @@ use Prim.Native.Nat.{ℕ, ◌≤◌, ◌<◌}
 use native.Mathlib.Omega.{arith}
 use lib.ListN.{length, get_or, take, drop}
 use lib.Seq.{take_at, length-take-le}
+use lib.Dec.{leb}
 use borrow.Author.Tests.{le-leb, lt-leb}
 use native.Mathlib.Decide.{dec_lt}
 use Rattle.rules.specs.Actions.{Answer, answered, refused, if_answered}
@@ -14,6 +16,9 @@ use Rattle.rules.specs.Reading.{parse_program}
 use Rattle.rules.specs.Machine.{State, state_of, start, run}
 use Rattle.rules.specs.Bound.{bound}
 use Rattle.rules.specs.Frames.{Analysis, analyze}
+use Rattle.rules.proofs.Wellformed.Laws.{and_then}
+use Rattle.rules.proofs.Wellformed.Forward.{program_comes, too_long as too-long-refused}
+use Rattle.rules.proofs.Questions.{start_fine, run_fine}
 use Rattle.rules.proofs.Exactness.Answers as Answers
 use Rattle.memory.specs.Memory.{zeros, Blank}
 use Rattle.memory.proofs.Laws.{zeros-at}
@@ -23,6 +28,7 @@ use Rattle.state.specs.declared.Regs.{Regs}
 use Rattle.state.specs.Acted.{Acted, On, Refused as No}
 use Rattle.std.specs.Prelude.{Result, Ok, Err}
 use Rattle.refusals.specs.declared.Refusal.{Refusal}
+use Rattle.refusals.specs.declared.Refusal.TheVariants as R
 use Rattle.refusals.specs.Refusals.{number_of as number}
 use Rattle.state.specs.declared.Sizes.{Sizes}
 use Rattle.state.specs.View.{Attrs, state_view}
@@ -77,6 +83,10 @@ module _ (s p : List ℕ) (c : Counts) (u u₁ m : List ℕ) {r : Acted} (h : Pa
 
   image : Answer State → Answer (List ℕ)
   image y = if_answered y (λ e. answered (image_of (answer_record P e)))
+
+  -- the number of a refusal is a question's
+  pub program-number : {n : ℕ} → r ≡ No n → n < 256
+  program-number {n} e = omega (arith, ((and_then (start_fine limits P) (λ x q. run_fine limits P (bound P) x)).refuses n (sym (rw e at ends))).1)
 
   pub program-refused : {x : Refusal} {o : Result (Unit {0}) Refusal} (a : List ℕ) → r ≡ No (number x) → o ≡ Err x → found o a ≡ analyzed P
   unfolding analyzed image
@@ -141,6 +151,14 @@ module _ {a p w : List ℕ} (sized : PartsSized a p w) where
   pub tables_read : {s t : List ℕ} {r : Result Counts Refusal} → ReadsScript s t r → length t ≡ length (take program_size p) → ReadsScript s (front_of (t ++ drop program_size p)) r
   tables_read {s} {t} {r} g e = subst (λ x. ReadsScript s x r) (sym (tables_back t (drop program_size p) (e ∙ tables_room))) g
 
+-- the number of a refusal is a question's
+pub number_of_lem : (s : List ℕ) (n : ℕ) → parse_program limits s ≡ refused n → n ≤ 20
+number_of_lem s n e = go (leb (length s) limits.script) refl
+  where
+    go : (b : 𝔹) → leb (length s) limits.script ≡ b → n ≤ 20
+    go true h = let q = (program_comes limits s h).refuses n e in omega (arith, q.most)
+    go false h = let z : refused n ≡ refused 1 = sym e ∙ too-long-refused limits s h in let i : n ≡ 1 = cc in omega arith
+
 module _ (s t : List ℕ) {r : Result Counts Refusal} (g : ReadsScript s t r) where
   pub reading_refused : {x : Refusal} {o : Result (Unit {0}) Refusal} (a : List ℕ) → r ≡ Err x → o ≡ Err x → found o a ≡ imaged (analyze limits s)
   reading_refused {x} a e f = rw f (sym (imaged_no s (number x) (sym (rw e at g).is)))
@@ -201,3 +219,32 @@ module _ (s a p w : List ℕ) where
   unfolding after
   ran_through h i j k x =
       rw (le-leb (length s) script_most h, le-leb answer_length (length a) i, le-leb program_length (length p) j, le-leb state_length (length w) k) (x.is (lent a p w))
+
+-- ---- a refusal's number is a byte
+
+in_byte : (e : Refusal) → number e < 256
+in_byte R.ScriptTooLong = omega arith
+in_byte R.MemoryTooShort = omega arith
+in_byte R.UnknownByte = omega arith
+in_byte R.NumberTooLarge = omega arith
+in_byte R.UnexpectedWord = omega arith
+in_byte R.UnboundName = omega arith
+in_byte R.NameTaken = omega arith
+in_byte R.NotCallable = omega arith
+in_byte R.OutsideMethod = omega arith
+in_byte R.BlockEnded = omega arith
+in_byte R.OverLimit = omega arith
+in_byte R.NoFunction = omega arith
+in_byte R.UndeclaredAttribute = omega arith
+in_byte R.NotAnObject = omega arith
+in_byte R.UnknownMember = omega arith
+in_byte R.MissingArgument = omega arith
+in_byte R.NeedsReceiver = omega arith
+in_byte R.Subtraction = omega arith
+in_byte R.KindsClash = omega arith
+in_byte R.WaitingListFull = omega arith
+
+-- so is that of a script that the reading refuses
+module _ (s t : List ℕ) {r : Result Counts Refusal} (g : ReadsScript s t r) where
+  pub reading_number : {e : Refusal} → r ≡ Err e → number e < 256
+  reading_number {e} q = in_byte e

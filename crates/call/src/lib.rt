@@ -44,7 +44,7 @@ fn analyze_program(
         regs: Regs::no_entries(),
     };
     sctp::sctp(script, program, counts, answer, &mut held, stamps)?;
-    publish::write_state(&held, answer);
+    publish::write_state(&held.tables(), held.regs.count, answer);
     Ok(())
 }
 
@@ -107,6 +107,8 @@ pub fn analyze(
     if SCRIPT_MOST < script.len() {
         return Err(Refusal::ScriptTooLong);
     }
+    // Stays: three tests of one refusal and three slices: by `get_mut(..).ok_or(..)?` for each part it was tried, and five goals wanted answers that the check
+    // finds alone so.
     if answer.len() < ANSWER_LEN {
         return Err(Refusal::MemoryTooShort);
     }

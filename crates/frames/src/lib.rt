@@ -50,11 +50,7 @@ fn digit(n: usize) -> u8
     requires { n < 16 }
     ensures { result ≡ digit_of n }
 {
-    if n < 10 {
-        n as u8 + b'0'
-    } else {
-        n as u8 + (b'a' - 10)
-    }
+    b"0123456789abcdef"[n]
 }
 
 // The lowest digits of n, as many as there is room for.
@@ -63,6 +59,7 @@ fn put(n: usize, out: &mut [u8])
     ensures { out.new ≡ digits (length out.old) n [] }
 {
     let mut rest = n;
+    // Stays: by places; tried: behind `iter_mut().rev()` the check knows nothing of what was written (LIBRARY.md of Rattle).
     for left in (0..out.len()).rev() {
         out[left] = digit(rest % 16);
         rest /= 16;
@@ -104,13 +101,16 @@ impl Frame {
                 ],
                 out,
             ),
-            Frame::Live(b, live) => write_line(&[(1, 2), (1, b.index()), (1, live as usize)], out),
+            Frame::Live(b, live) => write_line(
+                &[(1, 2), (1, b.index()), (1, usize::from(live))],
+                out,
+            ),
             Frame::Kind(i, tag, payload) => {
                 write_line(&[(1, 3), (2, i.index()), (1, tag), (8, payload)], out)
             }
             Frame::User(i, user) => write_line(&[(1, 4), (2, i.index()), (2, user.index())], out),
             Frame::Call(f, i) => write_line(&[(1, 5), (1, f.index()), (2, i.index())], out),
-            Frame::Refusal(n) => write_line(&[(1, 127), (1, n as usize)], out),
+            Frame::Refusal(n) => write_line(&[(1, 127), (1, usize::from(n))], out),
         }
     }
 }

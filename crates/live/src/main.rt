@@ -44,7 +44,7 @@ macro_rules! line {
 }
 
 // The line of a refusal, with the number and the words of its question.
-// Stays: no `Display`, since the words are this program's and `Refusal` is of a crate below.
+// Stays: a function and no `Display`, since `Refusal` is of a crate below, and a type of this program's around it would be made only to be written.
 fn line(e: Refusal) -> &'static str
     ensures { result.now ≡ line_of (number_of e) }
 {

@@ -1,9 +1,10 @@
 -- Pieces handed over one behind the other are all the frames, and these are the rules' frames of the script. Assumes nothing.
-use Rattle.std.proofs.Common.{true, ◌≡◌, ℕ, ◌+◌, ◌*◌, ◌≤◌, ◌<◌, List, Option, None, Some, Result, Ok, Err, arith, length, take, drop, sym, ap, ◌∙◌, subst, refl, le_refl, MatchResult, IsErrAnd, IfErr}
+use Rattle.std.proofs.Common.{true, ◌≡◌, ℕ, ◌+◌, ◌*◌, ◌≤◌, ◌<◌, List, ◌++◌, Option, None, Some, Result, Ok, Err, arith, length, take, drop, sym, ap, ◌∙◌, subst, refl, le_refl}
+use Rattle.std.specs.Prelude.{MatchResult, IsErrAnd, IfErr}
 use Rattle.std.specs.Io.KnownBytes.{Appends}
 use Rattle.std.proofs.KnownBytes.{Appends-trans}
-use lib.ListN.{replicate, length-append, length-replicate}
-use lib.Seq.{drop-drop, drop_at, take-add, take-append-le}
+use lib.ListN.{length-append}
+use lib.Seq.{drop-drop, drop_at, take-add, take-append-le, take-take}
 use Rattle.frames.specs.declared.NextFrame.{NextFrame}
 use Rattle.frames.specs.declared.NextFrame.TheVariants.{Totals}
 use Rattle.frames.specs.Text.{rest_of, rest_at, left_of, left_at, Piece}
@@ -11,7 +12,6 @@ use Rattle.streams.specs.declared.Unwritten.{Unwritten}
 use Rattle.streams.specs.Moved.{taken_of}
 use Rattle.std.proofs.Math.Option.{none, some}
 use lib.Seq.{take_all}
-use lib.Dec.{leb}
 use borrow.Author.Tests.{le-leb}
 use Rattle.rules.specs.Actions.{Answer, answered, refused}
 use Rattle.rules.specs.Program.{limits}
@@ -21,7 +21,7 @@ use Rattle.answer.proofs.Answered.{answer-published}
 use Rattle.frames.proofs.Written.{image_frames}
 use Rattle.refusals.specs.declared.Refusal.{Refusal}
 use Rattle.refusals.specs.Refusals.{number_of as number-is}
-use Rattle.call.specs.Call.{number_of, Lent, CallLeft, lent, left, long_enough, after}
+use Rattle.call.specs.Call.{number_of, CallLeft, lent, left, long_enough, after}
 use Rattle.call.proofs.Facts as Facts
 use Rattle.call.proofs.Written.{refusal_frame_lem}
 use Rattle.state.specs.Layout.{state_length}
@@ -90,6 +90,23 @@ module _ {a out : List ℕ} {c : Option NextFrame} {done : ℕ} (g : Sending a o
         → Appends x z (take (done + n) (rest_of a Totals))
     sending_appends_all x y z q r = sending_appends x y z n (le_refl n) q (subst (λ m. Appends y z (take m (take n out'))) (sym p.count) r)
 
+-- ---- where what the output holds is known
+
+-- a piece of which no less was taken was taken whole
+pub all_taken : {n len : ℕ} → n ≤ len → len ≤ n → n ≡ len
+all_taken h k = omega (arith, h, k)
+
+-- the text T of which `done` bytes were taken, and R is left; a piece at the start of u, and N behind it
+module _ (T R N u : List ℕ) (done len : ℕ) (e : drop done T ≡ R) (f : R ≡ take len u ++ N) (g : len ≡ length (take len u)) where
+  pub handed_left : drop (done + len) T ≡ N
+  handed_left = sym (drop-drop len done T) ∙ ap (drop len) (e ∙ f) ∙ drop_at (take len u) N len (sym g)
+
+  pub handed_more : (a b c : Option (List ℕ)) (taken : ℕ) → taken ≤ len → Appends a b (take done T) → Appends b c (take taken u) → Appends a c (take (done + taken) T)
+  handed_more a b c taken h p q =
+      let k : take taken (drop done T) ≡ take taken u =
+      ap (take taken) (e ∙ f) ∙ take-append-le taken (take len u) N (omega (arith, h, g)) ∙ take-take taken len u h in
+      subst (Appends a c) (sym (take-add done taken T)) (Appends-trans a b c _ _ p (rw (← k) at q))
+
 -- ---- the frames of a script
 
 told_tells : (o : Option Refusal) (t : List ℕ) (r : Result ℕ Unwritten) → Sends t r → SentTells (number_told o) t (told_of o r)
@@ -100,49 +117,45 @@ told_taken : (o : Option Refusal) (t : List ℕ) (r : Result ℕ Unwritten) → 
 told_taken o t (Ok n) = refl
 told_taken o t (Err e) = refl
 
--- cleared parts of the published lengths
-abbrev pub parts : Lent
-parts = lent (replicate answer_length 0) (replicate program_length 0) (replicate state_length 0)
+-- parts of the published lengths, whatever they hold
+module _ (s a p w : List ℕ) {a' p' w' : List ℕ} (x : Result (Unit {0}) Refusal) (la : length a ≡ answer_length) (lp : length p ≡ program_length) (lw : length w ≡ state_length)
+    (e : after s (lent a p w) ≡ left (number_of x) (lent a' p' w')) where
+  long : long_enough (lent a p w) ≡ true
+  long = rw (le-leb answer_length (length a) (omega arith), le-leb program_length (length p) (omega arith), le-leb state_length (length w) (omega arith))
 
-room : (n : ℕ) → leb n (length {A = ℕ} (replicate n 0)) ≡ true
-room n = rw length-replicate (le-leb n n (le_refl n))
-
-module _ (s : List ℕ) {a' p' w' : List ℕ} (x : Result (Unit {0}) Refusal) (e : after s parts ≡ left (number_of x) (lent a' p' w')) where
-  long : long_enough parts ≡ true
-  long = rw (room answer_length, room program_length, room state_length)
-
-  number : (after s parts).number ≡ number_of x
+  number : (after s (lent a p w)).number ≡ number_of x
   number = ap (λ (l : CallLeft). l.number) e
 
   -- the rules' number
   rules-none : x ≡ Ok tt → number_in (analyze limits s) ≡ None
-  rules-none q = go (analyze limits s) (sym (Facts.number_is s parts long) ∙ number ∙ ap number_of q)
+  rules-none q = go (analyze limits s) (sym (Facts.number_is s (lent a p w) long) ∙ number ∙ ap number_of q)
     where
-      go : (y : Answer Analysis) → Facts.number_in s parts y ≡ none → number_in y ≡ None
+      go : (y : Answer Analysis) → Facts.number_in s (lent a p w) y ≡ none → number_in y ≡ None
       go (answered y) h = refl
       go (refused m) h = let z : ◌≡◌ {A = ℕ} 0 1 = cc in absurd (omega arith)
 
   rules-some : {n : Refusal} → x ≡ Err n → number_in (analyze limits s) ≡ Some (number-is n)
-  rules-some {n} q = go (analyze limits s) (sym (Facts.number_is s parts long) ∙ number ∙ ap number_of q)
+  rules-some {n} q = go (analyze limits s) (sym (Facts.number_is s (lent a p w) long) ∙ number ∙ ap number_of q)
     where
-      go : (y : Answer Analysis) → Facts.number_in s parts y ≡ some (number-is n) → number_in y ≡ Some (number-is n)
+      go : (y : Answer Analysis) → Facts.number_in s (lent a p w) y ≡ some (number-is n) → number_in y ≡ Some (number-is n)
       go (answered y) h = let z : ◌≡◌ {A = ℕ} 0 1 = cc in absurd (omega arith)
       go (refused m) h = let z : m ≡ number-is n = cc in rw z
 
+  -- what the call left, or the refusal, is written as the rules' frames
   answer_text : x ≡ Ok tt → length a' ≡ answer_length → rest_of a' Totals ≡ live s
   unfolding live
   answer_text q l =
-      let z = Facts.answered_exactly s parts (number ∙ ap number_of q) in
+      let z = Facts.answered_exactly s (lent a p w) (number ∙ ap number_of q) in
       let u = answer-published s z.0 z.1.is in
       let i : analyze limits s ≡ answered z.0 = z.1.is in
-      let h : a' ≡ take answer_length (after s parts).lent.answer =
+      let h : a' ≡ take answer_length (after s (lent a p w)).lent.answer =
       sym (take_all answer_length a' (omega arith)) ∙ sym (ap (λ (l : CallLeft). take answer_length l.lent.answer) e) in
       let f : rest_of a' Totals ≡ frames z.0.program z.0.state =
       ap (λ (m : List ℕ). rest_of m Totals) (h ∙ z.1.held) ∙ image_frames z.0.program z.0.state u.shaped u.legal in
       rw i f
 
   refusal_text : {n : Refusal} → x ≡ Err n → refusal_frame (number-is n) ≡ live s
-  refusal_text {n} q = refusal_frame_lem s parts (number-is n) long (number ∙ ap number_of q)
+  refusal_text {n} q = refusal_frame_lem s (lent a p w) (number-is n) long (number ∙ ap number_of q)
 
   -- an answer's frames were written, or a refusal's: m tells it, and the output holds as many bytes
   module _ (m : Result Told Unwritten) (r : Result ℕ Unwritten) where
@@ -153,10 +166,18 @@ module _ (s : List ℕ) {a' p' w' : List ℕ} (x : Result (Unit {0}) Refusal) (e
     refusal_told {n} e q g = rw (e, rules-some q, ← refusal_text q) (told_tells (Some n) (refusal_frame (number-is n)) r g)
 
     module _ (b c : Option (List ℕ)) where
-      pub answer_appends : m ≡ told_of None r → x ≡ Ok tt → length a' ≡ answer_length → Appends b c (take (taken_of (rest_of a' Totals) r) (rest_of a' Totals))
+      pub answer_appended : m ≡ told_of None r → x ≡ Ok tt → length a' ≡ answer_length → Appends b c (take (taken_of (rest_of a' Totals) r) (rest_of a' Totals))
           → Appends b c (take (taken_of (live s) m) (live s))
-      answer_appends e q l g = rw (e, told_taken None (live s) r, ← answer_text q l) g
+      answer_appended f q l g = rw (f, told_taken None (live s) r, ← answer_text q l) g
 
-      pub refusal_appends : {n : Refusal} → m ≡ told_of (Some n) r → x ≡ Err n → Appends b c (take (taken_of (refusal_frame (number-is n)) r) (refusal_frame (number-is n)))
+      pub refusal_appended : {n : Refusal} → m ≡ told_of (Some n) r → x ≡ Err n → Appends b c (take (taken_of (refusal_frame (number-is n)) r) (refusal_frame (number-is n)))
           → Appends b c (take (taken_of (live s) m) (live s))
-      refusal_appends {n} e q g = rw (e, told_taken (Some n) (live s) r, ← refusal_text q) g
+      refusal_appended {n} f q g = rw (f, told_taken (Some n) (live s) r, ← refusal_text q) g
+
+  -- a start of what was written is as long a start of the rules' frames
+  module _ (b c : Option (List ℕ)) (k : ℕ) where
+    pub answer_appends : x ≡ Ok tt → length a' ≡ answer_length → Appends b c (take k (rest_of a' Totals)) → Appends b c (take k (live s))
+    answer_appends q l g = rw (← answer_text q l) g
+
+    pub refusal_appends : {n : Refusal} → x ≡ Err n → Appends b c (take k (refusal_frame (number-is n))) → Appends b c (take k (live s))
+    refusal_appends q g = rw (← refusal_text q) g

@@ -38,11 +38,23 @@ pub fn write_frames<W: Write>(to: &mut W, answer: Answer) -> Result<usize, Unwri
         if len == 0 {
             return Ok(done);
         }
-        streams::write(to, &out[..len]).map_err(|e| Unwritten {
+        let written = streams::write(to, &out[..len]);
+        written.map_err(|e| Unwritten {
             taken: done + e.taken,
         })?;
         done += len;
     }
+}
+
+// Writes the frame that a refusal of number n has.
+pub fn write_number<W: Write>(to: &mut W, n: u8) -> Result<usize, Unwritten>
+    ensures sends { Sends (refusal_frame n) result }
+    ensures appends { Appends (W.contents to.old) (W.contents to.new) (take (taken_of (refusal_frame n) result) (refusal_frame n)) }
+{
+    let mut line = [0u8; frames::LINE_MOST];
+    let len = Frame::Refusal(n).write(&mut line);
+    streams::write(to, &line[..len])?;
+    Ok(len)
 }
 
 // Writes the frame of a refusal.
@@ -50,10 +62,7 @@ pub fn write_refusal<W: Write>(to: &mut W, e: Refusal) -> Result<usize, Unwritte
     ensures sends { Sends (refusal_frame (number_of e)) result }
     ensures appends { Appends (W.contents to.old) (W.contents to.new) (take (taken_of (refusal_frame (number_of e)) result) (refusal_frame (number_of e))) }
 {
-    let mut line = [0u8; frames::LINE_MOST];
-    let len = Frame::Refusal(u8::from(e)).write(&mut line);
-    streams::write(to, &line[..len])?;
-    Ok(len)
+    write_number(to, u8::from(e))
 }
 
 fn tell(refusal: Option<Refusal>, written: Result<usize, Unwritten>) -> Result<Told, Unwritten>

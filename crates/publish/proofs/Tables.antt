@@ -2,18 +2,19 @@
 use mathlib.Core.Bool.{Bool as 𝔹, false}
 use mathlib.Core.Path.{◌≡◌, refl, sym, ap, ◌∙◌}
 use mathlib.Core.List.{List, [], ◌∷◌, map}
-use Prim.Native.Nat.{ℕ, zero, suc, ◌+◌, ◌*◌, ◌/◌, ◌%◌, ◌≤◌, ◌<◌}
+use Prim.Native.Nat.{ℕ, zero, suc, ◌+◌, ◌-◌, ◌*◌, ◌/◌, ◌%◌, ◌≤◌, ◌<◌}
+use native.Mathlib.Decide.{ℕ_discrete}
 use native.Mathlib.Omega.{arith}
+use borrow.Rule.Slice.PartMut.{put_mid}
 use native.Mathlib.Nat.{not-suc-le-zero, le_of_suc-le-suc}
 use lib.ListN.{length, get_or, set, take, drop, length-map, get_or-map}
-use lib.Seq.{take_all, get_or-drop}
+use lib.Seq.{take_all, get_or-drop, drop-drop, get_or-set_same, get_or-set_other, ext_get_or}
 use mir.Val.{bool_byte}
 use Rattle.kinds.specs.declared.Kind.{Kind}
 use Rattle.kinds.specs.declared.Kind.TheVariants.{Empty}
 use Rattle.kinds.specs.Kinds.{bit_of, tag_of, payload_of}
 use Rattle.kinds.proofs.Same.{bit_of_lem}
 use Rattle.memory.specs.Memory.{over}
-use Rattle.memory.proofs.Laws.{Writing, writing_start, writing_more}
 use Rattle.memory.specs.tables.Tables.{rows}
 use Rattle.memory.specs.tables.Bits.{RowWord}
 use Rattle.memory.proofs.tables.Listed.{listed-length}
@@ -37,12 +38,30 @@ module _ (z : Sizes) (m : List ℕ) where
 
 -- ---- the words that a function gives, one behind the other
 
-module _ {gives : ℕ → ℕ → Type 0} {n at : ℕ} {a : List ℕ} where
-  pub each_start : at + n ≤ length a → (t : List ℕ) → GivenBy gives n t → Writing t a a at 0
-  each_start h t g = writing_start t a at (omega (arith, g.len))
+-- at a loop's head the first i of xs are what a function gives
+pub record Giving (gives : ℕ → ℕ → Type 0) (n : ℕ) (xs : List ℕ) (i : ℕ) : Type 0 where
+  pub each : (t : List ℕ) → GivenBy gives n t → (k : ℕ) → k < i → get_or xs k 0 ≡ get_or t k 0
 
-  pub each_more : {a₀ : List ℕ} {i w : ℕ} → ((t : List ℕ) → GivenBy gives n t → Writing t a₀ a at i) → i < n → gives i w → (t : List ℕ) → GivenBy gives n t → Writing t a₀ (set a (at + i) w) at (i + 1)
-  each_more {i = i} {w = w} m h e t g = writing_more (m t g) (omega (arith, g.len)) (g.each i w h e)
+module _ {gives : ℕ → ℕ → Type 0} {n : ℕ} where
+  pub each_start : (xs : List ℕ) → Giving gives n xs 0
+  each_start xs = record { each = λ t g k lt. absurd (omega arith) }
+
+  module _ {i : ℕ} {xs : List ℕ} (m : Giving gives n xs i) (l : length xs ≡ n) where
+    pub each_more : {w : ℕ} → i < length xs → gives i w → Giving gives n (set xs i w) (i + 1)
+    each_more {w} h e = record {
+      each = λ t g k lt.
+          elim (ℕ_discrete k i) [
+            | yes z ↦ rw z (get_or-set_same xs i w 0 h ∙ g.each i w (omega arith) e)
+            | no z ↦ get_or-set_other xs i k w 0 z ∙ m.each t g k (omega arith)
+          ];
+    }
+
+    pub each_done : (at : ℕ) (a : List ℕ) → length xs ≤ i → (t : List ℕ) → GivenBy gives n t → put_mid at (at + n - at) a xs ≡ over at t a
+    unfolding over
+    each_done at a h t g =
+        let e : xs ≡ t = ext_get_or 0 xs t (l ∙ sym g.len) (λ k lt. m.each t g k (omega arith)) in
+        let k : at + n - at ≡ length t = omega (arith, g.len) in
+        rw (e, k, drop-drop) refl
 
 -- ---- live flags and kinds
 

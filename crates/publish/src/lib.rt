@@ -8,7 +8,7 @@ ghost use Rattle.answer.specs.Layout.{answer_length};
 ghost use Rattle.publish.specs.Final.{GivenBy, with_state};
 
 use ids::{BlockId, FunId, InsnId};
-use state::State;
+use state::Held;
 
 // The words from a place on: what `word` gives for each number below n.
 fn write_each<F: Fn(usize) -> usize>(answer: &mut [usize], at: usize, n: usize, word: F)
@@ -16,15 +16,15 @@ fn write_each<F: Fn(usize) -> usize>(answer: &mut [usize], at: usize, n: usize, 
     requires room { at + n ≤ length answer.old }
     ensures { (t : List ℕ) → GivenBy (F.post word) n t → answer.new ≡ over at t answer.old }
 {
-    for i in 0..n {
-        answer[at + i] = word(i);
+    for (i, to) in answer[at..at + n].iter_mut().enumerate() {
+        *to = word(i);
     }
 }
 
-// All tables but those of the uses.
-pub fn write_state(state: &State, answer: &mut [usize])
+// All tables but those of the uses, and a count.
+pub fn write_state(state: &Held, count: u64, answer: &mut [usize])
     requires answer_len { (length answer.old ≡ answer_length) × (state.now.sizes.blocks ≤ blocks_most) }
-    ensures { answer.new ≡ with_state state.now.sizes state.now.words.now state.now.regs.count answer.old }
+    ensures { answer.new ≡ with_state state.now.sizes state.now.words.now count answer.old }
 {
     let sizes = state.sizes;
     answer::write_totals(
@@ -32,10 +32,10 @@ pub fn write_state(state: &State, answer: &mut [usize])
         sizes.functions,
         sizes.blocks,
         sizes.insns,
-        state.regs.count as usize,
+        count as usize,
     );
     write_each(answer, answer::LIVE, sizes.blocks, |b| {
-        state.is_live(BlockId(b as u32)) as usize
+        usize::from(state.is_live(BlockId(b as u32)))
     });
     write_each(answer, answer::TAGS, sizes.insns, |i| {
         state.kind_at(InsnId(i as u32)).tag()

@@ -1,8 +1,9 @@
 -- The input is read piece by piece. Assumes nothing.
-use Rattle.std.proofs.Common.{◌≡◌, ℕ, ◌+◌, ◌-◌, ◌≤◌, List, ◌++◌, Option, arith, length, take, drop, sym, ap, ◌∙◌, subst, length-take-le}
+use Rattle.std.proofs.Common.{◌≡◌, ℕ, ◌+◌, ◌-◌, ◌≤◌, List, ◌++◌, Option, arith, length, take, drop, sym, ap, ◌∙◌, subst, le_refl, length-take-le}
 use Rattle.std.proofs.lemmas.List.{take_rest}
-use Rattle.std.specs.Io.KnownBytes.{Appends, Consumes}
-use Rattle.std.proofs.KnownBytes.{Appends-trans, Consumes-trans}
+use Rattle.std.proofs.lemmas.Slice.{take-put_mid_below}
+use Rattle.std.specs.Io.KnownBytes.{Appends, Consumes, Keeps}
+use Rattle.std.proofs.KnownBytes.{Appends-trans, Consumes-trans, Consumes-kept}
 use borrow.Rule.Slice.PartMut.{mid_of, put_mid, post_of, same_len_mid, mid_len}
 use lib.Seq.{take-add, take-append-le, take-append-add}
 
@@ -30,6 +31,11 @@ take_mid a k n d u h l =
 pub taken_more : (a b c : Option (List ℕ)) (done k n : ℕ) (d u : List ℕ) → done ≤ length d → n ≤ length u → Consumes a b (take done d) → Consumes b c (take n u)
     → Consumes a c (take (done + n) (put_mid done k d u))
 taken_more a b c done k n d u h l p q = subst (Consumes _ _) (sym (take_mid done k n d u h l)) (Consumes-trans _ _ _ _ _ p q)
+
+-- the bytes in front of a piece that was tried and not read
+pub taken_kept : (a b c : Option (List ℕ)) (done k : ℕ) (d u : List ℕ) → done ≤ length d → Consumes a b (take done d) → Keeps b c
+    → Consumes a c (take done (put_mid done k d u))
+taken_kept a b c done k d u h p q = subst (Consumes _ _) (sym (take-put_mid_below _ _ _ _ _ (le_refl _) h)) (Consumes-kept _ _ _ _ p q)
 
 -- the pieces that were written
 pub written_more : (a b c : Option (List ℕ)) (done n : ℕ) (bytes : List ℕ) → Appends a b (take done bytes)

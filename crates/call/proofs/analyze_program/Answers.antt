@@ -17,7 +17,7 @@ returns-in_err-sctp c =
 
 pub write_state-requires : goal.write_state-requires
 write_state-requires c =
-    let z = ap (λ (x : Sizes). x.blocks) (c.sctp.ensures.0.sizes ∙ c.sizes.ensures) in
+    let z = ap (λ (x : Sizes). x.blocks) (c.tables.ensures.1 ∙ c.sctp.ensures.0.sizes ∙ c.sizes.ensures) in
     record {
       answer_len = (
         c.sctp.auto.users ∙ c.requires.parts_fresh.answer.len,
@@ -28,4 +28,4 @@ write_state-requires c =
 pub returns : goal.returns
 returns c =
     program-answered _ _ _ _ _ _ c.requires.parsed c.sctp.ensures.1 (ap (acted_of _) c.in_ok-sctp.was) tt c.requires.parts_fresh c.sctp.auto.users
-    (c.sctp.ensures.0.sizes ∙ c.sizes.ensures) c.write_state.ensures
+    (c.tables.ensures.1 ∙ c.sctp.ensures.0.sizes ∙ c.sizes.ensures) (rw c.tables.ensures.0 at c.write_state.ensures)

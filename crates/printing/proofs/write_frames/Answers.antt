@@ -7,7 +7,7 @@ pub returns-in_err-map_err-clause-appends : goal.returns-in_err-map_err-clause-a
 returns-in_err-map_err-clause-appends g c =
     let k = c.loop-frames.invariant in
     let p = c.fill-len.ensures.piece in
-    sending_cut k.0 (rw k.1 at p) (search rules) _ _ _ c.write.result c.from_residual.result (search rules) c.write.ensures.short k.2 c.write.ensures.appends
+    sending_cut k.0 (rw k.1 at p) (search rules) _ _ _ c.write-written.result c.from_residual.result (search rules) c.write-written.ensures.short k.2 c.write-written.ensures.appends
 
 pub loop-frames-preserved : goal.loop-frames-preserved
 loop-frames-preserved g c =

@@ -8,7 +8,7 @@ pub returns : goal.returns
 returns c =
     let z = c.args.state.now.sizes in
     let m = c.args.state.now.words.now in
-    state_written z m c.args.state.now.regs.count c.args.answer.now c.write_totals.ensures
+    state_written z m c.args.count c.args.answer.now c.write_totals.ensures
     (c.write_each.ensures _ (record { len = lives-length z m; each = λ b w h p. search (rules, live_word) }))
     (c.write_each-2.ensures _ (record { len = mapped-length z m tag_of; each = λ i w h p. search (rules, kind_word) }))
     (c.write_each-3.ensures _ (record { len = mapped-length z m payload_of; each = λ i w h p. search (rules, kind_word) }))
