@@ -31,9 +31,6 @@ kept_trans a b =
       scratch_loan = b.scratch_loan ∙ a.scratch_loan;
     }
 
-pub adds_trans : {p p1 p2 : Parser} → AddsKept p p1 → AddsKept p1 p2 → AddsKept p p2
-adds_trans a b = record { kept = kept_trans a.kept b.kept; scratch = b.scratch ∙ a.scratch }
-
 -- where script, program and scratch memory are the same
 pub kept_same : {p p1 p2 : Parser} → ParserKept p p1 → p2.script ≡ p1.script → p2.program ≡ p1.program → p2.scratch ≡ p1.scratch → ParserKept p p2
 kept_same k a b e =

@@ -3,7 +3,8 @@ use mathlib.Core.Bool.{Bool, true, false}
 use mathlib.Core.Path.{◌≡◌, refl, sym, ap, ◌∙◌}
 use mathlib.Core.List.{List, map}
 use mathlib.Core.Option.{none, some}
-use Prim.Native.Nat.{ℕ, ◌+◌, ◌*◌}
+use Prim.Native.Nat.{ℕ, ◌+◌, ◌*◌, ◌/◌, ◌≤◌, ◌<◌}
+use native.Mathlib.Omega.{arith}
 use lib.ListN.{length}
 use Rattle.ids.specs.declared.InsnId.{InsnId}
 use Rattle.ids.specs.declared.FunId.{FunId}
@@ -28,12 +29,14 @@ use Rattle.program.specs.declared.Given.{Given}
 use Rattle.program.specs.declared.Given.TheVariants.{One, Two}
 use Rattle.program.specs.declared.Callee.{Callee}
 use Rattle.program.specs.declared.Callee.TheVariants.{Static, Dynamic}
-use Rattle.std.specs.Prelude.{Result, Ok, Err}
+use Rattle.std.specs.Prelude.{Result, Ok, Err, slice_range}
 use Rattle.std.specs.declared.option.Option.{Option as Maybe}
 use Rattle.refusals.specs.declared.Refusal.{Refusal}
 use Rattle.refusals.specs.Refusals.{number_of}
-use Rattle.cursor.specs.Layout.{stack_at}
-use Rattle.cursor.specs.Cursor.{parser_of, receiver_of, waiting, count_cur}
+use Rattle.memory.specs.Layout.{operands_most}
+use Rattle.program.proofs.Calling.{opnds_part}
+use Rattle.cursor.specs.Layout.{stack_at, scratch_size}
+use Rattle.cursor.specs.Cursor.{parser_of, receiver_of, args_in, waiting, count_cur}
 use Rattle.cursor.specs.Steps.{sets_ivar, gets_ivar, calls, reads_attr}
 use Rattle.cursor.specs.Promises.{Out, done, stop, CursorAdds, parsed_of}
 use Rattle.cursor.specs.Cursor.{Cursor}
@@ -67,6 +70,10 @@ module _ (m m' : List ℕ) (c : Cursor) (l : Limits) (op : Op) (g : Given) (n : 
   push_stops e f s w =
       let h = rw f at d in adds-stop s w m m' c (limits_of l) (op_in s op (map opnd_of (given g))) (number_of e) (h.is s (parser_of s m w c))
 
+-- a block that was there before an instruction is there behind it
+pub still_there : (op : Op) (n : ℕ) {b : ℕ} (c : Counts) {c' : Counts} → c' ≡ more_insns op n c → b < c.blocks → b < c'.blocks
+still_there op n c e l = rw e l
+
 call-functions : (k : Callee) (n : ℕ) (c : Counts) → (more_calls k n c).functions ≡ c.functions
 call-functions (Static f) n c = refl
 call-functions (Dynamic v x) n c = refl
@@ -79,23 +86,26 @@ call-blocks : (k : Callee) (n : ℕ) (c : Counts) → (more_calls k n c).blocks 
 call-blocks (Static f) n c = refl
 call-blocks (Dynamic v x) n c = refl
 
-module _ (w m m' : List ℕ) (c : Cursor) (l : Limits) (k : Callee) (n : ℕ) (x : Counts) (r : Result InsnId Refusal)
-    (d : View.ProgramDid (call_of (limits_of l) c.block.0 k (opnds_in w (stack_at + 2 * c.args) n)) unchanged c.counts.insns (more_calls k n c.counts) m c.counts m' (insn_of x r)) where
+module _ (m m' : List ℕ) (c : Cursor) (l : Limits) (k : Callee) (a : List ℕ) (x : Counts) (r : Result InsnId Refusal)
+    (d : View.ProgramDid (call_of (limits_of l) c.block.0 k (opnds_in a 0 (length a / 2))) unchanged c.counts.insns (more_calls k (length a / 2) c.counts) m c.counts m' (insn_of x r)) where
   pub call-done : (i : InsnId) → r ≡ Ok i
-      → (s : List ℕ) → CursorAdds s w (push (limits_of l) (P.Send (callee_in s k) (waiting w c.args n))) m c m' (parsed_of (Parsed.Done (count_cur x c) (Insn i)))
-  unfolding waiting
-  call-done i e s =
+      → (s w : List ℕ) → CursorAdds s w (push (limits_of l) (P.Send (callee_in s k) (args_in a))) m c m' (parsed_of (Parsed.Done (count_cur x c) (Insn i)))
+  call-done i e s w =
       let h = rw e at d in
       let z = h.ok.counts in
-      adds-grew s w m m' c (limits_of l) (P.Send (callee_in s k) (map opnd_of (opnds_in w (stack_at + 2 * c.args) n))) i.0 x h.ok.ready
-      (ap (λ (y : Counts). y.functions) z ∙ call-functions k n c.counts) (ap (λ (y : Counts). y.classes) z ∙ call-classes k n c.counts)
-      (ap (λ (y : Counts). y.blocks) z ∙ call-blocks k n c.counts) (h.is s (parser_of s m w c))
+      adds-grew s w m m' c (limits_of l) (P.Send (callee_in s k) (args_in a)) i.0 x h.ok.ready
+      (ap (λ (y : Counts). y.functions) z ∙ call-functions k (length a / 2) c.counts) (ap (λ (y : Counts). y.classes) z ∙ call-classes k (length a / 2) c.counts)
+      (ap (λ (y : Counts). y.blocks) z ∙ call-blocks k (length a / 2) c.counts) (h.is s (parser_of s m w c))
 
   pub call_stops : (e : Refusal) → r ≡ Err e
-      → (s : List ℕ) → CursorAdds s w (push (limits_of l) (P.Send (callee_in s k) (waiting w c.args n))) m c m' (parsed_of (Parsed.Refused (number_of e)))
-  unfolding waiting
-  call_stops e f s =
-      let h = rw f at d in adds-stop s w m m' c (limits_of l) (P.Send (callee_in s k) (map opnd_of (opnds_in w (stack_at + 2 * c.args) n))) (number_of e) (h.is s (parser_of s m w c))
+      → (s w : List ℕ) → CursorAdds s w (push (limits_of l) (P.Send (callee_in s k) (args_in a))) m c m' (parsed_of (Parsed.Refused (number_of e)))
+  call_stops e f s w =
+      let h = rw f at d in adds-stop s w m m' c (limits_of l) (P.Send (callee_in s k) (args_in a)) (number_of e) (h.is s (parser_of s m w c))
+
+-- the words of n waiting arguments hold them
+pub cut : (w : List ℕ) (k n : ℕ) → scratch_size ≤ length w → k + n ≤ operands_most → args_in (slice_range w (stack_at + 2 * k) (stack_at + 2 * k + 2 * n)) ≡ waiting w k n
+unfolding waiting
+cut w k n h l = ap (map opnd_of) (opnds_part w (stack_at + 2 * k) n (omega (arith, h, l)))
 
 -- ---- the receiver
 
@@ -172,11 +182,10 @@ module _ (L : P.Limits) (v : P.Opnd) (l : List P.Opnd) (r : Parser) where
   unfolding calls
   calls_no e = rw (← e)
 
-module _ (w m m' : List ℕ) (c : Cursor) (l : Limits) (v : Opnd) (n : ℕ) where
-  pub bare_yes : (o : Out P.Opnd) (f : FunId) → v ≡ Const (Kind.Fun f)
-      → ((s : List ℕ) → CursorAdds s w (push (limits_of l) (P.Send (callee_in s (Static f)) (waiting w c.args n))) m c m' o)
-      → (s : List ℕ) → CursorAdds s w (calls (limits_of l) (opnd_of v) (waiting w c.args n)) m c m' o
-  bare_yes o f e a s = same-adds (a s) (calls-yes (limits_of l) (opnd_of v) (waiting w c.args n) (parser_of s m w c) f.0 (rw e))
+module _ (s w m m' : List ℕ) (c : Cursor) (l : Limits) (v : Opnd) (x : List P.Opnd) where
+  pub bare_yes : (o : Out P.Opnd) (f : FunId) → v ≡ Const (Kind.Fun f) → CursorAdds s w (push (limits_of l) (P.Send (callee_in s (Static f)) x)) m c m' o
+      → CursorAdds s w (calls (limits_of l) (opnd_of v) x) m c m' o
+  bare_yes o f e a = same-adds a (calls-yes (limits_of l) (opnd_of v) x (parser_of s m w c) f.0 (rw e))
 
-  pub bare_no : none ≡ constant_of function_in (opnd_of v) → (s : List ℕ) → CursorAdds s w (calls (limits_of l) (opnd_of v) (waiting w c.args n)) m c m' (parsed_of (Parsed.Refused 8))
-  bare_no h s = record { is = calls_no (limits_of l) (opnd_of v) (waiting w c.args n) (parser_of s m w c) h; ok = tt }
+  pub bare_no : none ≡ constant_of function_in (opnd_of v) → CursorAdds s w (calls (limits_of l) (opnd_of v) x) m c m' (parsed_of (Parsed.Refused 8))
+  bare_no h = record { is = calls_no (limits_of l) (opnd_of v) x (parser_of s m w c) h; ok = tt }

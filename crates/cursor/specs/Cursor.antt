@@ -1,6 +1,6 @@
 -- The parser's state as script, tables, scratch memory and cursor hold it, and what every reader may rely on. Assumes nothing.
 -- Scratch memory: the variables' two columns, and behind them the stack of call arguments that wait for their call, two words each.
-use Rattle.std.specs.Prelude.{◌≡◌, List, map, ℕ, ◌+◌, ◌*◌, ◌≤◌, ◌<◌, length, get_or}
+use Rattle.std.specs.Prelude.{◌≡◌, List, map, ℕ, ◌+◌, ◌*◌, ◌/◌, ◌≤◌, ◌<◌, length, get_or}
 use Rattle.std.specs.Prelude.{Option, None, Some}
 use Rattle.std.proofs.Math.Option as M
 use Rattle.ids.specs.declared.BlockId.{BlockId}
@@ -43,6 +43,10 @@ parser_of s m w c =
       block = c.block.0;
       program = View.program_view s m c.counts;
     }
+
+-- the operands that words hold, two words each
+abbrev pub args_in : List ℕ → List P.Opnd
+args_in a = map opnd_of (opnds_in a 0 (length a / 2))
 
 -- n waiting arguments, from the k-th on
 unfoldable pub waiting : List ℕ → ℕ → ℕ → List P.Opnd

@@ -4,6 +4,7 @@ use Rattle.std.specs.Prelude.{Option, Some, None, Result, Ok, Err}
 use Rattle.refusals.specs.declared.Refusal.{Refusal}
 use Rattle.refusals.specs.Refusals.{number_of}
 use Prim.Native.String.{String}
+use Rattle.ids.specs.declared.BlockId.{BlockId}
 use Rattle.ids.specs.declared.ClassId.{ClassId}
 use Rattle.rules.specs.Actions.{Answer, answered, refused, ◌>>=◌, ◌>>◌, give, ask, when◌then◌else◌}
 use Rattle.rules.specs.Lists.{bytes, same}
@@ -18,6 +19,7 @@ use Rattle.variables.specs.Memory.{entry}
 use Rattle.program.specs.View as View
 use Rattle.program.specs.View.{Puts}
 use Rattle.program.specs.declared.Counts.{Counts}
+use Rattle.program.specs.declared.writer.Draft.{Draft}
 use Rattle.program.specs.declared.Opnd.{Opnd}
 use Rattle.program.specs.declared.Name.{Name}
 use Rattle.variables.specs.Layout.{bindings_most, entries_most}
@@ -220,3 +222,15 @@ parsed_at c (Err e) = Refused (number_of e)
 abbrev pub MeansAt : Name → Option ClassId → ℕ → List ℕ → List ℕ → Counts → List ℕ → Result Opnd Refusal → Type 0
 MeansAt n x v s m k w r =
     (c : Cursor) → c.class ≡ x → c.vars ≡ v → c.counts ≡ k → In s m w c → CursorDid (means (name_in s n)) 0 s m w c m w (parsed_of (parsed_at c r))
+
+-- ---- what a block of a draft gets, for every cursor with that block and the draft's counts, whatever scratch memory holds
+
+abbrev pub AddsAt : BlockId → (List ℕ → Reads P.Opnd) → Draft → Draft → Result Opnd Refusal → Type 0
+AddsAt b f d d' r =
+    (s w : List ℕ) (c : Cursor) → c.block ≡ b → c.counts ≡ d.counts → CursorAdds s w (f s) d.words.now c d'.words.now (parsed_of (parsed_at (count_cur d'.counts c) r))
+
+-- the same of a send, which reads the script
+abbrev pub SendsAt : List ℕ → BlockId → Reads P.Opnd → Draft → Draft → Result Opnd Refusal → Type 0
+SendsAt s b f d d' r =
+    (w : List ℕ) (c : Cursor) → c.block ≡ b → c.counts ≡ d.counts → In s d.words.now w c
+    → CursorDid f 0 s d.words.now w c d'.words.now w (parsed_of (parsed_at (count_cur d'.counts c) r))

@@ -11,11 +11,12 @@ ghost use Rattle.rules.specs.Program as P;
 ghost use Rattle.rules.specs.Reading.{push as push_of};
 ghost use Rattle.program.specs.Rows.{opnd_of, op_in, given, name_in};
 ghost use Rattle.program.specs.View.{limits_of, callee_in};
+ghost use Rattle.program.specs.Drafts.{DraftKept};
 ghost use Rattle.memory.specs.Layout.{operands_most};
 ghost use Rattle.cursor.specs.Layout.{scratch_size};
-ghost use Rattle.cursor.specs.Cursor.{waiting};
+ghost use Rattle.cursor.specs.Cursor.{args_in, waiting};
 ghost use Rattle.cursor.specs.Steps.{sets_ivar, gets_ivar, calls, reads_attr, operator_of, weigh as weigh_of};
-ghost use Rattle.cursor.specs.Promises.{Sees, CursorAdds, Stacks, StacksAt};
+ghost use Rattle.cursor.specs.Promises.{Sees, CursorAdds, AddsAt, Stacks, StacksAt};
 
 use ids::{BlockId, ClassId, InsnId};
 use kinds::{Arith, Kind};
@@ -163,12 +164,10 @@ impl<'a> Parser<'a> {
             (push_of (limits_of self.old.program.limits) (P.Send (callee_in s callee) (waiting self.old.scratch.now self.old.args n)))
             self.old.program.words.now (cursor_of self.old) self.new.program.words.now (operand self.new result) }
     {
-        let at = STACK + 2 * self.args;
-        // Shared as a whole and then cut: of a part that the field itself lends, the check doesn't know that it is left as it was.
-        let scratch: &[usize] = &mut *self.scratch;
-        let args = &scratch[at..at + 2 * n];
-        let i = self.program.push_call(self.block, callee, args)?;
-        Ok(Opnd::Insn(i))
+        let k = self.args;
+        // `&mut`, though it is only read: the check takes no shared loan of a field beside a loan that changes another.
+        let args = waiting(&mut *self.scratch, k, n);
+        push_call(&mut self.program, self.block, callee, args)
     }
 
     // The attribute n of the receiver is set.
@@ -217,10 +216,9 @@ impl<'a> Parser<'a> {
             (calls (limits_of self.old.program.limits) (opnd_of v) (waiting self.old.scratch.now self.old.args n))
             self.old.program.words.now (cursor_of self.old) self.new.program.words.now (operand self.new result) }
     {
-        match v {
-            Opnd::Const(Kind::Fun(f)) => self.push_call(Callee::Static(f), n),
-            _ => Err(Refusal::NotCallable),
-        }
+        let k = self.args;
+        let args = waiting(&mut *self.scratch, k, n);
+        bare_call(&mut self.program, self.block, v, args)
     }
 
     // An argument waits behind those that do.
@@ -243,4 +241,46 @@ pub fn push_arg(scratch: &mut [usize], n: usize, v: Opnd) -> usize
 {
     program::put_opnd(scratch, STACK + 2 * n, v);
     n + 1
+}
+
+// The n arguments that stand behind k others.
+#[tactic(auto, using(crate::proofs::Leaves::cut))]
+pub fn waiting(scratch: &[usize], k: usize, n: usize) -> &[usize]
+    requires scratch_size_in_bounds { scratch_size ≤ length scratch.now }
+    requires n_bound { k + n ≤ operands_most }
+    ensures { args_in result.now ≡ waiting scratch.now k n }
+{
+    let at = STACK + 2 * k;
+    &scratch[at..at + 2 * n]
+}
+
+// ---- calls in a block of a draft; the arguments stand in words that are lent to be read
+
+// Stays: a block's number doesn't hold the draft that it belongs to: so that it is one of the draft's is said here and in `terms`.
+
+// A call, its result as an operand.
+pub fn push_call(
+    draft: &mut Draft,
+    b: BlockId,
+    callee: Callee,
+    args: &[usize],
+) -> Result<Opnd, Refusal>
+    requires { b.0 < draft.old.counts.blocks }
+    ensures kept { DraftKept draft.old draft.new }
+    ensures adds { AddsAt b (λ s. push_of (limits_of draft.old.limits) (P.Send (callee_in s callee) (args_in args.now))) draft.old draft.new result }
+{
+    let i = draft.push_call(b, callee, args)?;
+    Ok(Opnd::Insn(i))
+}
+
+// A call of the function that v names.
+pub fn bare_call(draft: &mut Draft, b: BlockId, v: Opnd, args: &[usize]) -> Result<Opnd, Refusal>
+    requires { b.0 < draft.old.counts.blocks }
+    ensures kept { DraftKept draft.old draft.new }
+    ensures adds { AddsAt b (λ s. calls (limits_of draft.old.limits) (opnd_of v) (args_in args.now)) draft.old draft.new result }
+{
+    match v {
+        Opnd::Const(Kind::Fun(f)) => push_call(draft, b, Callee::Static(f), args),
+        _ => Err(Refusal::NotCallable),
+    }
 }

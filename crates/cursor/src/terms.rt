@@ -3,18 +3,20 @@ ghost use Rattle.std.specs.Prelude.{◌≡◌, ℕ, ◌+◌, ◌≤◌, ◌<◌,
 ghost use Rattle.rules.specs.Program as P;
 ghost use Rattle.rules.specs.Reading.{Reads, is_fixed, fixed, create_instance, send as send_of};
 ghost use Rattle.program.specs.Rows.{opnd_of, name_in};
+ghost use Rattle.program.specs.View.{limits_of};
+ghost use Rattle.program.specs.Drafts.{DraftKept};
 ghost use Rattle.memory.specs.Layout.{script_most, operands_most};
 ghost use Rattle.variables.specs.Layout.{bindings_most, entries_most, variables_size};
 ghost use Rattle.cursor.specs.Layout.{scratch_size};
-ghost use Rattle.cursor.specs.Cursor.{waiting};
+ghost use Rattle.cursor.specs.Cursor.{args_in, waiting};
 ghost use Rattle.cursor.specs.Steps.{means};
-ghost use Rattle.cursor.specs.Promises.{Assigns, AssignsAt, MeansAt};
+ghost use Rattle.cursor.specs.Promises.{Assigns, AssignsAt, MeansAt, SendsAt};
 ghost use Rattle.cursor.specs.Parsers.{cursor_of, parsed_in, operand, ParserKept, AddsKept, Reading, ParserDid};
 
-use crate::Parser;
-use ids::ClassId;
+use crate::{Parser, push_call, waiting};
+use ids::{BlockId, ClassId};
 use kinds::Kind;
-use program::{Callee, Given, Name, Op, Opnd, Program};
+use program::{Callee, Draft, Given, Name, Op, Opnd, Program};
 use refusals::Refusal;
 
 // The three fixed values.
@@ -105,27 +107,6 @@ impl<'a> Parser<'a> {
         )
     }
 
-    // ---- sends
-
-    // Stays: that n more arguments find room ties n to those that wait.
-
-    // A New and, where the class has a constructor, the call of it on the new object; without one the arguments are dropped.
-    fn create_instance(&mut self, k: ClassId, n: usize) -> Result<Opnd, Refusal>
-        requires reading { Reading self.old }
-        requires n_bound { self.old.args + n ≤ operands_most }
-        ensures kept { AddsKept self.old self.new }
-        ensures did { (E : ℕ → Reads P.Opnd) → ParserDid
-            (λ L s. create_instance L s E k.0 (waiting self.old.scratch.now self.old.args n)) 0
-            self.old self.new (operand self.new result) }
-    {
-        let o = self.push(Op::New(k), Given::Zero)?;
-        let program = self.program_so_far();
-        if let Some((_, name)) = lookups::constructor_of(&program, k) {
-            self.push_call(Callee::Dynamic(o, name), n)?;
-        }
-        Ok(o)
-    }
-
     // The method n of v, or the class v's `new`, is called with the k arguments that stand behind those that wait.
     pub fn send(&mut self, v: Opnd, n: Name, k: usize) -> Result<Opnd, Refusal>
         requires reading { Reading self.old }
@@ -135,14 +116,57 @@ impl<'a> Parser<'a> {
             (λ L s. send_of L s E (opnd_of v) (name_in s n) (waiting self.old.scratch.now self.old.args k)) 0
             self.old self.new (operand self.new result) }
     {
-        match v {
-            Opnd::Const(Kind::Class(class)) => {
-                if lexer::same_bytes(n.of(self.script), b"new") {
-                    return self.create_instance(class, k);
-                }
-                Err(Refusal::NotCallable)
+        let at = self.args;
+        let args = waiting(&mut *self.scratch, at, k);
+        send(&mut self.program, self.script, self.block, v, n, args)
+    }
+}
+
+// ---- sends in a block of a draft
+
+// A New and, where the class has a constructor, the call of it on the new object; without one the arguments are dropped.
+fn create_instance(
+    draft: &mut Draft,
+    script: &[u8],
+    b: BlockId,
+    k: ClassId,
+    args: &[usize],
+) -> Result<Opnd, Refusal>
+    requires { b.0 < draft.old.counts.blocks }
+    ensures kept { DraftKept draft.old draft.new }
+    ensures did { (E : ℕ → Reads P.Opnd) → SendsAt script.now b (create_instance (limits_of draft.old.limits) script.now E k.0 (args_in args.now))
+        draft.old draft.new result }
+{
+    let i = draft.push_insn(b, Op::New(k), Given::Zero)?;
+    let o = Opnd::Insn(i);
+    let program = draft.program(script);
+    if let Some((_, name)) = lookups::constructor_of(&program, k) {
+        push_call(draft, b, Callee::Dynamic(o, name), args)?;
+    }
+    Ok(o)
+}
+
+// The method n of v, or the class v's `new`, is called.
+pub fn send(
+    draft: &mut Draft,
+    script: &[u8],
+    b: BlockId,
+    v: Opnd,
+    n: Name,
+    args: &[usize],
+) -> Result<Opnd, Refusal>
+    requires { b.0 < draft.old.counts.blocks }
+    ensures kept { DraftKept draft.old draft.new }
+    ensures did { (E : ℕ → Reads P.Opnd) → SendsAt script.now b
+        (send_of (limits_of draft.old.limits) script.now E (opnd_of v) (name_in script.now n) (args_in args.now)) draft.old draft.new result }
+{
+    match v {
+        Opnd::Const(Kind::Class(class)) => {
+            if lexer::same_bytes(n.of(script), b"new") {
+                return create_instance(draft, script, b, class, args);
             }
-            _ => self.push_call(Callee::Dynamic(v, n), k),
+            Err(Refusal::NotCallable)
         }
+        _ => push_call(draft, b, Callee::Dynamic(v, n), args),
     }
 }

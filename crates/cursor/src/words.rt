@@ -30,7 +30,7 @@ pub fn expect_ident(script: &[u8], at: usize) -> Result<(Name, usize), Refusal>
     Ok((n, x.next))
 }
 
-// Stays: the end of text is a `Token`, for the reason that stands there, and isn't asked for: nothing of it could be taken.
+// Stays: the end of text is a `Token` (lexer says why), but has no bytes that could be taken: it is excluded here, below and in `Parser`, and no caller asks for it.
 fn match_word(script: &[u8], at: usize, k: Token) -> Result<Option<usize>, Refusal>
     requires { k ≡ EndOfText → ⊥ }
     ensures { MatchAt script.now k at result }

@@ -128,7 +128,6 @@ pub fn pass_one(state: &Held, x: Pass, o: Opnd) -> Pass
     }
 }
 
-// The first word of a send's row: its receiver stands before its arguments.
 // Stays: that i is one of the program's instructions ties two arguments, since an id doesn't hold its program. Three words of the row are read, where `insn`
 // reads all six and makes the sort, as at sends' `place_of`.
 // Where the argument that call i has for place n stands among the operands.
@@ -212,7 +211,8 @@ pub fn opnd_words(words: &[usize], state: &Held, at: Option<usize>) -> Words
     words_of(state, o)
 }
 
-// Stays: what is known of program and state ties two values that are lent apart, and the function is bounded by the state's sizes.
+// Stays: what is known of program and state ties two values that are lent apart: a struct of both, to be read, would take the clause from two functions, and `param`
+// would make it of that same clause. f is bounded by the state's sizes, since an id doesn't hold them.
 // The arguments for place n of the callers of f, in a pass.
 fn pass_callers(program: &Program, state: &Held, f: FunId, n: usize, start: Pass) -> Pass
     requires flows_known { FlowsOf program.now state.now.sizes state.now.words.now }
@@ -255,6 +255,7 @@ impl Classes {
     }
 
     // Their set; empty where none of the kinds was a set.
+    // Stays: 0 and no `None` where none was a set: sets that were met may have no class in them, and `joined` sends both to the passes by one test.
     fn set(self) -> u64
         ensures { result ≡ set_from self }
     {

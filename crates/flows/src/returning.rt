@@ -40,7 +40,8 @@ fn returned(program: &Program, j: InsnId) -> Opnd
     }
 }
 
-// Stays: what is known of code and state ties two values that are lent apart, and functions and instructions are bounded by the state's sizes.
+// Stays: what is known of code and state ties two values that are lent apart: a struct of both, to be read, would take the clause from four functions, and `call_kind`
+// would make it of that same clause. Functions and instructions are bounded by the state's sizes, since an id doesn't hold them.
 // The operands of the Returns of f, in a pass.
 #[tactic(auto, using(crate::proofs::returning::Passes::back_done))]
 fn pass_returns(code: &Indexed, state: &Held, f: FunId, start: Pass) -> Pass

@@ -30,7 +30,7 @@ module _ (m : List ℕ) (a n : ℕ) (h : a + 2 * n ≤ length m) where
   half : length (slice_range m a (a + 2 * n)) / 2 ≡ n
   half = simp (length-take, length-drop) (omega arith)
 
-  opnds_part : opnds_in (slice_range m a (a + 2 * n)) 0 (length (slice_range m a (a + 2 * n)) / 2) ≡ opnds_in m a n
+  pub opnds_part : opnds_in (slice_range m a (a + 2 * n)) 0 (length (slice_range m a (a + 2 * n)) / 2) ≡ opnds_in m a n
   unfolding opnds_in
   opnds_part =
       rw half
@@ -90,13 +90,6 @@ module _ (L : P.Limits) (b : ℕ) {m : List ℕ} {c : Counts} {m' : List ℕ} {r
       → ProgramDid (pushing_of L b o (given g)) unchanged c.insns (more_insns o (length (given g)) c) m c m' r
   unfolding opnds_in tab
   pushed_bare o g d = let e : length (given g) + 0 ≡ length (given g) = omega arith in rw (append-nil (given g), e) at d
-
--- a call whose n arguments are a part of a memory, from word a on
-pub pushed_part : (L : P.Limits) (b : ℕ) (k : Callee) (args : List ℕ) (a n : ℕ) → a + 2 * n ≤ length args → {x : ℕ} {m : List ℕ} {c : Counts} {m' : List ℕ} {r : Grew}
-    → ProgramDid (call_of L b k (opnds_in (slice_range args a (a + 2 * n)) 0 (length (slice_range args a (a + 2 * n)) / 2))) unchanged x
-    (more_calls k (length (slice_range args a (a + 2 * n)) / 2) c) m c m' r
-    → ProgramDid (call_of L b k (opnds_in args a n)) unchanged x (more_calls k n c) m c m' r
-pushed_part L b k args a n h d = rw (opnds_part args a n h, half args a n h) at d
 
 -- whichever call it is
 module _ {m m' : List ℕ} {c : Counts} (l : Limits) (b : ℕ) (os : List Opnd) (n : ℕ) (g : Grew) {callee : Callee} where

@@ -48,7 +48,8 @@ pub const IVARS: usize = CLASSES + CLASS_WORDS * memory::CLASSES_MOST;
 pub const SIZE: usize = IVARS + IVAR_ROW_WORDS * memory::CLASSES_MOST;
 
 // A place in the script.
-// Stays: the tables hold these two words of each name; `Name::of` gives its bytes.
+// Stays: tables, scratch memory and records hold a name as these two numbers. A function that reads two words as a name, and one that writes them, would be called
+// with the memory and the place and have a clause that both words lie there, at six places of two words; a record has two fields. `Name::of` gives the bytes.
 #[derive(Clone, Copy)]
 pub struct Name {
     pub start: usize,
@@ -134,7 +135,7 @@ pub struct Counts {
 }
 
 // ---- stored forms
-// Stays: the layout of the words is published; a struct for two or three of them, with `From`, would only name the tuple again.
+// Stays: the layout of the words is published; tuples and no structs (for an operand `kinds::Words`), since who asks for the words takes them apart at once, in a `let`.
 
 // The sorts of instructions, as a row's first word has them.
 const JUMP: usize = 0;

@@ -43,19 +43,7 @@ pub record Giving (gives : ℕ → ℕ → Type 0) (n : ℕ) (xs : List ℕ) (i 
   pub each : (t : List ℕ) → GivenBy gives n t → (k : ℕ) → k < i → get_or xs k 0 ≡ get_or t k 0
 
 module _ {gives : ℕ → ℕ → Type 0} {n : ℕ} where
-  pub each_start : (xs : List ℕ) → Giving gives n xs 0
-  each_start xs = record { each = λ t g k lt. absurd (omega arith) }
-
   module _ {i : ℕ} {xs : List ℕ} (m : Giving gives n xs i) (l : length xs ≡ n) where
-    pub each_more : {w : ℕ} → i < length xs → gives i w → Giving gives n (set xs i w) (i + 1)
-    each_more {w} h e = record {
-      each = λ t g k lt.
-          elim (ℕ_discrete k i) [
-            | yes z ↦ rw z (get_or-set_same xs i w 0 h ∙ g.each i w (omega arith) e)
-            | no z ↦ get_or-set_other xs i k w 0 z ∙ m.each t g k (omega arith)
-          ];
-    }
-
     pub each_done : (at : ℕ) (a : List ℕ) → length xs ≤ i → (t : List ℕ) → GivenBy gives n t → put_mid at (at + n - at) a xs ≡ over at t a
     unfolding over
     each_done at a h t g =

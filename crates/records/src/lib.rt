@@ -10,7 +10,7 @@ use ids::BlockId;
 use program::{Op, Program, Row};
 
 // An instruction's record, in plain numbers.
-// Stays: plain fields are the form that document 01 names for this table ("records over plain-field helpers"); a `Row` would hold the same with enums.
+// Stays: for this table document 01 names records of plain fields, with one function that reads one and one that appends; a `Row` would hold the same with enums.
 #[derive(Clone, Copy)]
 pub struct Record {
     pub tag: usize,

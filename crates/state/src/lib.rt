@@ -54,7 +54,8 @@ pub struct State<'a> {
 }
 
 // Where the tables start; kind bytes stand at 0.
-// Stays: tables told apart by where they start, and no struct of slices, since the C interface lends the state's part as one memory.
+// Stays: tables told apart by where they start: of a struct of slices each method would promise that the other tables stay, where `Put` says it of one memory;
+// and before the analysis starts, the reader and the uses work in the same memory.
 pub const BITS: usize = memory::INSTRUCTIONS_MOST;
 
 pub const LIVE: usize = BITS + memory::INSTRUCTIONS_MOST;
@@ -81,10 +82,11 @@ pub const SIZE: usize = BLOCKS + memory::WORKLIST_MOST;
 pub const STATE_LEN: usize = SIZE + memory::INSTRUCTIONS_MOST;
 
 impl Regs {
-    ghost use Rattle.std.specs.Prelude.{◌≡◌, List, ℕ, ◌≤◌};
+    ghost use Rattle.std.specs.Prelude.{◌≡◌, List, ℕ, ◌≤◌, ◌<◌, ◌^◌};
     ghost use Rattle.rules.specs.Machine.{at_rest};
     ghost use Rattle.memory.specs.Layout.{worklist_most};
-    ghost use Rattle.state.specs.View.{Attrs, state_view, no_entries};
+    ghost use Rattle.state.specs.View.{Attrs, state_view, no_entries, StateReady};
+    ghost use Rattle.state.specs.Changes.{TookInsn, TookBlock};
 
     // The registers at the start.
     pub fn no_entries() -> Regs
@@ -105,10 +107,33 @@ impl Regs {
     {
         self.insns.len + self.blocks.len == 0
     }
+
+    // The instruction in front is taken off.
+    pub fn take_insn(&mut self, tables: &Held) -> InsnId
+        requires state_ready { StateReady tables.now.sizes tables.now.words.now self.old }
+        requires len_nonzero { (0 < self.old.insns.len) × (self.old.count < 2 ^ 63) }
+        ensures { TookInsn tables.now.sizes tables.now.words.now self.old result.0 self.new }
+    {
+        self.draining = false;
+        self.count += 1;
+        InsnId(self.insns.take(tables.words, INSNS) as u32)
+    }
+
+    // The block in front is taken off.
+    // Stays: beside `take_insn`, since what the two have in common is `Ring::take`; ring, words, flag and result differ. `State` has a call of each.
+    pub fn take_block(&mut self, tables: &Held) -> BlockId
+        requires state_ready { StateReady tables.now.sizes tables.now.words.now self.old }
+        requires len_nonzero { (0 < self.old.blocks.len) × (self.old.count < 2 ^ 63) }
+        ensures { TookBlock tables.now.sizes tables.now.words.now self.old result.0 self.new }
+    {
+        self.draining = true;
+        self.count += 1;
+        BlockId(self.blocks.take(tables.words, BLOCKS) as u32)
+    }
 }
 
 impl Ring {
-    ghost use Rattle.std.specs.Prelude.{◌≡◌, ◌+◌, ◌≤◌, ◌<◌, length};
+    ghost use Rattle.std.specs.Prelude.{◌≡◌, ◌+◌, ◌≤◌, ◌<◌, length, get_or};
     ghost use Rattle.memory.specs.Layout.{worklist_most};
     ghost use Rattle.state.specs.Rings.{Pushed, behind};
 
@@ -127,15 +152,16 @@ impl Ring {
         }
     }
 
-    // The entry in front is taken off: its place in the ring.
-    fn take(&mut self) -> usize
-        requires { (0 < self.old.len) × (self.old.head < worklist_most) }
-        ensures { (result ≡ self.old.head) × (self.new ≡ behind self.old) }
+    // The entry in front is taken off.
+    fn take(&mut self, words: &[usize], start: usize) -> usize
+        requires head { (0 < self.old.len) × (self.old.head < worklist_most) }
+        requires room { start + worklist_most ≤ length words.now }
+        ensures { (result ≡ get_or words.now (start + self.old.head) 0) × (self.new ≡ behind self.old) }
     {
-        let at = self.head;
-        self.head = (at + 1) % ROOM;
+        let x = words[start + self.head];
+        self.head = (self.head + 1) % ROOM;
         self.len -= 1;
-        at
+        x
     }
 }
 
@@ -388,10 +414,10 @@ impl State<'_> {
         requires len_nonzero { (0 < self.old.regs.insns.len) × (self.old.regs.count < 2 ^ 63) }
         ensures { TookInsn result.0 self.old self.new }
     {
-        let at = INSNS + self.regs.insns.take();
-        self.regs.draining = false;
-        self.regs.count += 1;
-        InsnId(self.words[at] as u32)
+        // Lent as a whole, and then shared, here and in `take_block`: of words that are shared at once the check doesn't know that they are left as they were.
+        let words: &[usize] = &mut *self.words;
+        let sizes = self.sizes;
+        self.regs.take_insn(&Held { words, sizes })
     }
 
     // The instruction in front, which stays there.
@@ -404,15 +430,13 @@ impl State<'_> {
     }
 
     // The block in front is taken off.
-    // Stays: beside `take_insn`, since what the two have in common is `Ring::take`; ring, words, flag and result differ.
     pub fn take_block(&mut self) -> BlockId
         requires len_nonzero { (0 < self.old.regs.blocks.len) × (self.old.regs.count < 2 ^ 63) }
         ensures { TookBlock result.0 self.old self.new }
     {
-        let at = BLOCKS + self.regs.blocks.take();
-        self.regs.draining = true;
-        self.regs.count += 1;
-        BlockId(self.words[at] as u32)
+        let words: &[usize] = &mut *self.words;
+        let sizes = self.sizes;
+        self.regs.take_block(&Held { words, sizes })
     }
 
     // Nothing waits.

@@ -54,15 +54,6 @@ pub record Putting (tags payloads n bits : ℕ) (u₀ u : List ℕ) (a : ℕ) : 
   pub empty : (x : ℕ) → x < n → get_or u (payloads + x) 0 ≡ 0
   pub here : (x : ℕ) → x < a → kind_at u (tags + x) (payloads + x) ≡ start_of (holds x bits)
 
-pub put_start : {tags payloads n bits : ℕ} {u₀ u : List ℕ} → ChainsFilled payloads n 0 u₀ u → Putting tags payloads n bits u₀ u 0
-put_start f =
-    record {
-      high = omega arith;
-      only = record { len_same = f.only.len_same; others = λ i p q. f.only.others i q };
-      empty = f.here;
-      here = λ x h. absurd (omega arith);
-    }
-
 module _ {tags payloads n bits : ℕ} {u₀ u : List ℕ} {a : ℕ} (z : Putting tags payloads n bits u₀ u a) where
   pub put-more : tags + n ≤ payloads → payloads + n ≤ length u₀ → a < n → Putting tags payloads n bits u₀ (set u (tags + a) (1 - bits / 2 ^ a % 2)) (a + 1)
   unfolding holds

@@ -3,7 +3,7 @@ use mathlib.Core.Bool.{Bool, true, false}
 use mathlib.Core.Option.{Option, none, some}
 use mathlib.Core.Path.{◌≡◌, refl, sym, ap, ◌∙◌}
 use mathlib.Core.List.{List, map}
-use Prim.Native.Nat.{ℕ, ◌+◌, ◌≤◌}
+use Prim.Native.Nat.{ℕ}
 use native.Mathlib.Omega.{arith}
 use lib.ListN.{length, get_or}
 use Rattle.ids.specs.declared.ClassId.{ClassId}
@@ -30,8 +30,7 @@ use Rattle.program.specs.declared.Callee.TheVariants.{Dynamic}
 use Rattle.std.specs.declared.option.Option.{Option as Maybe}
 use Rattle.lookups.specs.Look.{fun_found, constructor_found, Constructs, LookKnown}
 use Rattle.phis.specs.Joining.{PhisSets, PhisFinds, var_of}
-use Rattle.memory.specs.Layout.{operands_most}
-use Rattle.cursor.specs.Cursor.{Cursor, parser_of, waiting, bind_cur, In, Open}
+use Rattle.cursor.specs.Cursor.{Cursor, parser_of, bind_cur, In}
 use Rattle.cursor.specs.Steps.{assigns, means}
 use Rattle.cursor.specs.Promises.{Out, done, CursorDid, CursorAdds, Assigns, parsed_of}
 use Rattle.cursor.specs.outcomes.Parsed.{Parsed, Done, Refused}
@@ -150,55 +149,41 @@ pub value-last : (s m w : List ℕ) (c : Cursor) (n : Name) (h : In s m w c) {b 
 value-last s m w c n h q e f g k j (Maybe.Some v) u {p} a b = rw (a v refl) (value_var s m w c n h q e f g k j u refl)
 value-last s m w c n h q e f g k j Maybe.None u {p} a b = rw (b refl) (value_none s m w c n h q e f g k j u refl)
 
-pub open_of : {s m w : List ℕ} {c : Cursor} → In s m w c → Open m c
-open_of h = record { tables = h.ready.tables; block = h.block }
-
 -- ---- sends
 
-same-call : (L : P.Limits) (v : P.Opnd) {a b : P.Name} {x y : ℕ} (w : List ℕ) (n : ℕ) (r : Parser) → a ≡ b → x ≡ y
-    → push L (P.Send (P.Dynamic v a) (waiting w x n)) r ≡ push L (P.Send (P.Dynamic v b) (waiting w y n)) r
-same-call L v w n r p q i = push L (P.Send (P.Dynamic v (p i)) (waiting w (q i) n)) r
-
-module _ (L : P.Limits) (s : List ℕ) (m w : List ℕ) (c : Cursor) (k : ClassId) (n : ℕ) (h : In s m w c) {m1 : List ℕ} {p : Parsed}
-    (a : (z u : List ℕ) → CursorAdds z u (push L (op_in z (New k) (map opnd_of (given Zero)))) m c m1 (parsed_of p)) where
-  pub create_no1 : {e : ℕ} → p ≡ Refused e → (E : ℕ → Reads P.Opnd) → CursorDid (create_instance L s E k.0 (waiting w c.args n)) 0 s m w c m1 w (parsed_of (Refused e))
+module _ (L : P.Limits) (s : List ℕ) (m w : List ℕ) (c : Cursor) (k : ClassId) (l : List P.Opnd) (h : In s m w c) {m1 : List ℕ} {p : Parsed}
+    (a : CursorAdds s w (push L (op_in s (New k) (map opnd_of (given Zero)))) m c m1 (parsed_of p)) where
+  pub create_no1 : {e : ℕ} → p ≡ Refused e → (E : ℕ → Reads P.Opnd) → CursorDid (create_instance L s E k.0 l) 0 s m w c m1 w (parsed_of (Refused e))
   unfolding create_instance
-  create_no1 f E = refuses (rw (← gave (added_did (a s w) h) (ap parsed_of f)))
+  create_no1 f E = refuses (rw (← gave (added_did a h) (ap parsed_of f)))
 
   module _ {c1 : Cursor} {o : Opnd} (f : p ≡ Done c1 o) where
     at_new : Acted (push L (P.New k.0)) 0 s m w c m1 w (opnd_of o) c1
-    at_new = got (added_did (a s w) h) (ap parsed_of f)
-
-    pub new-here : In s m1 w c1
-    new-here = at_new.here
-
-    pub new-args : c.args + n ≤ operands_most → c1.args + n ≤ operands_most
-    new-args l = omega (arith, at_new.step.args)
+    at_new = got (added_did a h) (ap parsed_of f)
 
     module _ {q : Maybe (FunId × Name)} (x : Constructs s m1 c1.counts k.0 q) where
       ctor : {y : Option ℕ} → constructor_found q ≡ y → y ≡ constructor_of (parser_of s m1 w c1).program k.0
       ctor g = sym g ∙ (x.is ∙ ap (λ (z : P.Program). constructor_of z k.0) (sym (program_of s m1 w c1)))
 
-      pub create_bare : q ≡ Maybe.None → (E : ℕ → Reads P.Opnd) → CursorDid (create_instance L s E k.0 (waiting w c.args n)) 0 s m w c m1 w (parsed_of (Done c1 o))
+      pub create_bare : q ≡ Maybe.None → (E : ℕ → Reads P.Opnd) → CursorDid (create_instance L s E k.0 l) 0 s m w c m1 w (parsed_of (Done c1 o))
       unfolding create_instance
-      create_bare g E = arrives at_new.step (omega arith) new-here (rw (← at_new.is, ← ctor (ap constructor_found g)))
+      create_bare g E = arrives at_new.step (omega arith) at_new.here (rw (← at_new.is, ← ctor (ap constructor_found g)))
 
       module _ {i : FunId} {x' : Name} (g : q ≡ Maybe.Some (i, x')) where
         init : name_in s x' ≡ bytes "initialize"
         init = let y = rw g at x in y.named
 
-        called : {m2 : List ℕ} {u : Out P.Opnd} → ((z : List ℕ) → CursorAdds z w (push L (P.Send (callee_in z (Dynamic o x')) (waiting w c1.args n))) m1 c1 m2 u)
-            → CursorDid (push L (P.Send (P.Dynamic (opnd_of o) (bytes "initialize")) (waiting w c.args n))) 0 s m1 w c1 m2 w u
-        called b = ends_as (step-none c1 w) (omega arith) (added_did (b s) new-here) (same-call L (opnd_of o) w n (parser_of s m1 w c1) init at_new.step.args)
+        called : {m2 : List ℕ} {u : Out P.Opnd} → CursorAdds s w (push L (P.Send (callee_in s (Dynamic o x')) l)) m1 c1 m2 u
+            → CursorDid (push L (P.Send (P.Dynamic (opnd_of o) (bytes "initialize")) l)) 0 s m1 w c1 m2 w u
+        called b = rw init at (added_did b at_new.here)
 
-        pub create_no2 : {m2 : List ℕ} {p2 : Parsed} {e : ℕ} → ((z : List ℕ) → CursorAdds z w (push L (P.Send (callee_in z (Dynamic o x')) (waiting w c1.args n))) m1 c1 m2 (parsed_of p2))
-            → p2 ≡ Refused e → (E : ℕ → Reads P.Opnd) → CursorDid (create_instance L s E k.0 (waiting w c.args n)) 0 s m w c m2 w (parsed_of (Refused e))
+        pub create_no2 : {m2 : List ℕ} {p2 : Parsed} {e : ℕ} → CursorAdds s w (push L (P.Send (callee_in s (Dynamic o x')) l)) m1 c1 m2 (parsed_of p2)
+            → p2 ≡ Refused e → (E : ℕ → Reads P.Opnd) → CursorDid (create_instance L s E k.0 l) 0 s m w c m2 w (parsed_of (Refused e))
         unfolding create_instance
         create_no2 b j E = refuses (rw (← at_new.is, ← ctor (ap constructor_found g), ← gave (called b) (ap parsed_of j)))
 
-        pub create_yes : {m2 : List ℕ} {p2 : Parsed} {c2 : Cursor} {o2 : Opnd}
-            → ((z : List ℕ) → CursorAdds z w (push L (P.Send (callee_in z (Dynamic o x')) (waiting w c1.args n))) m1 c1 m2 (parsed_of p2))
-            → p2 ≡ Done c2 o2 → (E : ℕ → Reads P.Opnd) → CursorDid (create_instance L s E k.0 (waiting w c.args n)) 0 s m w c m2 w (parsed_of (Done c2 o))
+        pub create_yes : {m2 : List ℕ} {p2 : Parsed} {c2 : Cursor} {o2 : Opnd} → CursorAdds s w (push L (P.Send (callee_in s (Dynamic o x')) l)) m1 c1 m2 (parsed_of p2)
+            → p2 ≡ Done c2 o2 → (E : ℕ → Reads P.Opnd) → CursorDid (create_instance L s E k.0 l) 0 s m w c m2 w (parsed_of (Done c2 o))
         unfolding create_instance
         create_yes b j E =
             let d = got (called b) (ap parsed_of j) in
@@ -224,23 +209,23 @@ send-stopped : (L : P.Limits) (s : List ℕ) (E : ℕ → Reads P.Opnd) (v : P.O
     → refused 8 ≡ send_by L s E v n l (some c) r
 send-stopped L s E v n l c r e = rw e
 
-module _ (L : P.Limits) (s : List ℕ) (m w : List ℕ) (c : Cursor) (v : Opnd) (n : Name) (k : ℕ) where
+module _ (L : P.Limits) (s : List ℕ) (m w : List ℕ) (c : Cursor) (v : Opnd) (n : Name) (l : List P.Opnd) where
   pub send_dynamic : {m1 : List ℕ} {u : Out P.Opnd} → In s m w c → none ≡ constant_of class_in (opnd_of v)
-      → ((z : List ℕ) → CursorAdds z w (push L (P.Send (callee_in z (Dynamic v n)) (waiting w c.args k))) m c m1 u)
-      → (E : ℕ → Reads P.Opnd) → CursorDid (send L s E (opnd_of v) (name_in s n) (waiting w c.args k)) 0 s m w c m1 w u
+      → CursorAdds s w (push L (P.Send (callee_in s (Dynamic v n)) l)) m c m1 u
+      → (E : ℕ → Reads P.Opnd) → CursorDid (send L s E (opnd_of v) (name_in s n) l) 0 s m w c m1 w u
   send_dynamic h e a E =
-      ends_as (step-none c w) (omega arith) (added_did (a s) h) (send-is L s E (opnd_of v) (name_in s n) (waiting w c.args k) (parser_of s m w c) e)
+      ends_as (step-none c w) (omega arith) (added_did a h) (send-is L s E (opnd_of v) (name_in s n) l (parser_of s m w c) e)
 
   module _ {x : ClassId} (e : some x.0 ≡ constant_of class_in (opnd_of v)) {b : Bool} (q : b ≡ same (name s n.start n.len) (bytes "new")) where
-    pub send-other : {m' : List ℕ} → b ≡ false → (E : ℕ → Reads P.Opnd) → CursorDid (send L s E (opnd_of v) (name_in s n) (waiting w c.args k)) 0 s m w c m' w (parsed_of (Refused 8))
+    pub send-other : {m' : List ℕ} → b ≡ false → (E : ℕ → Reads P.Opnd) → CursorDid (send L s E (opnd_of v) (name_in s n) l) 0 s m w c m' w (parsed_of (Refused 8))
     send-other f E =
         refuses
-        (send-stopped L s E (opnd_of v) (name_in s n) (waiting w c.args k) x.0 (parser_of s m w c) (sym q ∙ f)
-        ∙ send-is L s E (opnd_of v) (name_in s n) (waiting w c.args k) (parser_of s m w c) e)
+        (send-stopped L s E (opnd_of v) (name_in s n) l x.0 (parser_of s m w c) (sym q ∙ f)
+        ∙ send-is L s E (opnd_of v) (name_in s n) l (parser_of s m w c) e)
 
-    pub send-new : {m1 w1 : List ℕ} {u : Out P.Opnd} → b ≡ true → ((E : ℕ → Reads P.Opnd) → CursorDid (create_instance L s E x.0 (waiting w c.args k)) 0 s m w c m1 w1 u)
-        → (E : ℕ → Reads P.Opnd) → CursorDid (send L s E (opnd_of v) (name_in s n) (waiting w c.args k)) 0 s m w c m1 w1 u
+    pub send-new : {m1 w1 : List ℕ} {u : Out P.Opnd} → b ≡ true → ((E : ℕ → Reads P.Opnd) → CursorDid (create_instance L s E x.0 l) 0 s m w c m1 w1 u)
+        → (E : ℕ → Reads P.Opnd) → CursorDid (send L s E (opnd_of v) (name_in s n) l) 0 s m w c m1 w1 u
     send-new f a E =
         ends_as (step-none c w) (omega arith) (a E)
-        (send-made L s E (opnd_of v) (name_in s n) (waiting w c.args k) x.0 (parser_of s m w c) (sym q ∙ f)
-        ∙ send-is L s E (opnd_of v) (name_in s n) (waiting w c.args k) (parser_of s m w c) e)
+        (send-made L s E (opnd_of v) (name_in s n) l x.0 (parser_of s m w c) (sym q ∙ f)
+        ∙ send-is L s E (opnd_of v) (name_in s n) l (parser_of s m w c) e)

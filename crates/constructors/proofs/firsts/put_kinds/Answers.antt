@@ -3,12 +3,9 @@ use mathlib.Core.Path.{◌≡◌, ap, ◌∙◌}
 use Prim.Native.Nat.{◌-◌, ◌/◌, ◌%◌, ◌^◌}
 use native.Mathlib.Omega.{arith}
 use Rattle.kinds.specs.Kinds.{tag_of}
-use Rattle.constructors.proofs.firsts.Laws.{put_start, put-more, put-done}
+use Rattle.constructors.proofs.firsts.Laws.{put-more, put-done}
 use Rattle.constructors.proofs.firsts.put_kinds.Goals.{then-is_set, else-is_set}
 use Rattle.constructors.proofs.firsts.put_kinds.Goals as goal
-
-pub loop-a-init : goal.loop-a-init
-loop-a-init c = put_start c.fill.ensures
 
 pub loop-a-preserved : goal.loop-a-preserved
 loop-a-preserved c =

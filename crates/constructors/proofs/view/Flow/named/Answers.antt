@@ -9,9 +9,6 @@ use Rattle.constructors.proofs.view.Flow.named.Goals as goal
 pub loop-a-init : goal.loop-a-init
 loop-a-init c = name-start _ _ _ _ _
 
-pub is_ivar-requires : goal.is_ivar-requires
-is_ivar-requires c = omega (arith, c.args.self.now.indexed.program.ready.classes, c.args.self.now.indexed.program.ready.ivars _ c.requires)
-
 pub loop-a-preserved : goal.loop-a-preserved
 unfolding is_ivar ivar_row
 loop-a-preserved c =
