@@ -30,7 +30,6 @@ use Rattle.refusals.specs.Refusals.{number_of}
 use Rattle.refusals.specs.declared.Refusal.{Refusal}
 use Rattle.lookups.specs.Look.{constructor_found, Constructs}
 use Rattle.memory.specs.Layout.{ivars_most}
-use Rattle.chains.specs.Chains.{ChainsFilled}
 use Rattle.constructors.specs.Flows.{holds, ivar_in, SureIs, FlowAnalyzed}
 use Rattle.constructors.proofs.Meeting.{holds-none}
 use Rattle.constructors.specs.firsts.Firsts.{start_of, FirstsOnly, PutsKinds, Entries, FirstIs}
