@@ -36,7 +36,7 @@ use Rattle.refusals.specs.Refusals.{number_of}
 use Rattle.memory.specs.Layout.{operands_most}
 use Rattle.program.proofs.Calling.{opnds_part}
 use Rattle.cursor.specs.Layout.{stack_at, scratch_size}
-use Rattle.cursor.specs.Cursor.{parser_of, receiver_of, args_in, waiting, count_cur}
+use Rattle.cursor.specs.Cursor.{parser_of, receiver_of, opnds_of, waiting, count_cur}
 use Rattle.cursor.specs.Steps.{sets_ivar, gets_ivar, calls, reads_attr}
 use Rattle.cursor.specs.Promises.{Out, done, stop, CursorAdds, parsed_of}
 use Rattle.cursor.specs.Cursor.{Cursor}
@@ -89,21 +89,21 @@ call-blocks (Dynamic v x) n c = refl
 module _ (m m' : List ℕ) (c : Cursor) (l : Limits) (k : Callee) (a : List ℕ) (x : Counts) (r : Result InsnId Refusal)
     (d : View.ProgramDid (call_of (limits_of l) c.block.0 k (opnds_in a 0 (length a / 2))) unchanged c.counts.insns (more_calls k (length a / 2) c.counts) m c.counts m' (insn_of x r)) where
   pub call-done : (i : InsnId) → r ≡ Ok i
-      → (s w : List ℕ) → CursorAdds s w (push (limits_of l) (P.Send (callee_in s k) (args_in a))) m c m' (parsed_of (Parsed.Done (count_cur x c) (Insn i)))
+      → (s w : List ℕ) → CursorAdds s w (push (limits_of l) (P.Send (callee_in s k) (opnds_of a))) m c m' (parsed_of (Parsed.Done (count_cur x c) (Insn i)))
   call-done i e s w =
       let h = rw e at d in
       let z = h.ok.counts in
-      adds-grew s w m m' c (limits_of l) (P.Send (callee_in s k) (args_in a)) i.0 x h.ok.ready
+      adds-grew s w m m' c (limits_of l) (P.Send (callee_in s k) (opnds_of a)) i.0 x h.ok.ready
       (ap (λ (y : Counts). y.functions) z ∙ call-functions k (length a / 2) c.counts) (ap (λ (y : Counts). y.classes) z ∙ call-classes k (length a / 2) c.counts)
       (ap (λ (y : Counts). y.blocks) z ∙ call-blocks k (length a / 2) c.counts) (h.is s (parser_of s m w c))
 
   pub call_stops : (e : Refusal) → r ≡ Err e
-      → (s w : List ℕ) → CursorAdds s w (push (limits_of l) (P.Send (callee_in s k) (args_in a))) m c m' (parsed_of (Parsed.Refused (number_of e)))
+      → (s w : List ℕ) → CursorAdds s w (push (limits_of l) (P.Send (callee_in s k) (opnds_of a))) m c m' (parsed_of (Parsed.Refused (number_of e)))
   call_stops e f s w =
-      let h = rw f at d in adds-stop s w m m' c (limits_of l) (P.Send (callee_in s k) (args_in a)) (number_of e) (h.is s (parser_of s m w c))
+      let h = rw f at d in adds-stop s w m m' c (limits_of l) (P.Send (callee_in s k) (opnds_of a)) (number_of e) (h.is s (parser_of s m w c))
 
 -- the words of n waiting arguments hold them
-pub cut : (w : List ℕ) (k n : ℕ) → scratch_size ≤ length w → k + n ≤ operands_most → args_in (slice_range w (stack_at + 2 * k) (stack_at + 2 * k + 2 * n)) ≡ waiting w k n
+pub cut : (w : List ℕ) (k n : ℕ) → scratch_size ≤ length w → k + n ≤ operands_most → opnds_of (slice_range w (stack_at + 2 * k) (stack_at + 2 * k + 2 * n)) ≡ waiting w k n
 unfolding waiting
 cut w k n h l = ap (map opnd_of) (opnds_part w (stack_at + 2 * k) n (omega (arith, h, l)))
 

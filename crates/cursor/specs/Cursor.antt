@@ -45,8 +45,8 @@ parser_of s m w c =
     }
 
 -- the operands that words hold, two words each
-abbrev pub args_in : List ℕ → List P.Opnd
-args_in a = map opnd_of (opnds_in a 0 (length a / 2))
+abbrev pub opnds_of : List ℕ → List P.Opnd
+opnds_of a = map opnd_of (opnds_in a 0 (length a / 2))
 
 -- n waiting arguments, from the k-th on
 unfoldable pub waiting : List ℕ → ℕ → ℕ → List P.Opnd

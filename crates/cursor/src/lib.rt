@@ -14,7 +14,7 @@ ghost use Rattle.program.specs.View.{limits_of, callee_in};
 ghost use Rattle.program.specs.Drafts.{DraftKept};
 ghost use Rattle.memory.specs.Layout.{operands_most};
 ghost use Rattle.cursor.specs.Layout.{scratch_size};
-ghost use Rattle.cursor.specs.Cursor.{args_in, waiting};
+ghost use Rattle.cursor.specs.Cursor.{opnds_of, waiting};
 ghost use Rattle.cursor.specs.Steps.{sets_ivar, gets_ivar, calls, reads_attr, operator_of, weigh as weigh_of};
 ghost use Rattle.cursor.specs.Promises.{Sees, CursorAdds, AddsAt, Stacks, StacksAt};
 
@@ -152,24 +152,6 @@ impl<'a> Parser<'a> {
         Ok(Opnd::Insn(i))
     }
 
-    // Stays: that n more arguments find room ties n to those that wait.
-
-    // A call with the n arguments that stand behind those that wait.
-    pub fn push_call(&mut self, callee: Callee, n: usize) -> Result<Opnd, Refusal>
-        requires can { CanAdd self.old }
-        requires scratch_size_in_bounds { scratch_size ≤ length self.old.scratch.now }
-        requires n_bound { self.old.args + n ≤ operands_most }
-        ensures kept { AddsKept self.old self.new }
-        ensures adds { (s : List ℕ) → CursorAdds s self.old.scratch.now
-            (push_of (limits_of self.old.program.limits) (P.Send (callee_in s callee) (waiting self.old.scratch.now self.old.args n)))
-            self.old.program.words.now (cursor_of self.old) self.new.program.words.now (operand self.new result) }
-    {
-        let k = self.args;
-        // `&mut`, though it is only read: the check takes no shared loan of a field beside a loan that changes another.
-        let args = waiting(&mut *self.scratch, k, n);
-        push_call(&mut self.program, self.block, callee, args)
-    }
-
     // The attribute n of the receiver is set.
     pub fn set_ivar(&mut self, n: Name, v: Opnd) -> Result<Opnd, Refusal>
         requires { CanAdd self.old }
@@ -206,7 +188,9 @@ impl<'a> Parser<'a> {
         self.push(Op::GetIvar(n), Given::One(v))
     }
 
-    // A call of the function that v names.
+    // Stays: that n more arguments find room ties n to those that wait.
+
+    // A call of the function that v names, with the n arguments that stand behind those that wait.
     pub fn bare_call(&mut self, v: Opnd, n: usize) -> Result<Opnd, Refusal>
         requires can { CanAdd self.old }
         requires scratch_size_in_bounds { scratch_size ≤ length self.old.scratch.now }
@@ -217,6 +201,7 @@ impl<'a> Parser<'a> {
             self.old.program.words.now (cursor_of self.old) self.new.program.words.now (operand self.new result) }
     {
         let k = self.args;
+        // `&mut`, though it is only read: the check takes no shared loan of a field beside a loan that changes another.
         let args = waiting(&mut *self.scratch, k, n);
         bare_call(&mut self.program, self.block, v, args)
     }
@@ -248,7 +233,7 @@ pub fn push_arg(scratch: &mut [usize], n: usize, v: Opnd) -> usize
 pub fn waiting(scratch: &[usize], k: usize, n: usize) -> &[usize]
     requires scratch_size_in_bounds { scratch_size ≤ length scratch.now }
     requires n_bound { k + n ≤ operands_most }
-    ensures { args_in result.now ≡ waiting scratch.now k n }
+    ensures { opnds_of result.now ≡ waiting scratch.now k n }
 {
     let at = STACK + 2 * k;
     &scratch[at..at + 2 * n]
@@ -267,7 +252,7 @@ pub fn push_call(
 ) -> Result<Opnd, Refusal>
     requires { b.0 < draft.old.counts.blocks }
     ensures kept { DraftKept draft.old draft.new }
-    ensures adds { AddsAt b (λ s. push_of (limits_of draft.old.limits) (P.Send (callee_in s callee) (args_in args.now))) draft.old draft.new result }
+    ensures adds { AddsAt b (λ s. push_of (limits_of draft.old.limits) (P.Send (callee_in s callee) (opnds_of args.now))) draft.old draft.new result }
 {
     let i = draft.push_call(b, callee, args)?;
     Ok(Opnd::Insn(i))
@@ -277,7 +262,7 @@ pub fn push_call(
 pub fn bare_call(draft: &mut Draft, b: BlockId, v: Opnd, args: &[usize]) -> Result<Opnd, Refusal>
     requires { b.0 < draft.old.counts.blocks }
     ensures kept { DraftKept draft.old draft.new }
-    ensures adds { AddsAt b (λ s. calls (limits_of draft.old.limits) (opnd_of v) (args_in args.now)) draft.old draft.new result }
+    ensures adds { AddsAt b (λ s. calls (limits_of draft.old.limits) (opnd_of v) (opnds_of args.now)) draft.old draft.new result }
 {
     match v {
         Opnd::Const(Kind::Fun(f)) => push_call(draft, b, Callee::Static(f), args),

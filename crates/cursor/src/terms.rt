@@ -8,7 +8,7 @@ ghost use Rattle.program.specs.Drafts.{DraftKept};
 ghost use Rattle.memory.specs.Layout.{script_most, operands_most};
 ghost use Rattle.variables.specs.Layout.{bindings_most, entries_most, variables_size};
 ghost use Rattle.cursor.specs.Layout.{scratch_size};
-ghost use Rattle.cursor.specs.Cursor.{args_in, waiting};
+ghost use Rattle.cursor.specs.Cursor.{opnds_of, waiting};
 ghost use Rattle.cursor.specs.Steps.{means};
 ghost use Rattle.cursor.specs.Promises.{Assigns, AssignsAt, MeansAt, SendsAt};
 ghost use Rattle.cursor.specs.Parsers.{cursor_of, parsed_in, operand, ParserKept, AddsKept, Reading, ParserDid};
@@ -134,7 +134,7 @@ fn create_instance(
 ) -> Result<Opnd, Refusal>
     requires { b.0 < draft.old.counts.blocks }
     ensures kept { DraftKept draft.old draft.new }
-    ensures did { (E : ℕ → Reads P.Opnd) → SendsAt script.now b (create_instance (limits_of draft.old.limits) script.now E k.0 (args_in args.now))
+    ensures did { (E : ℕ → Reads P.Opnd) → SendsAt script.now b (create_instance (limits_of draft.old.limits) script.now E k.0 (opnds_of args.now))
         draft.old draft.new result }
 {
     let i = draft.push_insn(b, Op::New(k), Given::Zero)?;
@@ -158,7 +158,7 @@ pub fn send(
     requires { b.0 < draft.old.counts.blocks }
     ensures kept { DraftKept draft.old draft.new }
     ensures did { (E : ℕ → Reads P.Opnd) → SendsAt script.now b
-        (send_of (limits_of draft.old.limits) script.now E (opnd_of v) (name_in script.now n) (args_in args.now)) draft.old draft.new result }
+        (send_of (limits_of draft.old.limits) script.now E (opnd_of v) (name_in script.now n) (opnds_of args.now)) draft.old draft.new result }
 {
     match v {
         Opnd::Const(Kind::Class(class)) => {
