@@ -107,8 +107,8 @@ pub fn analyze(
     if SCRIPT_MOST < script.len() {
         return Err(Refusal::ScriptTooLong);
     }
-    // Stays: three tests of one refusal and three slices: by `get_mut(..).ok_or(..)?` for each part it was tried, and five goals wanted answers that the check
-    // finds alone so.
+    // Stays: three tests of one refusal and three slices: `get_mut(..).ok_or(..)?` for each part was tried, and is no plainer: some six lines fewer here, and
+    // answers for five goals that the check finds alone so.
     if answer.len() < ANSWER_LEN {
         return Err(Refusal::MemoryTooShort);
     }

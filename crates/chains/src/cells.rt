@@ -29,7 +29,7 @@ impl<'a> Chain<'a> {
         requires stands { ChainStands chains.now n (place_of sort) k }
         ensures { (l : List ℕ) → ChainIs chains.now n (place_of sort) k l → left result ≡ l }
     {
-        let heads = SORT * sort.place();
+        let heads = SORT * usize::from(sort);
         Chain {
             links: &chains[heads + HEADS..heads + HEADS + n],
             at: chains[heads + k],

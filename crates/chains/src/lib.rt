@@ -33,12 +33,11 @@ pub enum Sort {
     Returns,
 }
 
-impl Sort {
-    // Stays: the cast is proved once here; at each use it would be proved again.
-    fn place(self) -> usize
-        ensures { result ≡ place_of self }
-    {
-        self as usize
+impl From<Sort> for usize {
+    ghost from_gives = { λ s n. n ≡ place_of s };
+
+    fn from(s: Sort) -> usize {
+        s as usize
     }
 }
 
@@ -92,7 +91,7 @@ fn chain(program: &Program, scratch: &mut [usize], sort: Sort)
     ensures { Chains program.now.words.now program.now.counts.insns (place_of sort) scratch.old scratch.new }
 {
     let n = program.counts.insns;
-    let heads = SORT * sort.place();
+    let heads = SORT * usize::from(sort);
     fill(scratch, heads, HEADS, n);
     for i in (0..n).rev() {
         if let Some(k) = key_of(program, sort, InsnId(i as u32)) {

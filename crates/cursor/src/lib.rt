@@ -84,6 +84,7 @@ impl<'a> Parser<'a> {
     }
 
     // Whether the next word is the one asked for; if so it is taken.
+    // Stays: the end of text is excluded, here and below, as in `words`.
     pub fn match_token(&mut self, k: Token) -> Result<bool, Refusal>
         requires { k ≡ EndOfText → ⊥ }
         ensures { ParserMatches k self.old self.new result }
@@ -217,6 +218,9 @@ impl<'a> Parser<'a> {
         self.args = push_arg(self.scratch, self.args, v);
     }
 }
+
+// Stays: that scratch memory is large enough is a clause of each function that works in it, here, in `terms` and above: a struct over the `&mut` would promise in each
+// contract that it keeps its loan, a clause for a clause.
 
 // An argument waits behind n others; so many wait then.
 pub fn push_arg(scratch: &mut [usize], n: usize, v: Opnd) -> usize

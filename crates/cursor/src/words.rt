@@ -30,7 +30,8 @@ pub fn expect_ident(script: &[u8], at: usize) -> Result<(Name, usize), Refusal>
     Ok((n, x.next))
 }
 
-// Stays: the end of text is a `Token` (lexer says why), but has no bytes that could be taken: it is excluded here, below and in `Parser`, and no caller asks for it.
+// Stays: the end of text is a `Token` (lexer says why), but has no bytes that could be taken: it is excluded here, below and in `Parser`, and no caller asks for it. A
+// type without it would be a second enum of the other tokens, with a match from one to the other.
 fn match_word(script: &[u8], at: usize, k: Token) -> Result<Option<usize>, Refusal>
     requires { k ≡ EndOfText → ⊥ }
     ensures { MatchAt script.now k at result }

@@ -21,6 +21,7 @@ impl<'a> Callers<'a> {
     ghost use Rattle.state.specs.Changes.{marks_from};
     ghost use Rattle.flows.specs.Left.{callers_left};
 
+    // Stays: f is bounded by the state's sizes, as in `Held`'s readers.
     pub fn of(state: &'a Held<'a>, f: FunId) -> Callers<'a>
         requires { f.0 < state.now.sizes.functions }
         ensures { callers_left result ≡ marks_from (called_of state.now.sizes state.now.words.now) f.0 0 }
@@ -46,7 +47,7 @@ impl<'a> Iterator for Callers<'a> {
 
     #[inline(always)]
     fn next(&mut self) -> Option<InsnId> {
-        // Stays: an iterator keeps the place where it stands, so it counts the words of the row itself.
+        // Stays: a search through the row's words would have the word at hand, with what is left of it, as a case of its own.
         let mut word = self.word;
         let mut left = self.left;
         while left == 0 {

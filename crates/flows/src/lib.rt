@@ -162,6 +162,7 @@ pub fn argument(program: &Program, i: InsnId, n: usize) -> Opnd
 }
 
 // The kind of instruction i, in words: they are read faster than the kind is made.
+// Stays: i is bounded by the state's sizes, as in `Held`'s readers.
 pub fn insn_words(state: &Held, i: InsnId) -> Words
     requires i_lt_insns { i.0 < state.now.sizes.insns }
     ensures { words_of result ≡ get_or (kinds_of state.now.sizes state.now.words.now) i.0 Kind.Empty }
@@ -255,7 +256,7 @@ impl Classes {
     }
 
     // Their set; empty where none of the kinds was a set.
-    // Stays: 0 and no `None` where none was a set: sets that were met may have no class in them, and `joined` sends both to the passes by one test.
+    // Stays: 0 and no `None` where none was a set, as in the definition `join_sets`, whose `None` says that a name or Any was met.
     fn set(self) -> u64
         ensures { result ≡ set_from self }
     {

@@ -29,6 +29,7 @@ fn returned_at(program: &Program, j: InsnId) -> Option<usize>
 }
 
 // The operand of Return j.
+// Stays: beside visits' `operand` and settled's `operand_words` (which says why).
 #[tactic(auto, using(crate::proofs::returning::Sets::returns_some, crate::proofs::returning::Sets::returns_none))]
 fn returned(program: &Program, j: InsnId) -> Opnd
     requires j_lt_insns { j.0 < program.now.counts.insns }

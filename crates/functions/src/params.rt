@@ -19,6 +19,8 @@ const STACK: usize = cursor::STACK;
 
 // ---- names
 
+// Stays: the size of scratch memory is a clause, here and below, as at cursor's `push_arg`.
+
 // A name waits behind k others.
 fn push_name(scratch: &mut [usize], k: usize, n: Name)
     requires scratch_size_in_bounds { scratch_size ≤ length scratch.old }

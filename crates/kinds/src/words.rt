@@ -2,7 +2,7 @@
 use crate::{Kind, tags};
 
 // Stays: two words and no `Kind`: tests of the byte are faster than tests of the kind that it stands for, so rules that join many operands go by these words.
-// With kinds in three functions of sends, rings of parameters took 78 in 100 longer (docs/BENCHMARK.md).
+// With kinds in three functions of sends, rings of parameters took 78 in 100 longer, which is over the bar (docs/DECISIONS.md, 66).
 #[derive(Clone, Copy, PartialEq, Eq)]
 pub struct Words {
     pub tag: usize,

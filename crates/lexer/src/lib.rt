@@ -88,7 +88,7 @@ fn is_sign(b: u8) -> bool
 // ---- runs of bytes
 
 // The place behind the bytes from `at` on that pass the test.
-// Stays: by `position` the words of a script took 5 in 100 more (docs/BENCHMARK.md).
+// By `position` the words of a script take 5 in 100 more instructions (docs/BENCHMARK.md).
 fn behind<F: Fn(u8) -> bool>(script: &[u8], at: usize, test: F) -> usize
     requires { F.IsAlwaysCallable test }
     ensures { (f : ℕ → Bool) → Passes f (F.post test) → result ≡ at + run f (drop at script.now) }

@@ -72,8 +72,8 @@ pub fn is_ivar(program: &Program, k: ClassId, j: usize, wanted: &[u8]) -> bool
 }
 
 // ---- look-ups
-// Stays: a search makes the id of a number in its test, and once more of the number found. Tried: with the ids made first, by `map`, the check no longer finds
-// that each of them has a row, and each search wants an answer for it.
+// Stays: a search makes the id of a number in its test, and once more of the number found. With the ids made first, by `map`, it was tried, and is no plainer: one
+// id fewer in each search, and an answer for each, since the check no longer finds that each id has a row.
 
 // The latest function of a name, methods too.
 pub fn function_named(program: &Program, n: Name) -> Option<FunId>
@@ -172,8 +172,8 @@ pub fn is_terminated(program: &Program, b: BlockId) -> bool
 
 // ---- attributes
 
-// Stays: it writes a row into a lent slice, so it asks that the tables fit in it, as the writers of program's rows do. Written out in `push_ivar` it was tried: the
-// proof closes, with answers twice as long.
+// Stays: it writes a row into a lent slice, so it asks that the tables fit in it, as the writers of program's rows do. Written out in `push_ivar` it was tried, and
+// is no plainer: its head and its clauses go, and the answers are twice as long.
 
 #[tactic(auto, using(crate::proofs::Ivars::ivar_put))]
 fn put_ivar(words: &mut [usize], k: ClassId, j: usize, n: Name)

@@ -46,7 +46,7 @@ fn push_users(program: &Program, users: &[usize], state: &mut State) -> Result<(
     Ok(())
 }
 
-// Stays: program and users apart, and no `Tables`, since these hold chains, which are not read here.
+// Stays: program and users apart, and no `Tables`, since these hold chains, which are not read here; i is bounded by the state's sizes, as in its methods.
 // Kind k is stored for instruction i, and its users in live blocks wait, if the union with the old kind is another.
 pub fn store(
     program: &Program,

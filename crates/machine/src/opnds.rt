@@ -43,6 +43,7 @@ pub fn choose(state: &mut State, o: Opnd, t: BlockId, e: BlockId) -> Result<(), 
 }
 
 // A Return of function f: the callers wait whose kinds the operand's would change.
+// Stays: f is bounded by the state's sizes, as in its methods.
 pub fn give_back(state: &mut State, f: FunId, o: Opnd) -> Result<(), Refusal>
     requires operand_inside { OperandInside state.old.sizes o }
     requires f_lt_functions { f.0 < state.old.sizes.functions }

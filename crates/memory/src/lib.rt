@@ -33,7 +33,7 @@ pub const BLOCKS_ROOM: usize = 1024;
 pub const ROW_WORDS: usize = INSTRUCTIONS_MOST / 64;
 
 // Every place becomes 0.
-// Stays: the library's `fill`, with its contract as the rules' memory has it.
+// Stays: the library's `fill`, with its contract in the rules' words; else each caller would have to show that they mean the same.
 #[tactic(auto, unfolding(crate::specs::Memory::zeros))]
 pub fn clear(words: &mut [usize])
     ensures { words.new ≡ zeros (length words.old) }

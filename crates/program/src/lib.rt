@@ -49,7 +49,7 @@ pub const SIZE: usize = IVARS + IVAR_ROW_WORDS * memory::CLASSES_MOST;
 
 // A place in the script.
 // Stays: tables, scratch memory and records hold a name as these two numbers. A function that reads two words as a name, and one that writes them, would be called
-// with the memory and the place and have a clause that both words lie there, at six places of two words; a record has two fields. `Name::of` gives the bytes.
+// with the memory and the place and have a clause that both words lie there, at seven places of two words; a record has two fields. `Name::of` gives the bytes.
 #[derive(Clone, Copy)]
 pub struct Name {
     pub start: usize,
@@ -90,7 +90,7 @@ pub enum Op {
 }
 
 // An instruction: its operands are a part of the operand table.
-// Stays: the place and the number of its operands in their table, as the row's words have them.
+// Stays: the place and the number of its operands, and no slice of their table: a `Record` is made into a Row too, with no program at hand to lend them from.
 #[derive(Clone, Copy)]
 pub struct Row {
     pub block: BlockId,

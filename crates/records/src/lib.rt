@@ -30,7 +30,7 @@ pub enum Access {
 }
 
 impl Record {
-    // What stands at every place of an empty table.
+    // What stands at every place of an empty table: zeros.
     pub const NONE: Record = Record {
         tag: 0,
         block: 0,

@@ -16,7 +16,7 @@ use state::{Held, State};
 
 // A Param's place.
 // Stays: two words of the row are read, the first as a number, where `insn` reads all six and makes the sort: by its `op` rings of parameters took 6 in 100
-// longer.
+// longer, which is over the bar (docs/DECISIONS.md, 66).
 fn place_of(program: &Program, j: InsnId) -> usize
     requires j_lt_insns { j.0 < program.now.counts.insns }
     ensures { ParamPlaced program.now.words.now program.now.counts j.0 result }

@@ -89,7 +89,8 @@ pub fn stamp(program: &Program, state: &Held, n: Name, i: InsnId, o: Words) -> u
 }
 
 // The kind of operand j of an instruction, in words; Nil where it has none.
-// Stays: beside visits' `operand` and flows' `returned`, which also give Nil where there is none: those give an operand, this its kind in words, which are read faster.
+// Stays: beside visits' `operand`, of a row, and flows' `returned`, of a Return's number, which also give Nil where there is none: they share one test, and give an
+// operand, where this gives its kind in words.
 pub fn operand_words(program: &Program, state: &Held, insn: Record, j: usize) -> Words
     requires count_bound { insn.first + insn.count ≤ program.now.counts.opnds }
     requires operand_inside { j < insn.count → OperandInside state.now.sizes (opnd_at program.now.words.now (opnds_at + 2 * insn.first + 2 * j)) }

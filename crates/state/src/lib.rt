@@ -120,7 +120,7 @@ impl Regs {
     }
 
     // The block in front is taken off.
-    // Stays: beside `take_insn`, since what the two have in common is `Ring::take`; ring, words, flag and result differ. `State` has a call of each.
+    // Stays: beside `take_insn`, since what the two have in common is `Ring::take` and the count; ring, words, flag and result differ. `State` has a call of each.
     pub fn take_block(&mut self, tables: &Held) -> BlockId
         requires state_ready { StateReady tables.now.sizes tables.now.words.now self.old }
         requires len_nonzero { (0 < self.old.blocks.len) × (self.old.count < 2 ^ 63) }

@@ -275,8 +275,8 @@ fn parse_if(p: &mut Parser, depth: usize) -> Result<Opnd, Refusal>
     parse_else(p, q, depth)
 }
 
-// Stays: the clause is about two values, that x is the next word of p; a struct of both would be made for one call and taken apart in it, and
-// without x the word would be read twice.
+// Stays: the clause is about two values, that x is the next word of p: the first step of p past x ends that, and the callers go on with p behind it, so that a struct
+// of both would have to give p back; without x the word would be read twice.
 
 // From the word x on, which is the next.
 #[cycle(statement)]

@@ -15,5 +15,8 @@ pub struct Stored {
 }
 
 impl Stored {
-    pub const NIL: Stored = Stored { tag: 1, bits: 0 };
+    pub const NIL: Stored = Stored {
+        tag: kinds::tags::NIL,
+        bits: 0,
+    };
 }

@@ -36,6 +36,7 @@ struct Visited<'a> {
 
 impl<'a> Visited<'a> {
     // Operand j of the row; Nil where it has none.
+    // Stays: beside flows' `returned` and settled's `operand_words` (which says why).
     fn operand(&self, j: usize) -> Opnd
         ensures { opnd_of result ≡ nth (operands_of self.now.code.now.program.words.now self.now.row) j }
     {
@@ -106,7 +107,8 @@ impl<'a> Visited<'a> {
 }
 
 // Instruction i is visited; row is its row, which is asked once, here: `Visited` holds it.
-// Stays: that tables and state fit is a clause, here and of `rule`, since each is lent apart: so no change of the state has to promise that the tables stay.
+// Stays: that tables and state fit is a clause, here and of `rule`, since each is lent apart: so no change of the state has to promise that the tables stay; and i is
+// bounded by the state's sizes, as in its methods.
 pub fn visit(tables: &Tables, state: &mut State, i: InsnId, row: Row) -> Result<(), Refusal>
     requires analysed { AnalysedIn tables.now state.old }
     requires steady { SteadyIn tables.now state.old }

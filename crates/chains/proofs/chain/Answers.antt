@@ -5,11 +5,11 @@ use Rattle.chains.proofs.Laws.{place_low, chain_start, chain_none, chain_skip, c
 use Rattle.chains.proofs.chain.Goals as goal
 
 pub loop-i-init : goal.loop-i-init
-loop-i-init c = chain_start _ _ _ c.args.scratch.now _ (rw (c.place-heads.ensures) at c.fill.ensures)
+loop-i-init c = chain_start _ _ _ c.args.scratch.now _ (rw (c.from-heads.ensures) at c.fill.ensures)
 
 pub loop-i-preserved-then-k-lt-HEADS : goal.loop-i-preserved-then-k-lt-HEADS
 loop-i-preserved-then-k-lt-HEADS c =
-    rw c.place-heads.ensures
+    rw c.from-heads.ensures
     (chain_more c.loop-i.invariant (omega arith) _ (sym c.in-Some.is ∙ c.key_of.ensures)
     (omega (arith, c.fill.ensures.only.len_same, c.requires))
     c.args.program.now.ready.insns
