@@ -6,10 +6,7 @@ use mathlib.Core.Option.{none, some}
 use mathlib.Core.List.{List, [], ◌∷◌, map}
 use Prim.Native.Nat.{ℕ, zero, suc, ◌+◌, ◌*◌, ◌≤◌, ◌<◌}
 use native.Mathlib.Omega.{arith}
-use borrow.Author.Tests.{ne_eqb}
-use mir.Val.{bool_byte}
 use lib.Bits.{bit_or}
-use lib.Dec.{eqb}
 use lib.ListN.{length, get_or, drop, get_or-eq_default}
 use lib.Seq.{get_or-drop}
 use Rattle.kinds.specs.declared.Kind.{Kind}
@@ -18,8 +15,7 @@ use Rattle.kinds.specs.Kinds.{is_set}
 use Rattle.kinds.specs.Union.{Joined, union_all}
 use Rattle.rules.specs.Actions.{lift}
 use Rattle.rules.specs.Values.{to_answer}
-use Rattle.rules.specs.Lists.{has, cons_if}
-use Rattle.rules.proofs.Exactness.Flows.{row_in}
+use Rattle.rules.specs.Lists.{has}
 use Rattle.rules.specs.Program as P
 use Rattle.rules.specs.Program.{Limits, Program, Param, about, op_of, function_of}
 use Rattle.rules.specs.Machine.{State, marked, kind_of, join_all, opnd_set, callers_of, place_of, argument, flows_in, rule}
@@ -30,19 +26,18 @@ use Rattle.program.specs.declared.Opnd.{Opnd}
 use Rattle.program.specs.declared.Opnd.TheVariants.{Const, Insn}
 use Rattle.program.specs.declared.Counts.{Counts}
 use Rattle.program.specs.declared.reader.Program.{Program as Tables}
-use Rattle.program.specs.Rows.{opnd_of, opnds_in, op_in, op_from}
-use Rattle.program.specs.View.{program_view, ProgramReady}
+use Rattle.program.specs.Rows.{opnd_of, opnds_in, op_in}
+use Rattle.program.specs.declared.Row.{Row}
+use Rattle.program.specs.View.{program_view, ReadsInsn}
 use Rattle.program.proofs.Areas.{given-length}
-use Rattle.program.proofs.Reading.{insn_read, operand_read}
+use Rattle.program.proofs.Reading.{operand_read}
 use Rattle.state.specs.declared.Sizes.{Sizes}
 use Rattle.state.specs.View.{kinds_of, called_of}
 use Rattle.state.specs.View.{state_view}
 use Rattle.state.specs.Changes.{marks_from}
-use Rattle.memory.proofs.tables.Listed.{listed-length, rows_row}
-use Rattle.memory.proofs.tables.Words.{from, from_end, from_at}
 use Rattle.machine.specs.opnds.Reads.{OperandInside, kind_in, StateReads}
 use Rattle.machine.proofs.opnds.Given.{kind_of_lem}
-use Rattle.program.specs.Layout.{insns_at, opnds_at, insn_words}
+use Rattle.program.specs.Layout.{opnds_at}
 use Rattle.flows.specs.declared.Pass.{Pass}
 use Rattle.flows.specs.declared.Classes.{Classes}
 use Rattle.flows.specs.Tally.{Nothing, least, taken_all, finish, union_over, FitsAt, TallyFits}
@@ -56,7 +51,7 @@ use Rattle.flows.proofs.Tallied.{passed_none, passed_append}
 -- ---- arguments
 
 -- how many operands of a sort stand before its arguments
-abbrev skip_of : Op → ℕ
+abbrev pub skip_of : Op → ℕ
 skip_of (Jump b) = 0
 skip_of (IfTrue b e) = 0
 skip_of Return = 0
@@ -89,79 +84,47 @@ at-any [] i d e h = absurd (omega arith)
 at-any (x ∷ l) zero d e h = refl
 at-any (x ∷ l) (suc i) d e h = at-any l i d e (omega arith)
 
-skip-from : (t x y : ℕ) → bool_byte (eqb t 4) ≡ skip_of (op_from t x y)
-unfolding op_from
-skip-from zero x y = refl
-skip-from (suc zero) x y = refl
-skip-from (suc (suc zero)) x y = refl
-skip-from (suc (suc (suc zero))) x y = refl
-skip-from (suc (suc (suc (suc zero)))) x y = refl
-skip-from (suc (suc (suc (suc (suc zero))))) x y = refl
-skip-from (suc (suc (suc (suc (suc (suc zero)))))) x y = refl
-skip-from (suc (suc (suc (suc (suc (suc (suc zero))))))) x y = refl
-skip-from (suc (suc (suc (suc (suc (suc (suc (suc zero)))))))) x y = refl
-skip-from (suc (suc (suc (suc (suc (suc (suc (suc (suc zero))))))))) x y = refl
-skip-from (suc (suc (suc (suc (suc (suc (suc (suc (suc (suc zero)))))))))) x y = refl
-skip-from (suc (suc (suc (suc (suc (suc (suc (suc (suc (suc (suc zero))))))))))) x y = refl
-skip-from (suc (suc (suc (suc (suc (suc (suc (suc (suc (suc (suc (suc zero)))))))))))) x y = refl
-skip-from (suc (suc (suc (suc (suc (suc (suc (suc (suc (suc (suc (suc (suc zero))))))))))))) x y = refl
-skip-from (suc (suc (suc (suc (suc (suc (suc (suc (suc (suc (suc (suc (suc (suc n)))))))))))))) x y =
-    ap bool_byte (ne_eqb (suc (suc (suc (suc (suc (suc (suc (suc (suc (suc (suc (suc (suc (suc n)))))))))))))) 4 (λ e. omega arith))
+-- a row's operands lie in their table
+pub row_inside : (p : Tables) {i : ℕ} {x : Row} → ReadsInsn p.words.now p.counts i x → x.first + x.count ≤ opnds_at
+row_inside p d = let a = d.range in let b = p.ready.opnds in let d = p.ready.listed in let e = p.ready.insns in omega arith
 
--- the words of i's row
-pub row_range : (m : List ℕ) (c : Counts) (i : ℕ) → ProgramReady m c → i < c.insns → get_or m (insns_at + insn_words * i + 4) 0 + get_or m (insns_at + insn_words * i + 5) 0 ≤ opnds_at
-row_range m c i r below = let a = (insn_read i r below refl).range in let b = r.opnds in let d = r.listed in let e = r.insns in omega arith
-
-pub row_inside : (p : Tables) (i : ℕ) → i < p.counts.insns
-    → get_or p.words.now (insns_at + insn_words * i + 4) 0 + get_or p.words.now (insns_at + insn_words * i + 5) 0 ≤ opnds_at
-row_inside p i = row_range p.words.now p.counts i p.ready
-
-module _ (p : Tables) (i n : ℕ) (below : i < p.counts.insns) where
+module _ (p : Tables) (i n : ℕ) {x : Row} (d : ReadsInsn p.words.now p.counts i x) where
   abbrev m : List ℕ
   m = p.words.now
 
   abbrev c : Counts
   c = p.counts
 
-  abbrev first : ℕ
-  first = get_or m (insns_at + insn_words * i + 4) 0
-
-  abbrev count : ℕ
-  count = get_or m (insns_at + insn_words * i + 5) 0
-
   abbrev skip : ℕ
-  skip = bool_byte (eqb (get_or m (insns_at + insn_words * i) 0) 4)
+  skip = skip_of x.op
 
   abbrev given : List P.Opnd
-  given = map opnd_of (opnds_in m (opnds_at + 2 * first) count)
+  given = map opnd_of (opnds_in m (opnds_at + 2 * x.first) x.count)
 
   argument_is : (L : Limits) (s : List ℕ) → has (about (op_of (program_view s m c) i)).callee ≡ true → argument L (program_view s m c) n i ≡ get_or given (skip + n) (P.Const Empty)
   argument_is L s h =
-      let o : Op = op_from (get_or m (insns_at + insn_words * i) 0) (get_or m (insns_at + insn_words * i + 2) 0) (get_or m (insns_at + insn_words * i + 3) 0) in
-      let e : op_of (program_view s m c) i ≡ op_in s o given = ap (λ (y : P.Instruction). y.op) ((insn_read i p.ready below refl).is s) in
-      let g : has (about (op_in s o given)).callee ≡ true = rw e at h in
+      let e : op_of (program_view s m c) i ≡ op_in s x.op given = ap (λ (y : P.Instruction). y.op) (d.is s) in
+      let g : has (about (op_in s x.op given)).callee ≡ true = rw e at h in
       ap (λ (y : P.Op). get_or (about y).listed n (P.Const Empty)) e
-      ∙ ap (λ (y : List P.Opnd). get_or y n (P.Const Empty)) (listed-is s o given g)
-      ∙ get_or-drop (skip_of o) given n (P.Const Empty)
-      ∙ ap (λ (y : ℕ). get_or given (y + n) (P.Const Empty)) (sym (skip-from (get_or m (insns_at + insn_words * i) 0)
-      (get_or m (insns_at + insn_words * i + 2) 0) (get_or m (insns_at + insn_words * i + 3) 0)))
+      ∙ ap (λ (y : List P.Opnd). get_or y n (P.Const Empty)) (listed-is s x.op given g)
+      ∙ get_or-drop skip given n (P.Const Empty)
 
-  pub argument-here : skip + n < count → ArguesAt m c i n (Some (opnds_at + 2 * first + 2 * (skip + n)))
+  pub argument-here : skip + n < x.count → ArguesAt m c i n (Some (opnds_at + 2 * x.first + 2 * (skip + n)))
   argument-here lt = record {
     is = record {
       is = λ L s h.
-          operand_read m (opnds_at + 2 * first) count (skip + n) lt refl
-          ∙ at-any given (skip + n) (P.Const Nil) (P.Const Empty) (let k = given-length m (opnds_at + 2 * first) count in omega arith)
+          operand_read m (opnds_at + 2 * x.first) x.count (skip + n) lt refl
+          ∙ at-any given (skip + n) (P.Const Nil) (P.Const Empty) (let k = given-length m (opnds_at + 2 * x.first) x.count in omega arith)
           ∙ sym (argument_is L s h);
     };
-    inside = let a = row_range m c i p.ready below in let b = p.ready.len_mem in omega arith;
+    inside = let a = row_inside p d in let b = p.ready.len_mem in omega arith;
   }
 
-  pub argument-none : count ≤ skip + n → ArguesAt m c i n None
+  pub argument-none : x.count ≤ skip + n → ArguesAt m c i n None
   argument-none le = record {
     is = record {
       is = λ L s h.
-          sym (argument_is L s h ∙ get_or-eq_default given (P.Const Empty) (let k = given-length m (opnds_at + 2 * first) count in omega arith));
+          sym (argument_is L s h ∙ get_or-eq_default given (P.Const Empty) (let k = given-length m (opnds_at + 2 * x.first) x.count in omega arith));
     };
     inside = tt;
   }

@@ -1,20 +1,13 @@
 -- Where an operand stands, and its kind in words. Assumes nothing.
-use Rattle.std.specs.Prelude.{Option, Some, None, Some as Set, None as Other}
+use Rattle.std.specs.Prelude.{Option, Some, None}
 use mathlib.Core.Path.{◌≡◌, refl, sym, ap, ◌∙◌}
 use mathlib.Core.List.{List}
-use Prim.Native.Nat.{ℕ, ◌+◌, ◌%◌, ◌^◌, ◌≤◌, ◌<◌}
-use borrow.Author.Tests.{ne_eqb, lt-ltb, ltb-true, ltb-false, eqb-false}
+use Prim.Native.Nat.{ℕ, ◌+◌, ◌%◌, ◌^◌, ◌<◌}
 use native.Mathlib.Omega.{arith}
-use lib.Dec.{eqb, ltb}
-use mathlib.Core.Bool.{Bool as 𝔹, cond, ◌||◌}
-use mathlib.Core.Logic.{◌⊎◌, inl, inr}
 use lib.ListN.{get_or}
-use Rattle.ids.proofs.Bits.{Either, yes, no, either}
 use Rattle.kinds.specs.declared.Kind.{Kind}
 use Rattle.kinds.specs.declared.Kind.TheVariants.{Empty}
-use Rattle.kinds.specs.Kinds.{tag_of, kind_from, is_empty, is_name, is_set, is_any}
-use Rattle.kinds.specs.Union.{set_of}
-use Rattle.kinds.proofs.Same.{past, tag-from}
+use Rattle.kinds.specs.Kinds.{kind_from}
 use Rattle.program.specs.declared.Counts.{Counts}
 use Rattle.program.specs.declared.Opnd.{Opnd}
 use Rattle.program.specs.declared.Opnd.TheVariants.{Const}
@@ -23,7 +16,6 @@ use Rattle.program.proofs.Forms.{opnd_insn, opnd_const}
 use Rattle.state.specs.declared.Sizes.{Sizes}
 use Rattle.machine.specs.opnds.Reads.{OperandInside, kind_in}
 use Rattle.machine.proofs.opnds.Given.{inside-at, const_read, insn_read}
-use Rattle.kinds.specs.InWords.{as_set}
 use Rattle.flows.specs.Flows.{Argues, standing, ArguesAt}
 
 module _ (m : List ℕ) {r : Option ℕ} where

@@ -3,8 +3,8 @@ use Rattle.std.specs.Prelude.{Bool as 𝔹, true, cond, ◌||◌, ◌≡◌, Lis
 use Rattle.std.specs.Int.Bits.{bit_or}
 use Rattle.kinds.specs.declared.Kind.{Kind}
 use Rattle.kinds.specs.declared.Kind.TheVariants.{Empty, Objects}
-use Rattle.kinds.specs.Kinds.{kind_from, is_set}
-use Rattle.kinds.specs.Union.{Joined, set_of, is_alone}
+use Rattle.kinds.specs.Kinds.{is_set}
+use Rattle.kinds.specs.Union.{Joined}
 use Rattle.rules.specs.Lists.{has}
 use Rattle.rules.specs.Program as P
 use Rattle.rules.specs.Program.{Limits, Program, Param, about, op_of, function_of}

@@ -17,7 +17,7 @@ ghost use Rattle.flows.specs.Flows.{tally_of, TallyAdds, Passed, Argues, standin
 use calls::Callers;
 use ids::{FunId, InsnId};
 use kinds::{Kind, Words};
-use program::{Opnd, Program};
+use program::{Op, Opnd, Program};
 use refusals::Refusal;
 use state::Held;
 
@@ -128,22 +128,19 @@ pub fn pass_one(state: &Held, x: Pass, o: Opnd) -> Pass
     }
 }
 
-// Stays: that i is one of the program's instructions ties two arguments, since an id doesn't hold its program. Three words of the row are read, where `insn`
-// reads all six and makes the sort, as at sends' `place_of`.
+// Stays: that i is one of the program's instructions ties two arguments, since an id doesn't hold its program.
 // Where the argument that call i has for place n stands among the operands.
 #[tactic(auto, using(crate::proofs::Callers::row_inside))]
 pub fn argument_at(program: &Program, i: InsnId, n: usize) -> Option<usize>
     requires i_lt_insns { i.0 < program.now.counts.insns }
     ensures { ArguesAt program.now.words.now program.now.counts i.0 n result }
 {
-    let at = program::INSNS + program::INSN_WORDS * i.index();
-    let skip = (program.words[at] == program::SEND_DYNAMIC) as usize;
-    let first = program.words[at + 4];
-    let count = program.words[at + 5];
-    if n < count {
+    let row = program.insn(i);
+    let skip = matches!(row.op, Op::SendDynamic(_)) as usize;
+    if n < row.count {
         let j = skip + n;
-        if j < count {
-            return Some(program::OPNDS + 2 * first + 2 * j);
+        if j < row.count {
+            return Some(program::OPNDS + 2 * row.first + 2 * j);
         }
     }
     None

@@ -19,11 +19,9 @@ fn returned_at(program: &Program, j: InsnId) -> Option<usize>
     requires j_lt_insns { j.0 < program.now.counts.insns }
     ensures { ReturnsAt program.now.words.now program.now.counts j.0 result }
 {
-    let at = program::INSNS + program::INSN_WORDS * j.index();
-    let first = program.words[at + 4];
-    let count = program.words[at + 5];
-    if 0 < count {
-        return Some(program::OPNDS + 2 * first);
+    let row = program.insn(j);
+    if 0 < row.count {
+        return Some(program::OPNDS + 2 * row.first);
     }
     None
 }
@@ -41,8 +39,9 @@ fn returned(program: &Program, j: InsnId) -> Opnd
     }
 }
 
-// Stays: what is known of code and state ties two values that are lent apart: a struct of both, to be read, would take the clause from four functions, and `call_kind`
-// would make it of that same clause. Functions and instructions are bounded by the state's sizes, since an id doesn't hold them.
+// Stays: what is known of code and state ties two values that are lent apart. A struct of both, to be read, was tried and proved: it takes the clause from four
+// functions, but is three lines longer, its promises name all through `self.now`, and its field must be truncated, since `Backs` holds a script. Functions and
+// instructions are bounded by the state's sizes, since an id doesn't hold them.
 // The operands of the Returns of f, in a pass.
 #[tactic(auto, using(crate::proofs::returning::Passes::back_done))]
 fn pass_returns(code: &Indexed, state: &Held, f: FunId, start: Pass) -> Pass

@@ -11,15 +11,11 @@ use Rattle.kinds.specs.declared.Kind.TheVariants as K
 use Rattle.program.specs.Rows.{opnd_from, op_from}
 use Rattle.program.specs.declared.Opnd.{Opnd}
 use Rattle.program.specs.declared.Opnd.TheVariants.{Const, Insn}
-use Rattle.program.specs.declared.Op.TheVariants.{Param, GetIvar, SetIvar}
+use Rattle.program.specs.declared.Op.TheVariants.{GetIvar, SetIvar}
 
 -- ---- sorts, read by their tag
 
 module _ {t : ℕ} (x y : ℕ) where
-  pub op_10 : t ≡ 10 → Param x ≡ op_from t x y
-  unfolding op_from
-  op_10 e = rw e
-
   pub op_13 : t ≡ 13 → GetIvar (record { start = x; len = y }) ≡ op_from t x y
   unfolding op_from
   op_13 e = rw e

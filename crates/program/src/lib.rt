@@ -146,7 +146,7 @@ const RETURN: usize = 2;
 
 const SEND_STATIC: usize = 3;
 
-pub const SEND_DYNAMIC: usize = 4;
+const SEND_DYNAMIC: usize = 4;
 
 const ADD: usize = 5;
 
@@ -158,7 +158,7 @@ const LESS: usize = 8;
 
 const PHI: usize = 9;
 
-pub const PARAM: usize = 10;
+const PARAM: usize = 10;
 
 const SELF_PARAM: usize = 11;
 

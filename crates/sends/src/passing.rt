@@ -10,22 +10,19 @@ ghost use Rattle.sends.specs.passing.Passing.{pass_to, ParamPlaced, HasParams, C
 use chains::{Chain, Sort};
 use ids::{BlockId, InsnId};
 use kinds::Words;
-use program::Program;
+use program::{Op, Program};
 use refusals::Refusal;
 use state::{Held, State};
 
 // A Param's place.
-// Stays: two words of the row are read, the first as a number, where `insn` reads all six and makes the sort: by its `op` rings of parameters took 6 in 100
-// longer, which is over the bar (docs/DECISIONS.md, 66).
 fn place_of(program: &Program, j: InsnId) -> usize
     requires j_lt_insns { j.0 < program.now.counts.insns }
     ensures { ParamPlaced program.now.words.now program.now.counts j.0 result }
 {
-    let at = program::INSNS + program::INSN_WORDS * j.index();
-    if program.words[at] == program::PARAM {
-        return program.words[at + 2];
+    match program.insn(j).op {
+        Op::Param(n) => n,
+        _ => 0,
     }
-    0
 }
 
 // The kind of the argument that call i has for Param j, in words.

@@ -1,11 +1,11 @@
 -- Where a returned operand stands, and the classes of what has flowed back to a call, joined at once. Assumes nothing.
 use Rattle.std.specs.Prelude.{Option, Ok as Of, Some, None}
 use mathlib.Core.Bool.{Bool as 𝔹, true, false}
-use mathlib.Core.Path.{◌≡◌, refl, sym, ap, ◌∙◌}
+use mathlib.Core.Path.{◌≡◌, sym, ap, ◌∙◌}
 use mathlib.Core.List.{List, [], ◌∷◌, ◌++◌}
 use Prim.Native.Nat.{ℕ, suc, ◌+◌, ◌*◌, ◌≤◌, ◌<◌}
 use native.Mathlib.Omega.{arith}
-use lib.ListN.{length, get_or}
+use lib.ListN.{length}
 use Rattle.kinds.specs.declared.Kind.{Kind}
 use Rattle.kinds.specs.declared.Kind.TheVariants.{Nil, Objects}
 use Rattle.rules.specs.Program as P
@@ -15,16 +15,18 @@ use Rattle.program.specs.declared.Opnd.TheVariants.{Const}
 use Rattle.program.specs.declared.reader.Program.{Program as Tables}
 use Rattle.program.specs.declared.Counts.{Counts}
 use Rattle.program.specs.Rows.{opnd_of, opnd_at}
+use Rattle.program.specs.declared.Row.{Row}
+use Rattle.program.specs.View.{ReadsInsn}
 use Rattle.program.specs.View.{program_view}
-use Rattle.program.proofs.Reading.{insn_read, operand_read}
+use Rattle.program.proofs.Reading.{operand_read}
 use Rattle.state.specs.declared.Sizes.{Sizes}
 use Rattle.state.specs.View.{kinds_of, called_of}
 use Rattle.state.proofs.Tables.{called-length}
 use Rattle.machine.specs.opnds.Reads.{kind_in, StateReads}
-use Rattle.program.specs.Layout.{insns_at, opnds_at, insn_words}
+use Rattle.program.specs.Layout.{opnds_at}
 use Rattle.flows.specs.declared.Classes.{Classes}
 use Rattle.flows.specs.Flows.{with_kind, set_from, join_sets}
-use Rattle.flows.proofs.Callers.{join_step, join-none, row_range}
+use Rattle.flows.proofs.Callers.{join_step, join-none, row_inside}
 use Rattle.flows.proofs.Sets.{sets-union}
 use Rattle.flows.specs.returning.Returning.{call_kind, Returns, ReturnsAt, back_from, BackIn, JoinsBack, JoinedAll}
 use Rattle.flows.proofs.returning.Opnds.{returned-some, returned_none}
@@ -32,25 +34,19 @@ use Rattle.flows.proofs.returning.Passes.{Walking, walk_more, walk_done, back_pa
 
 -- ---- where a returned operand stands
 
-module _ (p : Tables) (j : ℕ) (below : j < p.counts.insns) where
+module _ (p : Tables) (j : ℕ) {x : Row} (d : ReadsInsn p.words.now p.counts j x) where
   abbrev m : List ℕ
   m = p.words.now
 
-  abbrev first : ℕ
-  first = get_or m (insns_at + insn_words * j + 4) 0
-
-  abbrev count : ℕ
-  count = get_or m (insns_at + insn_words * j + 5) 0
-
-  pub return_here : 0 < count → ReturnsAt m p.counts j (Some (opnds_at + 2 * first))
+  pub return_here : 0 < x.count → ReturnsAt m p.counts j (Some (opnds_at + 2 * x.first))
   return_here lt =
-      let e : opnds_at + 2 * first ≡ opnds_at + 2 * first + 2 * 0 = omega arith in
-      let a = row_range m p.counts j p.ready below in
+      let e : opnds_at + 2 * x.first ≡ opnds_at + 2 * x.first + 2 * 0 = omega arith in
+      let a = row_inside p d in
       let b = p.ready.len_mem in
-      (returned-some m p.counts j (insn_read j p.ready below refl) (operand_read m (opnds_at + 2 * first) count 0 lt (ap (opnd_at m) e)), omega arith)
+      (returned-some m p.counts j d (operand_read m (opnds_at + 2 * x.first) x.count 0 lt (ap (opnd_at m) e)), omega arith)
 
-  pub return_none : count ≤ 0 → ReturnsAt m p.counts j None
-  return_none le = returned_none m p.counts j (insn_read j p.ready below refl) le
+  pub return_none : x.count ≤ 0 → ReturnsAt m p.counts j None
+  return_none le = returned_none m p.counts j d le
 
 module _ {m : List ℕ} {c : Counts} {j : ℕ} {r : Option ℕ} (h : ReturnsAt m c j r) where
   pub returns_some : (at : ℕ) {o : Opnd} → r ≡ Some at → o ≡ opnd_at m at → Returns m c j o

@@ -1,7 +1,6 @@
 -- One Param, the loop of pass_arguments, and that of count_params. Assumes nothing.
 use mathlib.Core.Path.{◌≡◌, refl, sym, ap, subst, ◌∙◌}
-use mathlib.Core.Option.{none, some}
-use Prim.Native.Nat.{ℕ, zero, suc, ◌+◌, ◌*◌, ◌<◌}
+use Prim.Native.Nat.{ℕ}
 use borrow.Author.Tests.{ne_eqb, eqb-true, eqb-false}
 use Rattle.std.proofs.lemmas.Bool.{and_parts}
 use lib.Bits.{bit_or, or_zero_r}
@@ -30,11 +29,8 @@ use Rattle.rules.specs.Machine as R
 use Rattle.rules.specs.Machine.{kind_of, push_insn, wake_if_wider, place_of, argument, pass_arguments}
 use Rattle.program.specs.declared.Opnd.{Opnd}
 use Rattle.program.specs.declared.Counts.{Counts}
-use Rattle.program.specs.Rows.{opnd_of, op_in, op_from}
+use Rattle.program.specs.Rows.{opnd_of}
 use Rattle.program.specs.View.{program_view}
-use Rattle.program.specs.View.{ProgramReady}
-use Rattle.program.proofs.Forms.{op_10}
-use Rattle.program.proofs.Reading.{insn_read}
 use Rattle.state.specs.declared.Sizes.{Sizes}
 use Rattle.state.specs.declared.Regs.{Regs}
 use Rattle.state.specs.declared.State.{State}
@@ -48,44 +44,9 @@ use Rattle.kinds.specs.InWords.{as_set}
 use Rattle.flows.specs.Flows.{Argues}
 use Rattle.flows.proofs.Callers.{fits-inside}
 use Rattle.kinds.proofs.Told.{set_tag}
-use Rattle.program.specs.Layout.{insns_at, insn_words}
 use Rattle.sends.specs.passing.Passing.{pass_to, HasParams, Caller, ParamPlaced, ArgumentPasses, Widens, Keeps, CallIn, PassIn, PassIdle, CoversTells}
 
 -- ---- one Param
-
-abbrev place_in : P.Op → ℕ
-place_in o = elim (about o).place [ none ↦ 0 | some n ↦ n ]
-
-place_none : (s : List ℕ) (t x y : ℕ) (l : List P.Opnd) → (t ≡ 10 → ⊥) → place_in (op_in s (op_from t x y) l) ≡ 0
-unfolding op_from
-place_none s zero x y l h = refl
-place_none s (suc zero) x y l h = refl
-place_none s (suc (suc zero)) x y l h = refl
-place_none s (suc (suc (suc zero))) x y l h = refl
-place_none s (suc (suc (suc (suc zero)))) x y l h = refl
-place_none s (suc (suc (suc (suc (suc zero))))) x y l h = refl
-place_none s (suc (suc (suc (suc (suc (suc zero)))))) x y l h = refl
-place_none s (suc (suc (suc (suc (suc (suc (suc zero))))))) x y l h = refl
-place_none s (suc (suc (suc (suc (suc (suc (suc (suc zero)))))))) x y l h = refl
-place_none s (suc (suc (suc (suc (suc (suc (suc (suc (suc zero))))))))) x y l h = refl
-place_none s (suc (suc (suc (suc (suc (suc (suc (suc (suc (suc zero)))))))))) x y l h = absurd (h refl)
-place_none s (suc (suc (suc (suc (suc (suc (suc (suc (suc (suc (suc zero))))))))))) x y l h = refl
-place_none s (suc (suc (suc (suc (suc (suc (suc (suc (suc (suc (suc (suc zero)))))))))))) x y l h = refl
-place_none s (suc (suc (suc (suc (suc (suc (suc (suc (suc (suc (suc (suc (suc zero))))))))))))) x y l h = refl
-place_none s (suc (suc (suc (suc (suc (suc (suc (suc (suc (suc (suc (suc (suc (suc n)))))))))))))) x y l h = refl
-
-module _ (m : List ℕ) (c : Counts) (j : ℕ) (r : ProgramReady m c) (below : j < c.insns) where
-  pub placed_param : get_or m (insns_at + insn_words * j) 0 ≡ 10 → ParamPlaced m c j (get_or m (insns_at + insn_words * j + 2) 0)
-  placed_param e = record {
-    is = λ L s. ap (λ (y : P.Instruction). place_in y.op) ((insn_read j r below (op_10 (get_or m (insns_at + insn_words * j + 2) 0) (get_or m (insns_at + insn_words * j + 3) 0) e)).is s);
-  }
-
-  pub placed_none : (get_or m (insns_at + insn_words * j) 0 ≡ 10 → ⊥) → ParamPlaced m c j 0
-  placed_none h = record {
-    is = λ L s.
-        ap (λ (y : P.Instruction). place_in y.op) ((insn_read j r below refl).is s)
-        ∙ place_none s (get_or m (insns_at + insn_words * j) 0) (get_or m (insns_at + insn_words * j + 2) 0) (get_or m (insns_at + insn_words * j + 3) 0) _ h;
-  }
 
 pub argument-inside : {m : List ℕ} {c : Counts} {z : Sizes} {i : ℕ} (n : ℕ) {o : Opnd} → Caller m c z i → Argues m c i n o → OperandInside z o
 argument-inside {z = z} n {o} g a = fits-inside z o (rw (a.is P.limits g.script g.call) (g.listed n))
