@@ -15,6 +15,7 @@ use refusals::Refusal;
 use state::{Held, State};
 
 // A Param's place.
+// Stays: that j is one of the program's instructions ties two arguments, since an id doesn't hold its program.
 fn place_of(program: &Program, j: InsnId) -> usize
     requires j_lt_insns { j.0 < program.now.counts.insns }
     ensures { ParamPlaced program.now.words.now program.now.counts j.0 result }
