@@ -75,7 +75,6 @@ struct Writer<'a> {
     /// instructions may still be added here
     budget: usize,
     nesting: usize,
-    dead: bool,
     fuel: usize,
 }
 
@@ -277,8 +276,7 @@ impl Writer<'_> {
             (Sort::Object, _) => self.leaf(sort),
             (_, 0..=4) if sort != Sort::Plain => {
                 self.expression(Sort::Number);
-                let sign = *self.rng.pick(&["+", "*", "+", "*", "<"]);
-                let sign = if (self.dead && self.rng.percent(40)) || self.rng.below(300) == 0 { "-" } else { sign };
+                let sign = *self.rng.pick(&["+", "*", "-", "+", "*", "-", "<"]);
                 self.put(sign);
                 self.expression(Sort::Number);
             }
@@ -413,17 +411,9 @@ impl Writer<'_> {
 
     fn choice(&mut self, gives: Sort) -> bool {
         self.put("if");
-        let was_dead = self.dead;
-        let (mut then_dead, mut else_dead) = (false, false);
         match self.rng.below(10) {
-            0 => {
-                self.put("true");
-                else_dead = true;
-            }
-            1 => {
-                self.put("false");
-                then_dead = true;
-            }
+            0 => self.put("true"),
+            1 => self.put("false"),
             2..=3 => self.put("nil"),
             4..=6 => self.expression(Sort::Plain),
             7..=8 => {
@@ -434,18 +424,15 @@ impl Writer<'_> {
             _ => self.expression(Sort::Mixed),
         }
         let old = self.vars.clone();
-        self.dead = was_dead || then_dead;
         let n = self.rng.below(3);
         let then_ends = self.arm(n, gives);
         let then_vars = std::mem::replace(&mut self.vars, old.clone());
         let mut else_ends = false;
         if self.rng.percent(60) {
             self.put("else");
-            self.dead = was_dead || else_dead;
             let n = self.rng.below(3);
             else_ends = self.arm(n, gives);
         }
-        self.dead = was_dead;
         let else_vars = std::mem::take(&mut self.vars);
         for (name, sort) in &then_vars {
             let other = else_vars.iter().find(|(n, _)| n == name).map(|(_, s)| *s);
@@ -683,7 +670,7 @@ fn good(rng: &mut Rng, size: usize) -> Vec<String> {
     let fuel = 20 + 12 * size;
     let mut w = Writer {
         rng, words: vec![], funs: vec![], classes: vec![], shared: vec![], shared_attributes: vec![], vars: vec![],
-        inside: None, budget: 0, nesting: 0, dead: false, fuel,
+        inside: None, budget: 0, nesting: 0, fuel,
     };
     let classes = *w.rng.pick(&[0, 0, 1, 1, 2, 2, 3, 4]);
     if classes > 0 {

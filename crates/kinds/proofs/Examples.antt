@@ -4,7 +4,7 @@ use mathlib.Core.Bool.{true, false}
 use mathlib.Core.List.{[], ◌∷◌}
 use lib.IntN.{pos, negsuc}
 use Rattle.std.specs.Prelude.{Ok, Err}
-use Rattle.refusals.specs.declared.Refusal.TheVariants.{Subtraction, KindsClash}
+use Rattle.refusals.specs.declared.Refusal.TheVariants.{KindsClash}
 use Rattle.numbers.specs.Numbers.{fit_within}
 use Rattle.kinds.specs.declared.Kind.TheVariants.{Empty, Nil, Num, Truth, Fun, Int, Bool, Objects, Any}
 use Rattle.kinds.specs.declared.Arith.TheVariants.{Add, Sub, Mul, Less}
@@ -65,6 +65,39 @@ less : arith_of Less (Num (negsuc 0)) (Num (pos 2)) ≡ Ok (Truth true)
 unfolding arith_of result_of
 less = refl
 
-taking_away : arith_of Sub Empty (Num (pos 1)) ≡ Err Subtraction
-unfolding arith_of
+taking_away : arith_of Sub (Num (pos 1)) (Num (pos 3)) ≡ Ok (Num (negsuc 1))
+unfolding arith_of result_of fit_within
 taking_away = refl
+
+-- the least number is one, and what is below it isn't; nor is its opposite
+least_away : arith_of Sub (Num (negsuc 9223372036854775806)) (Num (pos 1)) ≡ Ok (Num (negsuc 9223372036854775807))
+unfolding arith_of result_of fit_within
+least_away = refl
+
+below_the_least : arith_of Sub (Num (negsuc 9223372036854775807)) (Num (pos 1)) ≡ Ok Int
+unfolding arith_of result_of fit_within
+below_the_least = refl
+
+least_turned : arith_of Sub (Num (pos 0)) (Num (negsuc 9223372036854775807)) ≡ Ok Int
+unfolding arith_of result_of fit_within
+least_turned = refl
+
+least_times_less_one : arith_of Mul (Num (negsuc 9223372036854775807)) (Num (negsuc 0)) ≡ Ok Int
+unfolding arith_of result_of fit_within
+least_times_less_one = refl
+
+less_one : arith_of Less (Num (negsuc 0)) (Num (pos 0)) ≡ Ok (Truth true)
+unfolding arith_of result_of
+less_one = refl
+
+nothing_away : arith_of Sub Empty (Fun (record { 0 = 3 })) ≡ Ok Empty
+unfolding arith_of
+nothing_away = refl
+
+name_away : arith_of Sub (Num (pos 1)) (Fun (record { 0 = 3 })) ≡ Err KindsClash
+unfolding arith_of union_of lub mix_of same_kind
+name_away = refl
+
+int_from_int : arith_of Sub Int Int ≡ Ok Int
+unfolding arith_of union_of lub mix_of same_kind by_union
+int_from_int = refl

@@ -13,7 +13,7 @@ use Rattle.ids.specs.Sets.{members_of}
 use Rattle.ids.proofs.Bits.{Either, yes, no, either}
 use Rattle.ids.proofs.Members.{members_or}
 use Rattle.refusals.specs.declared.Refusal.{Refusal}
-use Rattle.refusals.specs.declared.Refusal.TheVariants.{Subtraction, KindsClash}
+use Rattle.refusals.specs.declared.Refusal.TheVariants.{KindsClash}
 use Rattle.numbers.specs.Numbers.{fit_within}
 use Rattle.kinds.specs.declared.Kind.{Kind}
 use Rattle.kinds.specs.declared.Kind.TheVariants.{Empty, Nil, Num, Truth, Fun, Class, Int, Bool, Objects, Any}
@@ -21,7 +21,7 @@ use Rattle.kinds.specs.declared.Arith.{Arith}
 use Rattle.kinds.specs.declared.Arith.TheVariants.{Add, Sub, Mul, Less}
 use Rattle.kinds.specs.Kinds.{same_kind, is_empty, is_number, is_truth}
 use Rattle.kinds.specs.Union.{Joined, set_of, wide, is_alone, mix_of, lub, Below, clash, union_of}
-use Rattle.kinds.specs.Rules.{known_in, kind_of, result_of, wide_of, by_union, by_unions, both, is_sub, arith_of, arith_total, admits}
+use Rattle.kinds.specs.Rules.{known_in, kind_of, result_of, wide_of, by_union, by_unions, both, arith_of, arith_total, admits}
 use Rattle.kinds.specs.Heights.{Good}
 use Rattle.kinds.proofs.Same.{same_eq}
 use Rattle.kinds.proofs.Steps.{mix_number}
@@ -314,33 +314,31 @@ total_mono o a b c d p q = rw (total_grade o a c, total_grade o b d) (graded_mon
 -- a result that is not refused is that of the rule without refusals
 pub arith_is : (o : Arith) (a b u : Kind) → arith_of o a b ≡ Ok u → u ≡ arith_total o a b
 unfolding arith_of arith_total
-arith_is o a b u e = go (is_sub o) (is_empty a || is_empty b) (known_in a) (known_in b) (union_of a b) refl e
+arith_is o a b u e = go (is_empty a || is_empty b) (known_in a) (known_in b) (union_of a b) refl e
   where
-    go : (s p : 𝔹) (x y : Option ℤ) (j : Joined) → union_of a b ≡ j → cond s (Err Subtraction) (cond p (Ok Empty) (both (λ m n. Ok (result_of o m n)) (by_unions o j) x y)) ≡ Ok u → u ≡ cond p Empty (both (result_of o) (by_union o (lub a b)) x y)
-    go true p x y j q e = cc
-    go false true x y j q e = cc
-    go false false (Some m) (Some n) j q e = cc
-    go false false (Some m) None (Ok v) q e = let h : u ≡ by_union o v = cc e in h ∙ ap (by_union o) (union-is a b v q)
-    go false false (Some m) None (Err n) q e = cc
-    go false false None y (Ok v) q e = let h : u ≡ by_union o v = cc e in h ∙ ap (by_union o) (union-is a b v q)
-    go false false None y (Err n) q e = cc
+    go : (p : 𝔹) (x y : Option ℤ) (j : Joined) → union_of a b ≡ j → cond p (Ok Empty) (both (λ m n. Ok (result_of o m n)) (by_unions o j) x y) ≡ Ok u → u ≡ cond p Empty (both (result_of o) (by_union o (lub a b)) x y)
+    go true x y j q e = cc
+    go false (Some m) (Some n) j q e = cc
+    go false (Some m) None (Ok v) q e = let h : u ≡ by_union o v = cc e in h ∙ ap (by_union o) (union-is a b v q)
+    go false (Some m) None (Err n) q e = cc
+    go false None y (Ok v) q e = let h : u ≡ by_union o v = cc e in h ∙ ap (by_union o) (union-is a b v q)
+    go false None y (Err n) q e = cc
 
--- a refusal is of a subtraction, or of a name that clashes
-pub arith-refused : (o : Arith) (a b : Kind) (r : Refusal) → arith_of o a b ≡ Err r → ((r ≡ Subtraction) × (is_sub o ≡ true)) ⊎ ((r ≡ KindsClash) × (clash a b ≡ true))
+-- a refusal is of a name that clashes
+pub arith-refused : (o : Arith) (a b : Kind) (r : Refusal) → arith_of o a b ≡ Err r → (r ≡ KindsClash) × (clash a b ≡ true)
 unfolding arith_of
-arith-refused o a b r e = go (is_sub o) refl (is_empty a || is_empty b) (known_in a) (known_in b) (union_of a b) refl e
+arith-refused o a b r e = go (is_empty a || is_empty b) (known_in a) (known_in b) (union_of a b) refl e
   where
-    name : (m : Refusal) → union_of a b ≡ Err m → m ≡ r → ((r ≡ Subtraction) × (is_sub o ≡ true)) ⊎ ((r ≡ KindsClash) × (clash a b ≡ true))
-    name m q h = let c = union-refused a b m q in inr (sym h ∙ c.0, c.1)
+    name : (m : Refusal) → union_of a b ≡ Err m → m ≡ r → (r ≡ KindsClash) × (clash a b ≡ true)
+    name m q h = let c = union-refused a b m q in (sym h ∙ c.0, c.1)
 
-    go : (s : 𝔹) → is_sub o ≡ s → (p : 𝔹) (x y : Option ℤ) (j : Joined) → union_of a b ≡ j → cond s (Err Subtraction) (cond p (Ok Empty) (both (λ m n. Ok (result_of o m n)) (by_unions o j) x y)) ≡ Err r → ((r ≡ Subtraction) × (is_sub o ≡ true)) ⊎ ((r ≡ KindsClash) × (clash a b ≡ true))
-    go true s p x y j q e = inl (let h : r ≡ Subtraction = cc e in h, s)
-    go false s true x y j q e = absurd (let z : ◌≡◌ {A = ℕ} 0 1 = cc e in omega arith)
-    go false s false (Some l) (Some m) j q e = absurd (let z : ◌≡◌ {A = ℕ} 0 1 = cc e in omega arith)
-    go false s false (Some l) None (Ok v) q e = absurd (let z : ◌≡◌ {A = ℕ} 0 1 = cc e in omega arith)
-    go false s false (Some l) None (Err m) q e = name m q (cc e)
-    go false s false None y (Ok v) q e = absurd (let z : ◌≡◌ {A = ℕ} 0 1 = cc e in omega arith)
-    go false s false None y (Err m) q e = name m q (cc e)
+    go : (p : 𝔹) (x y : Option ℤ) (j : Joined) → union_of a b ≡ j → cond p (Ok Empty) (both (λ m n. Ok (result_of o m n)) (by_unions o j) x y) ≡ Err r → (r ≡ KindsClash) × (clash a b ≡ true)
+    go true x y j q e = absurd (let z : ◌≡◌ {A = ℕ} 0 1 = cc e in omega arith)
+    go false (Some l) (Some m) j q e = absurd (let z : ◌≡◌ {A = ℕ} 0 1 = cc e in omega arith)
+    go false (Some l) None (Ok v) q e = absurd (let z : ◌≡◌ {A = ℕ} 0 1 = cc e in omega arith)
+    go false (Some l) None (Err m) q e = name m q (cc e)
+    go false None y (Ok v) q e = absurd (let z : ◌≡◌ {A = ℕ} 0 1 = cc e in omega arith)
+    go false None y (Err m) q e = name m q (cc e)
 
 -- results of arithmetic can arise
 pub total-good : (C : ℕ) (o : Arith) (a b : Kind) → Good C (arith_total o a b)

@@ -6,15 +6,14 @@ use lib.IntN.{ℤ}
 use lib.Bits.{bit_or}
 use Rattle.std.specs.Prelude.{Option, Some, None, Ok, Err}
 use Rattle.refusals.specs.declared.Refusal.{Refusal}
-use Rattle.refusals.specs.declared.Refusal.TheVariants.{Subtraction, KindsClash}
+use Rattle.refusals.specs.declared.Refusal.TheVariants.{KindsClash}
 use Rattle.ids.proofs.Bits.{Either, yes, no, either}
 use Rattle.kinds.specs.declared.Kind.{Kind}
 use Rattle.kinds.specs.declared.Kind.TheVariants.{Empty, Nil, Num, Truth, Fun, Class, Int, Bool, Objects, Any}
 use Rattle.kinds.specs.declared.Arith.{Arith}
-use Rattle.kinds.specs.declared.Arith.TheVariants.{Add, Sub, Mul, Less}
 use Rattle.kinds.specs.Kinds.{same_kind, is_any, is_empty, is_name, is_number, is_truth}
 use Rattle.kinds.specs.Union.{Joined, set_of, is_alone, mix_of, lub, union_of}
-use Rattle.kinds.specs.Rules.{known_in, result_of, wide_of, by_union, by_unions, both, is_sub, arith_of}
+use Rattle.kinds.specs.Rules.{known_in, result_of, wide_of, by_union, by_unions, both, arith_of}
 use Rattle.kinds.proofs.Same.{same_eq}
 
 -- a flag's value, handed on to what it answers
@@ -138,16 +137,6 @@ by_other o j u e s = rw e (rw s)
 pub by_refusal : (o : Arith) (j : Joined) (r : Refusal) → j ≡ Err r → Err r ≡ by_unions o j
 by_refusal o j r e = rw e
 
--- whether an operation is a subtraction
-sub_is : (o : Arith) → o ≡ Sub → is_sub o ≡ true
-sub_is o e = rw e
-
-sub_not : (o : Arith) → (o ≡ Sub → ⊥) → is_sub o ≡ false
-sub_not Add h = refl
-sub_not Sub h = absurd (h refl)
-sub_not Mul h = refl
-sub_not Less h = refl
-
 known_num : (k : Kind) (n : ℤ) → known_in k ≡ Some n → k ≡ Num n
 known_num Empty n h = cc
 known_num Nil n h = cc
@@ -161,38 +150,30 @@ known_num (Objects s) n h = cc
 known_num Any n h = cc
 
 module _ (o : Arith) (a b : Kind) where
-  pub sub_arith : o ≡ Sub → Err Subtraction ≡ arith_of o a b
+  pub empty_arith : (is_empty a || is_empty b) ≡ true → Ok Empty ≡ arith_of o a b
   unfolding arith_of
-  sub_arith e = let s = sub_is o e in rw s
+  empty_arith h = rw h
 
-  module _ (d : o ≡ Sub → ⊥) where
-    s : is_sub o ≡ false
-    s = sub_not o d
-
-    pub empty_arith : (is_empty a || is_empty b) ≡ true → Ok Empty ≡ arith_of o a b
+  module _ (h : (is_empty a || is_empty b) ≡ false) where
+    pub number_arith : (m n : ℤ) {k : Kind} → a ≡ Num m → b ≡ Num n → k ≡ result_of o m n → Ok k ≡ arith_of o a b
     unfolding arith_of
-    empty_arith h = rw (s, h)
+    number_arith m n p q e =
+        let x : known_in a ≡ Some m = ap known_in p in
+        let y : known_in b ≡ Some n = ap known_in q in
+        rw (h, x, y) (ap Ok e)
 
-    module _ (h : (is_empty a || is_empty b) ≡ false) where
-      pub number_arith : (m n : ℤ) {k : Kind} → a ≡ Num m → b ≡ Num n → k ≡ result_of o m n → Ok k ≡ arith_of o a b
-      unfolding arith_of
-      number_arith m n p q e =
-          let x : known_in a ≡ Some m = ap known_in p in
-          let y : known_in b ≡ Some n = ap known_in q in
-          rw (s, h, x, y) (ap Ok e)
-
-      -- not both are known
-      pub wide_arith : {j : Joined} → ((m n : ℤ) → a ≡ Num m → b ≡ Num n → ⊥) → j ≡ by_unions o (union_of a b) → j ≡ arith_of o a b
-      unfolding arith_of
-      wide_arith {j} u e = go (known_in a) (known_in b) refl refl
-        where
-          go : (x y : Option ℤ) → known_in a ≡ x → known_in b ≡ y → j ≡ cond (is_sub o) (Err Subtraction) (cond (is_empty a || is_empty b) (Ok Empty) (both (λ m n. Ok (result_of o m n)) (by_unions o (union_of a b)) x y))
-          go (Some m) (Some n) p q = absurd (u m n (known_num a m p) (known_num b n q))
-          go (Some m) None p q = rw (s, h) e
-          go None y p q = rw (s, h) e
+    -- not both are known
+    pub wide_arith : {j : Joined} → ((m n : ℤ) → a ≡ Num m → b ≡ Num n → ⊥) → j ≡ by_unions o (union_of a b) → j ≡ arith_of o a b
+    unfolding arith_of
+    wide_arith {j} u e = go (known_in a) (known_in b) refl refl
+      where
+        go : (x y : Option ℤ) → known_in a ≡ x → known_in b ≡ y → j ≡ cond (is_empty a || is_empty b) (Ok Empty) (both (λ m n. Ok (result_of o m n)) (by_unions o (union_of a b)) x y)
+        go (Some m) (Some n) p q = absurd (u m n (known_num a m p) (known_num b n q))
+        go (Some m) None p q = rw h e
+        go None y p q = rw h e
 
 -- ---- what the check tries at each way through a function
 
 pub ruleset unions = (told, told_or, not-alone, union-any, union_left, union_right, union-name, union_mix)
 
-pub ruleset rules_of = (told_or, sub_arith, empty_arith, number_arith, wide_arith)
+pub ruleset rules_of = (told_or, empty_arith, number_arith, wide_arith)

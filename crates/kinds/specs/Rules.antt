@@ -1,9 +1,8 @@
--- Add, Mul and LessThan on kinds, and the arms of a choice, from document 01, "The analysis". Assumes nothing.
+-- Add, Sub, Mul and LessThan on kinds, and the arms of a choice, from document 01, "The analysis". Assumes nothing.
 use Rattle.std.specs.Prelude.{Bool as 𝔹, true, false, cond, ◌||◌, ℤ, ◌+ℤ◌, ◌-ℤ◌, ◌*ℤ◌, Option, Some, None, Ok, Err}
 use Rattle.std.specs.Bool.{beq}
 use Rattle.std.specs.Int.Signed.{lt_z}
 use Rattle.numbers.specs.Numbers.{fit_within}
-use Rattle.refusals.specs.declared.Refusal.TheVariants.{Subtraction}
 use Rattle.kinds.specs.declared.Kind.{Kind}
 use Rattle.kinds.specs.declared.Kind.TheVariants.{Empty, Nil, Num, Truth, Fun, Class, Int, Bool, Objects, Any}
 use Rattle.kinds.specs.declared.Arith.{Arith}
@@ -58,19 +57,11 @@ both f d (Some m) (Some n) = f m n
 both f d (Some m) None = d
 both f d None y = d
 
--- a subtraction is refused before its operands are looked at
-abbrev pub is_sub : Arith → 𝔹
-is_sub Add = false
-is_sub Sub = true
-is_sub Mul = false
-is_sub Less = false
-
 -- the rule of an operation, with its refusals: an operand that is Empty gives Empty, then two known numbers count, then the union
 unfoldable pub arith_of : Arith → Kind → Kind → Joined
 arith_of o a b =
-    cond (is_sub o) (Err Subtraction)
-    (cond (is_empty a || is_empty b) (Ok Empty)
-    (both (λ m n. Ok (result_of o m n)) (by_unions o (union_of a b)) (known_in a) (known_in b)))
+    cond (is_empty a || is_empty b) (Ok Empty)
+    (both (λ m n. Ok (result_of o m n)) (by_unions o (union_of a b)) (known_in a) (known_in b))
 
 -- the rule without refusals: names count as kinds below Any alone
 unfoldable pub arith_total : Arith → Kind → Kind → Kind

@@ -262,14 +262,11 @@ fn by_union(o: Arith, a: Kind, b: Kind) -> Result<Kind, Refusal>
     Ok(Kind::Any)
 }
 
-// Add, Mul and LessThan on kinds; Sub is refused.
+// Add, Sub, Mul and LessThan on kinds.
 #[tactic(auto, using(crate::proofs::Steps::rules_of))]
 pub fn combine(o: Arith, a: Kind, b: Kind) -> Result<Kind, Refusal>
     ensures { result ≡ arith_of o a b }
 {
-    if o == Arith::Sub {
-        return Err(Refusal::Subtraction);
-    }
     if a.is_empty() | b.is_empty() {
         return Ok(Kind::Empty);
     }

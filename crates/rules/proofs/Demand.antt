@@ -37,7 +37,7 @@ counts L u script a e = counted_of L u.classes script a (finished L (usable_sane
 
 -- a question's number, of the reading after question 1 or of the analysis
 abbrev pub Number : ℕ → Type 0
-Number n = (3 ≤ n) × (n ≤ 20)
+Number n = (3 ≤ n) × (n ≤ 20) × (n ≡ 18 → ⊥)
 
 pub numbers : (L : Limits) (script : List ℕ) → leb (length script) L.script ≡ true → Comes Number Anything (analyze L script)
 unfolding analyze
@@ -47,10 +47,10 @@ numbers L script h =
     and_then (other (run_fine L p (bound p) s)) (λ e q. done tt)))
   where
     other : {A : Type 0} {a : Answer A} → Comes Asked Anything a → Comes Number Anything a
-    other c = record { answers = λ x e. tt; refuses = λ n e. let h = c.refuses n e in (omega (arith, h.0), h.1) }
+    other c = record { answers = λ x e. tt; refuses = λ n e. let h = c.refuses n e in (omega (arith, h.0), h.1, h.2) }
 
     reading : {a : Answer Program} → Comes Question Anything a → Comes Number Anything a
-    reading c = record { answers = λ x e. tt; refuses = λ n e. let q = c.refuses n e in (q.least, omega (arith, q.most)) }
+    reading c = record { answers = λ x e. tt; refuses = λ n e. let q = c.refuses n e in (q.least, omega (arith, q.most), λ z. omega (arith, q.most)) }
 
 -- question 1
 pub long-refused : (L : Limits) (script : List ℕ) → leb (length script) L.script ≡ false → analyze L script ≡ refused 1
@@ -63,8 +63,8 @@ answers L u script = go (analyze L script) refl (leb (length script) L.script) r
   where
     go : (r : Answer Analysis) → analyze L script ≡ r → (b : 𝔹) → leb (length script) L.script ≡ b → Told r
     go (answered a) e b f = demand L u script a e
-    go (refused n) e true f = let q = (numbers L script f).refuses n e in (omega (arith, q.0), q.1, λ z. omega (arith, q.0))
+    go (refused n) e true f = let q = (numbers L script f).refuses n e in (omega (arith, q.0), q.1, λ z. omega (arith, q.0), q.2)
     go (refused n) e false f =
         let q : ◌≡◌ {A = Answer Analysis} (refused 1) (refused n) = sym (long-refused L script f) ∙ e in
         let z : 1 ≡ n = cc in
-        (omega arith, omega arith, λ y. omega arith)
+        (omega arith, omega arith, λ y. omega arith, λ y. omega arith)

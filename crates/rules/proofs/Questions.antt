@@ -1,8 +1,7 @@
--- Which numbers the analysis refuses with: those of its own questions, 12 to 20. Assumes nothing.
+-- Which numbers the analysis refuses with: those of its own questions, 12 to 20, but never 18. Assumes nothing.
 use Prim.Native.Nat.{ℕ, zero, suc, ◌≤◌}
 use native.Mathlib.Omega.{arith}
 use mathlib.Core.Path.{◌≡◌, refl}
-use mathlib.Core.Logic.{◌⊎◌, inl, inr}
 use mathlib.Core.Bool.{Bool as 𝔹, true, false, not, cond}
 use mathlib.Core.Option.{Option, none, some}
 use mathlib.Core.List.{List, [], ◌∷◌, map}
@@ -12,7 +11,7 @@ use Rattle.kinds.specs.declared.Kind.{Kind}
 use Rattle.kinds.specs.declared.Kind.TheVariants.{Empty}
 use Rattle.std.specs.Prelude.{Ok, Err}
 use Rattle.refusals.specs.declared.Refusal.{Refusal}
-use Rattle.refusals.specs.declared.Refusal.TheVariants.{Subtraction, KindsClash}
+use Rattle.refusals.specs.declared.Refusal.TheVariants.{KindsClash}
 use Rattle.refusals.specs.Refusals.{number_of as question_of}
 use Rattle.kinds.specs.Kinds.{same_kind, is_empty}
 use Rattle.kinds.specs.Union.{Joined, union_of, union_all}
@@ -29,7 +28,7 @@ use Rattle.rules.specs.Machine.{State, Acts, set_kind, set_live, set_ivar_kind, 
 use Rattle.rules.proofs.Wellformed.Laws.{Comes, done, refusing, and_then, asks, asked, chosen}
 
 abbrev pub Asked : ℕ → Type 0
-Asked n = (12 ≤ n) × (n ≤ 20)
+Asked n = (12 ≤ n) × (n ≤ 20) × (n ≡ 18 → ⊥)
 
 abbrev pub Anything : {A : Type 0} → A → Type 0
 Anything x = Unit {0}
@@ -51,7 +50,7 @@ joined_fine (Ok k) h s = done tt
 joined_fine (Err e) h s = refusing (h e refl)
 
 nineteen : (e : Refusal) → e ≡ KindsClash → Asked (question_of e)
-nineteen e h = rw h (omega arith, omega arith)
+nineteen e h = rw h (omega arith, omega arith, λ z. omega arith)
 
 union_fine : (a b : Kind) (s : State) → Fine (lift (to_answer (union_of a b)) s)
 union_fine a b s = joined_fine (union_of a b) (λ r e. nineteen r (union-refused a b r e).0) s
@@ -66,16 +65,16 @@ needed_fine n (some x) s h = done tt
 
 classes_fine : (v : Opnd) (s : State) → Fine (classes_of v s)
 unfolding classes_of
-classes_fine v s = and_then (needed_fine 14 (classes_in (kind_of s v)) s (omega arith, omega arith)) (λ r q. done tt)
+classes_fine v s = and_then (needed_fine 14 (classes_in (kind_of s v)) s (omega arith, omega arith, λ z. omega arith)) (λ r q. done tt)
 
 module _ (L : Limits) (p : Program) where
   push_insn_fine : (i : ℕ) (s : State) → Fine (push_insn L p i s)
   unfolding push_insn
-  push_insn_fine i s = asks 20 (ltb (length s.insn_worklist) L.worklist) s _ (omega arith, omega arith) (λ _. done tt)
+  push_insn_fine i s = asks 20 (ltb (length s.insn_worklist) L.worklist) s _ (omega arith, omega arith, λ z. omega arith) (λ _. done tt)
 
   push_block_fine : (b : ℕ) (s : State) → Fine (push_block L p b s)
   unfolding push_block
-  push_block_fine b s = asks 20 (ltb (length s.block_worklist) L.worklist) s _ (omega arith, omega arith) (λ _. done tt)
+  push_block_fine b s = asks 20 (ltb (length s.block_worklist) L.worklist) s _ (omega arith, omega arith, λ z. omega arith) (λ _. done tt)
 
   wake_fine : (k : Kind) (i : ℕ) (s : State) → Fine (wake_if_wider L p k i s)
   unfolding wake_if_wider
@@ -92,7 +91,7 @@ module _ (L : Limits) (p : Program) where
   unfolding add_call
   add_call_fine i f s =
       chosen (marked s.called_by f i) _ _ (λ _. done tt)
-      (λ _. and_then (push_block_fine _ _) (λ r q. asked 16 (leb (length (parameters p f)) (length (about (op_of p i)).listed)) r.1 (omega arith, omega arith) (λ _. tt)))
+      (λ _. and_then (push_block_fine _ _) (λ r q. asked 16 (leb (length (parameters p f)) (length (about (op_of p i)).listed)) r.1 (omega arith, omega arith, λ z. omega arith) (λ _. tt)))
 
   pass_fine : (i f : ℕ) (s : State) → Fine (pass_arguments L p i f s)
   unfolding pass_arguments
@@ -108,30 +107,26 @@ module _ (L : Limits) (p : Program) where
 
   get_ivar_fine : (n : Name) (k : Kind) (c : ℕ) (s : State) → Fine (get_ivar L p n k c s)
   unfolding get_ivar
-  get_ivar_fine n k c s = and_then (needed_fine 15 (ivar_named p c n) s (omega arith, omega arith)) (λ r q. union_fine k _ r.1)
+  get_ivar_fine n k c s = and_then (needed_fine 15 (ivar_named p c n) s (omega arith, omega arith, λ z. omega arith)) (λ r q. union_fine k _ r.1)
 
   set_ivar_fine : (n : Name) (k : Kind) (c : ℕ) (s : State) → Fine (set_ivar L p n k c s)
   unfolding set_ivar
   set_ivar_fine n k c s =
-      and_then (needed_fine 15 (ivar_named p c n) s (omega arith, omega arith))
+      and_then (needed_fine 15 (ivar_named p c n) s (omega arith, omega arith, λ z. omega arith))
       (λ r q. and_then (union_fine (get_or (get_or r.1.ivar_kinds c []) r.0 Empty) k r.1)
       (λ t q. chosen (same_kind t.0 (get_or (get_or r.1.ivar_kinds c []) r.0 Empty)) _ _ (λ _. done tt)
       (λ _. each_fine (keep (λ i. is_just_name (about (op_of p i)).gets n) (places (λ b. b) (get_or t.1.ivar_reads c []))) (push_insn L p) push_insn_fine (set_ivar_kind c r.0 t.0 t.1))))
-
-  arith-number : (r : Refusal) (X Y : Type 0) → ((r ≡ Subtraction) × X) ⊎ ((r ≡ KindsClash) × Y) → Asked (question_of r)
-  arith-number r X Y (inl e) = rw e.0 (omega arith, omega arith)
-  arith-number r X Y (inr e) = nineteen r e.0
 
   rule_fine : (i : ℕ) (o : Op) (s : State) → Fine (rule L p i o s)
   unfolding rule
   rule_fine i (Ends t) s = and_then (leave_fine i t s) (λ r q. done tt)
   rule_fine i (Send (Static f) l) s =
-      and_then (add_call_fine i f s) (λ r q. asks 17 (not (has (function p f).class)) r.1 _ (omega arith, omega arith)
+      and_then (add_call_fine i f s) (λ r q. asks 17 (not (has (function p f).class)) r.1 _ (omega arith, omega arith, λ z. omega arith)
       (λ _. and_then (pass_fine i f r.1) (λ t q. join_all_fine _ t.1)))
   rule_fine i (Send (Dynamic v n) l) s =
-      and_then (classes_fine v s) (λ r q. and_then (each_fine r.0 _ (λ c t. and_then (needed_fine 15 (method_named p c n) t (omega arith, omega arith))
+      and_then (classes_fine v s) (λ r q. and_then (each_fine r.0 _ (λ c t. and_then (needed_fine 15 (method_named p c n) t (omega arith, omega arith, λ z. omega arith))
       (λ f q. and_then (add_call_fine i f.0 f.1) (λ u q. pass_fine i f.0 u.1))) r.1) (λ t q. join_all_fine _ t.1))
-  rule_fine i (Compute o v w) s = joined_fine (arith_of o (kind_of s v) (kind_of s w)) (λ r e. arith-number r _ _ (arith-refused o (kind_of s v) (kind_of s w) r e)) s
+  rule_fine i (Compute o v w) s = joined_fine (arith_of o (kind_of s v) (kind_of s w)) (λ r e. nineteen r (arith-refused o (kind_of s v) (kind_of s w) r e).0) s
   rule_fine i (Phi b v c w) s = join_all_fine _ s
   rule_fine i (Param n) s = join_all_fine _ s
   rule_fine i (SelfParam c) s = done tt
@@ -182,7 +177,7 @@ module _ (L : Limits) (p : Program) where
     where
       pick : (b : 𝔹) (l : List Kind) → Fine (cond b (answered l) (refused 13))
       pick true l = done tt
-      pick false l = refusing (omega arith, omega arith)
+      pick false l = refusing (omega arith, omega arith, λ z. omega arith)
 
       go : (o : Option ℕ) → Fine {A = List Kind} (elim o [
         | none ↦ answered (map (λ n. Rattle.kinds.specs.declared.Kind.TheVariants.Nil) (class p c).ivars)
@@ -199,5 +194,5 @@ module _ (L : Limits) (p : Program) where
   pub start_fine : Fine (start L p)
   unfolding start
   start_fine =
-      chosen (eqb (length p.functions) 0) _ _ (λ _. refusing (omega arith, omega arith))
+      chosen (eqb (length p.functions) 0) _ _ (λ _. refusing (omega arith, omega arith, λ z. omega arith))
       (λ _. and_then (firsts_fine (length p.classes) 0) (λ l q. state_fine _ (live_fine _ _)))

@@ -51,7 +51,7 @@ starred =
     ∷ (body "9223372036854775807+1", kind-is 0 Int ∷ [])
     ∷ (body "9223372036854775808", refusal 4 ∷ [])
     ∷ (body "1+nil", kind-is 0 Any ∷ [])
-    ∷ (body "1-1", refusal 18 ∷ [])
+    ∷ (body "1-1", kind-is 0 (Num (pos 0)) ∷ [])
     ∷ (body "if false 1-1 end", accepted ∷ [])
     ∷ ("def main() x1 end", refusal 6 ∷ [])
     ∷ ("def f(a) a end def main() f(1,) end", accepted ∷ [])

@@ -66,10 +66,10 @@ module _ (L : Limits) (p : Program) where
 abbrev pub Counts : Type 0
 Counts = (L : Limits) → Usable L → (script : List ℕ) (a : Analysis) → analyze L script ≡ answered a → Counted L a.program a.state
 
--- a script is answered, and then exactly, or refused by one of the questions; 2 asks about lent memory
+-- a script is answered, and then exactly, or refused by one of the questions; 2 asks about lent memory, and 18 is never answered no
 abbrev pub Told : Answer Analysis → Type 0
 Told (answered a) = Exact a.program a.state
-Told (refused n) = (1 ≤ n) × (n ≤ 20) × (n ≡ 2 → ⊥)
+Told (refused n) = (1 ≤ n) × (n ≤ 20) × (n ≡ 2 → ⊥) × (n ≡ 18 → ⊥)
 
 abbrev pub Answers : Type 0
 Answers = (L : Limits) → Usable L → (script : List ℕ) → Told (analyze L script)
