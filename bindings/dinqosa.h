@@ -34,7 +34,8 @@ extern "C" {
 #define DINQOSA_ROW_WORDS 32
 
 /* What a call gives (docs/QUESTIONS.md), but for 18, which no call gives any more: a difference has a kind, as a sum has.
- * 1 and 2 leave all memory as it was; the others clear the published words of all three parts. An answer clears the two work parts and the places of the answer part that it doesn't use. */
+ * 1 and 2 leave all memory as it was; the others clear the published words of all three parts. An answer clears the two
+ * work parts and the places of the answer part that it doesn't use. */
 enum {
     DINQOSA_ANSWERED = 0,
     DINQOSA_SCRIPT_TOO_LONG = 1,
