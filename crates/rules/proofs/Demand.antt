@@ -12,7 +12,7 @@ use Rattle.rules.specs.Program.{Limits, limits, Program}
 use Rattle.rules.specs.Bound.{bound}
 use Rattle.rules.specs.Finished.{Usable}
 use Rattle.rules.specs.Frames.{Analysis, analyze}
-use Rattle.rules.specs.Steps.{Demand, Counts, Told, Answers}
+use Rattle.rules.specs.Steps.{Demand, Counts, Told, Answers, NeverEighteen}
 use Rattle.rules.proofs.Wellformed.Laws.{Comes, done, and_then}
 use Rattle.rules.proofs.Wellformed.Operands.{Sane}
 use Rattle.rules.proofs.Wellformed.Wording.{Question}
@@ -57,14 +57,24 @@ pub long-refused : (L : Limits) (script : List ℕ) → leb (length script) L.sc
 unfolding analyze
 long-refused L script e = rw (too_long L script e)
 
--- every script is answered, or refused by a question
-pub answers : Answers
-answers L u script = go (analyze L script) refl (leb (length script) L.script) refl
+-- a refusal is by a question, whatever the limits
+refusal_told : (L : Limits) (script : List ℕ) (n : ℕ) → analyze L script ≡ refused n → Told (refused n)
+refusal_told L script n e = go (leb (length script) L.script) refl
   where
-    go : (r : Answer Analysis) → analyze L script ≡ r → (b : 𝔹) → leb (length script) L.script ≡ b → Told r
-    go (answered a) e b f = demand L u script a e
-    go (refused n) e true f = let q = (numbers L script f).refuses n e in (omega (arith, q.0), q.1, λ z. omega (arith, q.0), q.2)
-    go (refused n) e false f =
+    go : (b : 𝔹) → leb (length script) L.script ≡ b → Told (refused n)
+    go true f = let q = (numbers L script f).refuses n e in (omega (arith, q.0), q.1, λ z. omega (arith, q.0), q.2)
+    go false f =
         let q : ◌≡◌ {A = Answer Analysis} (refused 1) (refused n) = sym (long-refused L script f) ∙ e in
         let z : 1 ≡ n = cc in
         (omega arith, omega arith, λ y. omega arith, λ y. omega arith)
+
+-- every script is answered, or refused by a question
+pub answers : Answers
+answers L u script = go (analyze L script) refl
+  where
+    go : (r : Answer Analysis) → analyze L script ≡ r → Told r
+    go (answered a) e = demand L u script a e
+    go (refused n) e = refusal_told L script n e
+
+pub never_eighteen : NeverEighteen
+never_eighteen L script e = (refusal_told L script 18 e).3 refl

@@ -73,3 +73,7 @@ Told (refused n) = (1 ≤ n) × (n ≤ 20) × (n ≡ 2 → ⊥) × (n ≡ 18 →
 
 abbrev pub Answers : Type 0
 Answers = (L : Limits) → Usable L → (script : List ℕ) → Told (analyze L script)
+
+-- question 18 is never answered no, whatever the limits
+abbrev pub NeverEighteen : Type 0
+NeverEighteen = (L : Limits) (script : List ℕ) → analyze L script ≡ refused 18 → ⊥
