@@ -23,7 +23,7 @@ extern "C" {
 #define DINQOSA_STACK_BYTES 786432
 
 /* Where the answer part has its tables: totals (functions, blocks, instructions, count), then by block: live;
- * by instruction: kind and payload; users of instruction i stand at users[starts[i]] to users[starts[i + 1] - 1];
+ * by instruction: kind and payload (a number's in two's complement); users of instruction i stand at users[starts[i]] to users[starts[i + 1] - 1];
  * DINQOSA_ROW_WORDS words of bits a function: its callers. */
 #define DINQOSA_LIVE 4
 #define DINQOSA_TAGS 259
@@ -33,9 +33,8 @@ extern "C" {
 #define DINQOSA_CALLERS 18692
 #define DINQOSA_ROW_WORDS 32
 
-/* What a call gives (docs/QUESTIONS.md), but for 18, which no call gives any more: a difference has a kind, as a sum has.
- * 1 and 2 leave all memory as it was; the others clear the published words of all three parts. An answer clears the two
- * work parts and the places of the answer part that it doesn't use. */
+/* What a call gives (docs/QUESTIONS.md). 1 and 2 leave all memory as it was; the others clear the published words of all
+ * three parts. An answer clears the two work parts and the places of the answer part that it doesn't use. */
 enum {
     DINQOSA_ANSWERED = 0,
     DINQOSA_SCRIPT_TOO_LONG = 1,
@@ -55,6 +54,7 @@ enum {
     DINQOSA_MEMBER_MISSING = 15,
     DINQOSA_ARGUMENT_MISSING = 16,
     DINQOSA_BARE_CALL_OF_METHOD = 17,
+    /* No longer given: a difference has a kind, as a sum has. */
     DINQOSA_SUBTRACTION = 18,
     DINQOSA_KINDS_CLASH = 19,
     DINQOSA_WORKLIST_FULL = 20

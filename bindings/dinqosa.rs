@@ -24,9 +24,8 @@ pub const CALLERS: usize = 18_692;
 /// Words of a function's row of callers.
 pub const ROW_WORDS: usize = 32;
 
-/// Why a script got no answer (`docs/QUESTIONS.md`); `Subtraction` isn't given any more: a difference has a kind, as a sum
-/// has. `ScriptTooLong` and `MemoryTooShort` leave all memory as it was; the others clear the published words of all three
-/// parts.
+/// Why a script got no answer (`docs/QUESTIONS.md`). `ScriptTooLong` and `MemoryTooShort` leave all memory as it was; the
+/// others clear the published words of all three parts.
 #[derive(Clone, Copy, PartialEq, Eq, Debug)]
 #[repr(u8)]
 pub enum Refusal {
@@ -118,7 +117,7 @@ impl<'a> Answer<'a> {
         self.0[LIVE..TAGS][block] != 0
     }
 
-    /// Kind byte and payload of an instruction; a number's payload is its bits, `payload as i64` the number.
+    /// Kind byte and payload of an instruction; of kind 2, `payload as i64` is the number.
     pub fn kind(&self, instruction: usize) -> (u8, u64) {
         (self.0[TAGS..PAYLOADS][instruction] as u8, self.0[PAYLOADS..STARTS][instruction])
     }

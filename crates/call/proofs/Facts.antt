@@ -105,7 +105,7 @@ module _ (script : List ℕ) where
     pub record Refusal (n : ℕ) : Type 0 where
       pub least : 1 ≤ n
       pub most : n ≤ 20
-      pub other : n ≡ 18 → ⊥
+      pub never : n ≡ 18 → ⊥
       pub first : n ≤ 2 → (after script l).lent ≡ l
       pub later : 3 ≤ n → (after script l).lent ≡ holding (zeros answer_length) l
 
@@ -120,12 +120,12 @@ module _ (script : List ℕ) where
         of (refused m) t q h =
             let z : m ≡ n = one h in
             let k = t m refl in
-            record { least = omega (arith, k.0); most = omega (arith, k.1); other = λ y. k.2 (z ∙ y); first = λ g. absurd (omega (arith, k.0)); later = λ _. ap (λ (x : CallLeft). x.lent) q }
+            record { least = omega (arith, k.0); most = omega (arith, k.1); never = λ y. k.2 (z ∙ y); first = λ g. absurd (omega (arith, k.0)); later = λ _. ap (λ (x : CallLeft). x.lent) q }
 
         asked : {m : ℕ} → (1 ≤ m) × (m ≤ 2) → after script l ≡ left (some m) l → Refusal n
         asked {m} h q =
             let z : m ≡ n = one (sym (ap (λ (x : CallLeft). x.number) q) ∙ e) in
-            record { least = omega (arith, h.0); most = omega (arith, h.1); other = λ y. omega (arith, h.1); first = λ _. ap (λ (x : CallLeft). x.lent) q; later = λ g. absurd (omega (arith, h.1)) }
+            record { least = omega (arith, h.0); most = omega (arith, h.1); never = λ y. omega (arith, h.1); first = λ _. ap (λ (x : CallLeft). x.lent) q; later = λ g. absurd (omega (arith, h.1)) }
 
         go : Ways → Refusal n
         go (too_long h q) = asked (omega arith, omega arith) q

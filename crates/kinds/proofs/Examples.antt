@@ -69,7 +69,7 @@ taking_away : arith_of Sub (Num (pos 1)) (Num (pos 3)) ≡ Ok (Num (negsuc 1))
 unfolding arith_of result_of fit_within
 taking_away = refl
 
--- the least number is one, and what is below it isn't; nor is its opposite
+-- the least number of 64 bits is known; what is below it, its opposite and its product with -1 are Int
 least_away : arith_of Sub (Num (negsuc 9223372036854775806)) (Num (pos 1)) ≡ Ok (Num (negsuc 9223372036854775807))
 unfolding arith_of result_of fit_within
 least_away = refl

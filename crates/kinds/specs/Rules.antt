@@ -1,4 +1,4 @@
--- Add, Sub, Mul and LessThan on kinds, and the arms of a choice, from document 01, "The analysis". Assumes nothing.
+-- Add, Sub, Mul and LessThan on kinds, and the arms of a choice (01, "The analysis"; Sub: 02, order 1). Assumes nothing.
 use Rattle.std.specs.Prelude.{Bool as 𝔹, true, false, cond, ◌||◌, ℤ, ◌+ℤ◌, ◌-ℤ◌, ◌*ℤ◌, Option, Some, None, Ok, Err}
 use Rattle.std.specs.Bool.{beq}
 use Rattle.std.specs.Int.Signed.{lt_z}

@@ -35,7 +35,7 @@ demand L u script a e = exact_of L u.classes script a (finished L (usable_sane L
 pub counts : Counts
 counts L u script a e = counted_of L u.classes script a (finished L (usable_sane L u) script) e
 
--- a question's number, of the reading after question 1 or of the analysis
+-- a question's number, of the reading after question 1 or of the analysis, and never 18
 abbrev pub Number : ℕ → Type 0
 Number n = (3 ≤ n) × (n ≤ 20) × (n ≡ 18 → ⊥)
 

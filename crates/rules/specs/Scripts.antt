@@ -11,7 +11,7 @@ use Rattle.rules.specs.Program.{limits}
 use Rattle.rules.specs.Frames.{Analysis, analyze, live}
 use Rattle.rules.specs.Opened.{opened}
 
--- what 01 says of a script
+-- what 01 says of a script, and order 1 of 02 of 1-1
 pub data Says : Type 0 where
   refusal : ℕ → Says
   accepted : Says
@@ -60,7 +60,7 @@ starred =
 abbrev pub told : List (String × List Says) → 𝔹
 told l = all (λ (x : String × List Says). all (holds (analyze limits (bytes x.0))) x.1) l
 
--- all that 01 says of its starred scripts holds
+-- all that is said of the starred scripts holds
 pub starred-told : told starred ≡ true
 unfolding opened
 starred-told = refl
