@@ -203,7 +203,7 @@ fn plot(path: &str, title: &str, axis: &str, points: &[(f64, f64, f64)]) {
 }
 
 fn run(plots: Option<String>) {
-    for setup in [limited::driver::set_up, hashed::driver::set_up] {
+    for setup in [limited::driver::set_up, current::driver::set_up] {
         setup();
     }
     let (mut answer, mut program, mut state) = (vec![0u64; ANSWER_WORDS], vec![0u64; PROGRAM_WORDS], vec![0u64; STATE_WORDS]);
@@ -219,8 +219,8 @@ fn run(plots: Option<String>) {
     for (name, script) in scripts() {
         let (count, first) = call(&script);
         let ours = time(first, || { let _ = call(&script); });
-        let (heap, first) = heap_of(|| { let _ = hashed::image::timed(&script); });
-        let rust = time(first, || { let _ = hashed::image::timed(&script); });
+        let (heap, first) = heap_of(|| { let _ = current::image::timed(&script); });
+        let rust = time(first, || { let _ = current::image::timed(&script); });
         println!(
             "{name:<24} {:>6} {count:>9} {:>11.1} {:>11.1} {:>7.2} {:>9.1} {:>10}",
             script.len(), ours / 1_000.0, rust / 1_000.0, rust / ours, (ours - clearing).max(0.0) / count.max(1) as f64, heap

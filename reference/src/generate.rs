@@ -78,11 +78,11 @@ struct Writer<'a> {
     fuel: usize,
 }
 
-const VARS: &[&str] = &["x", "y", "z", "w", "u", "v", "t_", "xx", "Y"];
-const FUNS: &[&str] = &["f", "g", "h", "k", "p", "ff", "g_"];
-const CLASSES: &[&str] = &["A", "B", "C", "D", "E", "Bb", "Integer", "NilClass"];
-const ATTRS: &[&str] = &["a", "b", "c", "m", "x"];
-const METHODS: &[&str] = &["m", "n", "o", "a", "new"];
+const VARS: &[&str] = &["x", "y", "z", "w", "u", "v", "t_", "xx", "Y", "x1", "x10", "x2", "x_1", "xB", "x1_", "x1y", "end1", "nil2"];
+const FUNS: &[&str] = &["f", "g", "h", "k", "p", "ff", "g_", "f1", "f2", "return1", "main2"];
+const CLASSES: &[&str] = &["A", "B", "C", "D", "E", "Bb", "Integer", "NilClass", "A1", "B2"];
+const ATTRS: &[&str] = &["a", "b", "c", "m", "x", "a1", "pen2"];
+const METHODS: &[&str] = &["m", "n", "o", "a", "new", "m1", "new1", "initialize1"];
 
 impl Writer<'_> {
     fn put(&mut self, word: &str) {
@@ -729,8 +729,11 @@ fn is_wordy(c: u8) -> bool {
 fn join(rng: &mut Rng, words: &[String]) -> Vec<u8> {
     let mut out: Vec<u8> = vec![];
     let tight = rng.below(3);
-    for word in words {
-        let touch = matches!((out.last(), word.as_bytes().first()), (Some(a), Some(b)) if is_wordy(*a) && is_wordy(*b));
+    for (i, word) in words.iter().enumerate() {
+        let starts = |w: &String, test: fn(&u8) -> bool| w.as_bytes().first().is_some_and(test);
+        // a number and a name behind it are two words without a blank, too
+        let parted = i > 0 && starts(&words[i - 1], u8::is_ascii_digit) && starts(word, u8::is_ascii_alphabetic);
+        let touch = !parted && matches!((out.last(), word.as_bytes().first()), (Some(a), Some(b)) if is_wordy(*a) && is_wordy(*b));
         if touch || (tight == 2 && !out.is_empty()) || (tight == 1 && rng.percent(30)) {
             out.push(if rng.percent(8) { *rng.pick(b"\n\t\r\x0b\x0c") } else { b' ' });
         }
@@ -743,7 +746,7 @@ fn join(rng: &mut Rng, words: &[String]) -> Vec<u8> {
 
 const ALL_WORDS: &[&str] = &[
     "def", "class", "end", "return", "if", "else", "attr_accessor", "(", ")", ",", "+", "-", "*", "=", "<", ".", ":", "@",
-    "0", "1", "9223372036854775807", "9223372036854775808", "x", "y", "f", "g", "A", "B", "a", "m", "true", "false", "nil",
+    "0", "1", "9223372036854775807", "9223372036854775808", "x", "y", "f", "g", "A", "B", "a", "m", "x1", "x10", "x1_", "x1y", "f2", "A1", "pen2", "return1", "if1", "end1", "else1", "def1", "true1", "nil2", "true", "false", "nil",
     "main", "initialize", "new",
 ];
 
@@ -815,10 +818,10 @@ fn words_only(rng: &mut Rng, size: usize) -> Vec<u8> {
     let before: &[&str] = match frame {
         0 => &[],
         1 => &["class", "A"],
-        2 => &["def", "f", "(", "a", ")", "end", "def", "main", "(", ")"],
-        3 => &["class", "A", "attr_accessor", ":", "x", "def", "m", "(", "a", ")"],
+        2 => &["def", "f2", "(", "a", ")", "end", "def", "main", "(", ")", "x1", "=", "1"],
+        3 => &["class", "A1", "attr_accessor", ":", "pen2", "def", "m", "(", "a", ")"],
         4 => &["class", "A", "attr_accessor", ":", "a", "end", "def", "f", "(", "x", ")", "if", "x"],
-        _ => &["def", "g", "(", ")", "1", "end", "def", "main", "(", ")", "x", "=", "g", "(", ")"],
+        _ => &["def", "g", "(", ")", "1", "end", "def", "main", "(", ")", "x10", "=", "g", "(", ")"],
     };
     words.extend(before.iter().map(|w| w.to_string()));
     for _ in 0..rng.below(3 + 3 * size) {
@@ -921,13 +924,14 @@ fn full_list(rng: &mut Rng) -> Vec<u8> {
 
 // ---- all short sequences ----
 
-/// Name, text before, text after.
-const FRAMES: &[(&str, &str, &str)] = &[
-    ("top", "", ""),
-    ("class", "class A attr_accessor :x ", ""),
-    ("body", "def f(x) x end def main() ", " end"),
-    ("method", "def f(x) 1 end class A attr_accessor :x def m(x) ", " end end"),
-    ("arm", "class A attr_accessor :x end def f() end def main() x=A.new() if nil ", " end x end"),
+/// Name, text before, what parts the words, text after.
+const FRAMES: &[(&str, &str, &str, &str)] = &[
+    ("top", "", " ", ""),
+    ("class", "class A attr_accessor :x ", " ", ""),
+    ("body", "def f(x) x end def main() ", " ", " end"),
+    ("method", "def f(x) 1 end class A attr_accessor :x def m(x) ", " ", " end end"),
+    ("arm", "class A attr_accessor :x end def f() end def main() x=A.new() if nil ", " ", " end x end"),
+    ("touching", "class A1 attr_accessor :x1 end def f1() 1 end def main() x=f1() x1=A1.new() ", "", " end"),
 ];
 
 const SEQUENCE_WORDS: &[&str] = &[
@@ -936,7 +940,7 @@ const SEQUENCE_WORDS: &[&str] = &[
 ];
 
 fn all_sequences(most: usize, only: Option<&str>, out: &mut dyn FnMut(Vec<u8>)) {
-    for (at, (name, _, _)) in FRAMES.iter().enumerate() {
+    for (at, (name, ..)) in FRAMES.iter().enumerate() {
         if only.is_some_and(|o| o != *name) {
             continue;
         }
@@ -981,10 +985,10 @@ pub fn frames() -> usize {
 
 /// Sequence i of so many words, in a frame.
 pub fn sequence(frame: usize, length: u32, i: u64) -> Vec<u8> {
-    let (_, before, after) = FRAMES[frame];
+    let (_, before, between, after) = FRAMES[frame];
     let n = SEQUENCE_WORDS.len() as u64;
     let middle: Vec<&str> = (0..length).rev().map(|place| SEQUENCE_WORDS[(i / n.pow(place) % n) as usize]).collect();
-    format!("{before}{}{after}", middle.join(" ")).into_bytes()
+    format!("{before}{}{after}", middle.join(between)).into_bytes()
 }
 
 // ---- the program ----
@@ -1025,7 +1029,7 @@ pub fn main() {
         }
         let Some(most) = most else { stop(&format!("--words is missing; {USAGE}")) };
         if let Some(name) = &frame {
-            if !FRAMES.iter().any(|(n, _, _)| n == name) {
+            if !FRAMES.iter().any(|(n, ..)| n == name) {
                 stop(&format!("unknown frame '{name}'"));
             }
         }

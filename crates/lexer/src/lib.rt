@@ -3,7 +3,7 @@
 
 ghost use Rattle.std.specs.Prelude.{Bool, ◌≡◌, ℕ, ◌+◌, ◌<◌, drop};
 ghost use Rattle.rules.specs.Lists.{same};
-ghost use Rattle.rules.specs.Words.{blank, in_word, digit, sign, run, decimal};
+ghost use Rattle.rules.specs.Words.{blank, letter, in_word, digit, sign, run, decimal};
 ghost use Rattle.lexer.specs.Names.{name};
 ghost use Rattle.lexer.specs.Lexed.{kept_token, fitting, Passes, Lexes, Glances};
 
@@ -67,10 +67,16 @@ fn is_blank(b: u8) -> bool
     matches!(b, b'\t'..=b'\r' | b' ')
 }
 
+fn is_letter(b: u8) -> bool
+    ensures { result ≡ letter b }
+{
+    b.is_ascii_alphabetic()
+}
+
 fn is_in_word(b: u8) -> bool
     ensures { result ≡ in_word b }
 {
-    b.is_ascii_alphabetic() | (b == b'_')
+    b.is_ascii_alphanumeric() | (b == b'_')
 }
 
 fn is_digit(b: u8) -> bool
@@ -152,7 +158,7 @@ fn word_at(script: &[u8], at: usize) -> Result<Word, Refusal>
             next: start,
         });
     };
-    if b.is_ascii_alphabetic() {
+    if is_letter(b) {
         let next = behind(script, start, is_in_word);
         let len = next - start;
         let token = kept_token(bytes_at(script, start, len));
@@ -163,7 +169,7 @@ fn word_at(script: &[u8], at: usize) -> Result<Word, Refusal>
             next,
         });
     }
-    if b.is_ascii_digit() {
+    if is_digit(b) {
         let next = behind(script, start, is_digit);
         let len = next - start;
         let value = literal(bytes_at(script, start, len)).ok_or(Refusal::NumberTooLarge)?;
@@ -185,8 +191,8 @@ fn word_at(script: &[u8], at: usize) -> Result<Word, Refusal>
     Err(Refusal::UnknownByte)
 }
 
-// The next word from a place on, where only signs are told apart, with the place behind them: the letters of a word need not be read.
-// Stays: beside `word_at`, since each level of an expression asks only whether a sign is next (docs/DECISIONS.md, 39): by `word_at` a word's letters would be read
+// The next word from a place on, where only signs are told apart, with the place behind them: a word need not be read to its end.
+// Stays: beside `word_at`, since each level of an expression asks only whether a sign is next (docs/DECISIONS.md, 39): by `word_at` a word's bytes would be read
 // once a level.
 fn sign_at(script: &[u8], at: usize) -> Result<Option<(u8, usize)>, Refusal>
     ensures { Glances script.now at result }
@@ -195,10 +201,10 @@ fn sign_at(script: &[u8], at: usize) -> Result<Option<(u8, usize)>, Refusal>
     let Some(&b) = script.get(start) else {
         return Ok(None);
     };
-    if b.is_ascii_alphabetic() {
+    if is_letter(b) {
         return Ok(None);
     }
-    if b.is_ascii_digit() {
+    if is_digit(b) {
         let next = behind(script, start, is_digit);
         if literal(bytes_at(script, start, next - start)).is_none() {
             return Err(Refusal::NumberTooLarge);

@@ -1,4 +1,4 @@
--- 01's starred scripts and its listing, evaluated under the rules. Assumes nothing.
+-- 01's starred scripts, scripts of order 2 and 01's listing, evaluated under the rules. Assumes nothing.
 use Rattle.std.specs.Prelude.{Bool as 𝔹, true, false, not, ◌&&◌, ◌||◌, ◌≡◌, refl, List, [], ◌∷◌, ℕ, eqb, pos, get_or}
 use Prim.Native.String.{String, ◌++◌}
 use Rattle.kinds.specs.declared.Kind.{Kind}
@@ -11,7 +11,7 @@ use Rattle.rules.specs.Program.{limits}
 use Rattle.rules.specs.Frames.{Analysis, analyze, live}
 use Rattle.rules.specs.Opened.{opened}
 
--- what 01 says of a script, and order 1 of 02 of 1-1
+-- what 01 says of a script, and orders 1 and 2 of 02
 pub data Says : Type 0 where
   refusal : ℕ → Says
   accepted : Says
@@ -57,6 +57,13 @@ starred =
     ∷ ("def f(a) a end def main() f(1,) end", accepted ∷ [])
     ∷ []
 
+-- order 2 of 02: a digit goes on in a word (`x2` is a name that isn't bound, no x and a 2) and starts none (`1a2` is 1, then a2)
+abbrev pub numbered : List (String × List Says)
+numbered =
+    (body "x=1 x2", refusal 6 ∷ [])
+    ∷ ("def f(a2) 1a2 end def main() f(3) end", kind-is 2 (Num (pos 3)) ∷ [])
+    ∷ []
+
 abbrev pub told : List (String × List Says) → 𝔹
 told l = all (λ (x : String × List Says). all (holds (analyze limits (bytes x.0))) x.1) l
 
@@ -64,6 +71,11 @@ told l = all (λ (x : String × List Says). all (holds (analyze limits (bytes x.
 pub starred-told : told starred ≡ true
 unfolding opened
 starred-told = refl
+
+-- all that is said of names with digits holds
+pub numbered-told : told numbered ≡ true
+unfolding opened
+numbered-told = refl
 
 -- 01's listing
 pub listing : live (bytes "def main() return 1+2 end")
