@@ -1,6 +1,7 @@
 /* Which blocks of a farm script can run: the library behind libdinqosa.a.
  *
  * dinqosa_analyze_in needs one block of memory and is the call to take. dinqosa_analyze is lent the parts one by one.
+ * dinqosa_read reads the frames of a stored answer back.
  * docs/MEMORY.md says what the answer part holds. */
 #ifndef DINQOSA_H
 #define DINQOSA_H
@@ -85,6 +86,25 @@ static inline uint8_t dinqosa_analyze_in(struct dinqosa_memory *memory, const ui
     return dinqosa_analyze(memory->script, script_len, memory->answer, DINQOSA_ANSWER_WORDS,
                            memory->program, DINQOSA_PROGRAM_WORDS, memory->state, DINQOSA_STATE_WORDS);
 }
+
+/* What is added to the number of a refusal that was read. */
+#define DINQOSA_READ 256
+/* Why nothing was read, besides DINQOSA_MEMORY_TOO_SHORT. */
+enum {
+    /* A line is no legal frame, or isn't ended. */
+    DINQOSA_ILLEGAL_LINE = 21,
+    /* A frame is missing, repeated or misplaced, a number reaches a total, or there are too many uses. */
+    DINQOSA_MISPLACED = 22
+};
+
+/* Reads frames, as `live` writes them, of any length. What it gives doesn't fit a uint8_t:
+ * DINQOSA_ANSWERED: an answer was read, and the answer part holds what it held after the call that gave it.
+ * DINQOSA_READ + n: the refusal n was read, and the published words are clear.
+ * DINQOSA_ILLEGAL_LINE, DINQOSA_MISPLACED: nothing was read, and the published words are clear.
+ * DINQOSA_MEMORY_TOO_SHORT: nothing was read, and all memory is as it was.
+ * The text and the answer part must not overlap. The answer part may be longer than its published length; words beyond it are never
+ * changed. */
+uint16_t dinqosa_read(const uint8_t *text, size_t text_len, uint64_t *answer, size_t answer_len);
 
 #ifdef __cplusplus
 }

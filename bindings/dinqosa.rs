@@ -73,6 +73,8 @@ mod raw {
             script: *const u8, script_len: usize, answer: *mut u64, answer_len: usize, program: *mut u64, program_len: usize,
             state: *mut u64, state_len: usize,
         ) -> u8;
+
+        pub fn dinqosa_read(text: *const u8, text_len: usize, answer: *mut u64, answer_len: usize) -> u16;
     }
 }
 
@@ -91,7 +93,44 @@ pub fn analyze(script: &[u8], answer: &mut [u64], program: &mut [u64], state: &m
     }
 }
 
-/// An answer part after an answered call. Numbers out of range panic, as a slice's would.
+/// What is added to the number of a refusal that was read.
+pub const READ: usize = 256;
+
+/// A stored answer that was read: an answer, which the answer part holds, or a refusal.
+#[derive(Clone, Copy, PartialEq, Eq, Debug)]
+pub enum Loaded {
+    Answer,
+    Refusal(Refusal),
+}
+
+/// Why nothing was read. `MemoryTooShort` leaves the answer part as it was; the others clear its published words.
+#[derive(Clone, Copy, PartialEq, Eq, Debug)]
+#[repr(u8)]
+pub enum Unread {
+    MemoryTooShort = 2,
+    /// A line is no legal frame, or isn't ended.
+    IllegalLine = 21,
+    /// A frame is missing, repeated or misplaced, a number reaches a total, or there are too many uses.
+    Misplaced = 22,
+}
+
+impl Unread {
+    const ALL: [Unread; 3] = [Unread::MemoryTooShort, Unread::IllegalLine, Unread::Misplaced];
+}
+
+/// Reads frames, as `live` writes them, of any length. A refusal clears the published words, as an answer does those that it
+/// doesn't use.
+pub fn read(text: &[u8], answer: &mut [u64]) -> Result<Loaded, Unread> {
+    // The borrows keep the text and the answer part apart and alive for the call.
+    let number = unsafe { raw::dinqosa_read(text.as_ptr(), text.len(), answer.as_mut_ptr(), answer.len()) };
+    match usize::from(number) {
+        0 => Ok(Loaded::Answer),
+        n if READ < n => Ok(Loaded::Refusal(Refusal::ALL[n - READ - 1])),
+        n => Err(*Unread::ALL.iter().find(|u| **u as usize == n).expect("a number of the reader's")),
+    }
+}
+
+/// An answer part after an answered call, or after an answer was read. Numbers out of range panic, as a slice's would.
 #[derive(Clone, Copy)]
 pub struct Answer<'a>(pub &'a [u64]);
 

@@ -1,7 +1,7 @@
 /* How deep a call goes, and that the published stack is enough.
  *
  * stack            runs the deepest scripts known in a thread with exactly DINQOSA_STACK_BYTES of stack, and one of them in a
- *                  stack that is too small, which must be seen
+ *                  stack that is too small, which must be seen; says too what reading frames back takes
  * stack --measure  reads a batch of scripts from standard input; prints the deepest of them and its bytes of stack, which must
  *                  not be above DINQOSA_STACK_BYTES
  */
@@ -21,12 +21,18 @@ static const size_t AMPLE = 2 * DINQOSA_STACK_BYTES;
 static struct dinqosa_memory memory;
 
 struct run {
-    const uint8_t *script;
+    const uint8_t *script; /* or, to be read back, frames */
     size_t n;
+    int reading;
     unsigned char *bottom;
     size_t used;
     int result;
 };
+
+static int call(const struct run *r) {
+    if (r->reading) return dinqosa_read(r->script, r->n, memory.answer, DINQOSA_ANSWER_WORDS);
+    return dinqosa_analyze_in(&memory, r->script, r->n);
+}
 
 /* Fills the stack below this frame, calls, and looks how far down it was written. */
 static __attribute__((noinline)) void *measured(void *given) {
@@ -34,7 +40,7 @@ static __attribute__((noinline)) void *measured(void *given) {
     unsigned char *here = __builtin_frame_address(0);
     unsigned char *top = here - 512; /* this frame stays as it is */
     for (volatile unsigned char *p = r->bottom; p < top; p++) *p = PATTERN;
-    r->result = dinqosa_analyze_in(&memory, r->script, r->n);
+    r->result = call(r);
     unsigned char *p = r->bottom;
     while (p < top && *p == PATTERN) p++;
     r->used = (size_t)(here - p);
@@ -43,7 +49,7 @@ static __attribute__((noinline)) void *measured(void *given) {
 
 static __attribute__((noinline)) void *called(void *given) {
     struct run *r = given;
-    r->result = dinqosa_analyze_in(&memory, r->script, r->n);
+    r->result = call(r);
     return NULL;
 }
 
@@ -116,6 +122,18 @@ static const struct shape {
     {"128 nested calls", "def f(a) a end def main() ", 128, "f(", "1", ")", " end", DINQOSA_LIMIT},
 };
 
+/* Frames that are read back, in no more stack than a call has. */
+static const struct stored {
+    const char *what, *frames;
+    int result;
+} stored[] = {
+    {"reading an answer", "01010100020000000000000003\n020001\n030000020000000000000003\n030001000000000000000000\n0400000001\n", DINQOSA_ANSWERED},
+    {"reading a caller and a set", "01010100010000000000000003\n020001\n030000080000000000000010\n05000000\n", DINQOSA_ANSWERED},
+    {"reading a refusal", "7f06\n", DINQOSA_READ + 6},
+    {"reading an illegal line", "01010100020000000000000003\n020002\n", DINQOSA_ILLEGAL_LINE},
+    {"reading a misplaced line", "020001\n", DINQOSA_MISPLACED},
+};
+
 static int measure(void) {
     static uint8_t script[1 << 20];
     unsigned char length[4];
@@ -124,7 +142,7 @@ static int measure(void) {
     while (fread(length, 1, 4, stdin) == 4) {
         size_t n = (size_t)length[0] << 24 | (size_t)length[1] << 16 | (size_t)length[2] << 8 | length[3];
         if (sizeof script < n || fread(script, 1, n, stdin) != n) stop("a bad batch");
-        struct run r = {script, n, NULL, 0, 0};
+        struct run r = {script, n, 0, NULL, 0, 0};
         in_thread(measured, &r, AMPLE);
         if (deepest < r.used) deepest = r.used, found = place;
         place++;
@@ -148,7 +166,7 @@ int main(int words, char **word) {
         put(&text, 1, s->middle);
         put(&text, s->times, s->close);
         put(&text, 1, s->tail);
-        struct run r = {(const uint8_t *)text.at, text.n, NULL, 0, 0};
+        struct run r = {(const uint8_t *)text.at, text.n, 0, NULL, 0, 0};
         in_thread(measured, &r, AMPLE);
         if (deepest < r.used) deepest = r.used, deep = text;
         int result = in_child(&r, DINQOSA_STACK_BYTES);
@@ -156,7 +174,15 @@ int main(int words, char **word) {
         if (result != r.result) printf("failed: %s: the published stack is too small\n", s->what), failed = 1;
         printf("stack: %-40s %7zu bytes\n", s->what, r.used);
     }
-    struct run r = {(const uint8_t *)deep.at, deep.n, NULL, 0, 0};
+    for (size_t k = 0; k < sizeof stored / sizeof *stored; k++) {
+        struct run r = {(const uint8_t *)stored[k].frames, strlen(stored[k].frames), 1, NULL, 0, 0};
+        in_thread(measured, &r, AMPLE);
+        int result = in_child(&r, DINQOSA_STACK_BYTES); /* as an exit status, so its lowest byte */
+        if (r.result != stored[k].result) printf("failed: %s: %d, not %d\n", stored[k].what, r.result, stored[k].result), failed = 1;
+        if (result != r.result % 256) printf("failed: %s: the published stack is too small\n", stored[k].what), failed = 1;
+        printf("stack: %-40s %7zu bytes\n", stored[k].what, r.used);
+    }
+    struct run r = {(const uint8_t *)deep.at, deep.n, 0, NULL, 0, 0};
     if (in_child(&r, (deepest - 8192) / 4096 * 4096) != NEVER) {
         printf("failed: a stack that is too small isn't seen\n");
         failed = 1;

@@ -1,4 +1,5 @@
-/* Links libdinqosa.a from C: the call over parts and the call over one block, on dirty memory between red zones. */
+/* Links libdinqosa.a from C: the call over parts, the call over one block and the reading of stored answers, on dirty
+ * memory between red zones. */
 #include "dinqosa.h"
 #include <stdio.h>
 #include <stdlib.h>
@@ -131,6 +132,37 @@ static void test_block(void) {
     same_in_block((const uint8_t *)"def main() x end", 16);
 }
 
+/* A stored answer, read back. */
+
+static uint16_t load(const char *text, size_t n, size_t length) {
+    fill(part[1], published[0] + 2 * ZONE);
+    return dinqosa_read((const uint8_t *)text, n, part[1] + ZONE, length);
+}
+
+static int load_whole(void) { return all(part[1], ZONE, RED) && all(part[1] + ZONE + published[0], ZONE, RED); }
+
+static void test_read(void) {
+    static const char stored[] = "01010100020000000000000003\n020001\n030000020000000000000003\n030001000000000000000000\n0400000001\n";
+    static const char script[] = "def main() return 1+2 end";
+    size_t n = sizeof stored - 1;
+    check(call(script, strlen(script), published) == DINQOSA_ANSWERED, "the stored script is answered");
+    check(load(stored, n, published[0]) == DINQOSA_ANSWERED, "a stored answer is read");
+    check(!memcmp(part[1] + ZONE, part[0] + ZONE, 8 * published[0]), "and the answer part holds what the call left");
+    check(load_whole(), "nothing beyond is changed by a stored answer");
+    check(load(stored, n, published[0] + ZONE) == DINQOSA_ANSWERED && load_whole(), "nor in a longer part");
+
+    check(load("7f06\n", 5, published[0]) == DINQOSA_READ + DINQOSA_UNBOUND_NAME, "a refusal is read");
+    check(all(part[1] + ZONE, published[0], 0) && load_whole(), "and the answer part is cleared");
+    check(load(stored, n - 1, published[0]) == DINQOSA_ILLEGAL_LINE, "a line that isn't ended");
+    check(all(part[1] + ZONE, published[0], 0) && load_whole(), "and the answer part is cleared");
+    check(load(stored + 27, n - 27, published[0]) == DINQOSA_MISPLACED, "frames without totals");
+    check(all(part[1] + ZONE, published[0], 0) && load_whole(), "and the answer part is cleared");
+    check(load(stored + 27, n - 28, published[0]) == DINQOSA_ILLEGAL_LINE, "both: the illegal line is told");
+    check(load(NULL, 0, published[0]) == DINQOSA_MISPLACED, "an empty text needs no place");
+    check(load(stored, n, published[0] - 1) == DINQOSA_MEMORY_TOO_SHORT, "a part one short is refused");
+    check(all(part[1], published[0] + 2 * ZONE, RED), "and nothing is changed");
+}
+
 /* Every script of a batch, by both calls; the number of scripts. */
 static long test_batch(const char *path) {
     static uint8_t script[1 << 20];
@@ -158,6 +190,7 @@ int main(int words, char **word) {
     for (int k = 0; k < LENGTHS; k++) part[k] = malloc((published[k] + 2 * ZONE) * sizeof(uint64_t));
     test_parts();
     test_block();
+    test_read();
     long scripts = test_batch(word[1]);
     printf("C: %ld scripts, %s\n", scripts, failed ? "failed" : "passed");
     return failed;

@@ -1,5 +1,5 @@
-//! Links libdinqosa.a from Rust, through the wrapper: every stored vector, dirty memory, red zones, memory too short, the
-//! published stack.
+//! Links libdinqosa.a from Rust, through the wrapper: every stored vector, its frames read back, dirty memory, red zones, memory
+//! too short, the published stack.
 #[path = "dinqosa.rs"]
 mod dinqosa;
 use dinqosa::*;
@@ -93,6 +93,24 @@ fn main() {
             };
             check(text.as_bytes() == &expected[k][..], format!("script {k}: other frames"));
             check(a.zones_whole() && p.zones_whole() && s.zones_whole(), format!("script {k}: words beyond the published lengths changed"));
+            // read back
+            let mut again = Part::new(ANSWER_WORDS);
+            match read(&expected[k], unsafe { &mut *lent(&mut again) }) {
+                Ok(Loaded::Answer) => check(result.is_ok(), format!("script {k}: an answer was read of a refusal")),
+                Ok(Loaded::Refusal(refusal)) => check(result == Err(refusal), format!("script {k}: another refusal was read")),
+                Err(e) => check(false, format!("script {k}: its frames aren't read: {e:?}")),
+            }
+            check(again.zones_whole(), format!("script {k}: words beyond the published length changed by reading"));
+            if result != Err(Refusal::ScriptTooLong) {
+                check(again.lent() == a.lent(), format!("script {k}: another answer part was read"));
+            }
+            let cut = &expected[k][..expected[k].len() - 1];
+            check(read(cut, again.lent()) == Err(Unread::IllegalLine), format!("script {k}: cut frames"));
+            check(again.lent().iter().all(|w| *w == 0), format!("script {k}: the answer part after cut frames"));
+            let twice = [&expected[k][..], &expected[k][..]].concat();
+            again.words.fill(RED);
+            check(read(&twice, again.lent()) == Err(Unread::Misplaced), format!("script {k}: frames twice"));
+            check(again.lent().iter().all(|w| *w == 0) && again.zones_whole(), format!("script {k}: the answer part after frames twice"));
             let left = if result == Err(Refusal::ScriptTooLong) { RED } else { 0 };
             check(p.lent().iter().chain(s.lent().iter()).all(|w| *w == left), format!("script {k}: work memory"));
             if result.is_err() {
@@ -107,6 +125,10 @@ fn main() {
         check(analyze(b"def main() 1 end", a.lent(), p.lent(), s.lent()) == Err(Refusal::MemoryTooShort), format!("part {short} one short"));
         check(parts.iter().all(|part| part.words.iter().all(|w| *w == RED)), format!("part {short} one short: memory changed"));
     }
+    let mut short = Part::new(ANSWER_WORDS);
+    short.length -= 1;
+    check(read(b"7f02\n", short.lent()) == Err(Unread::MemoryTooShort), "reading with memory one short".to_string());
+    check(short.words.iter().all(|w| *w == RED), "reading with memory one short: memory changed".to_string());
     // 128 nested calls, the deepest script known; a stack that is too small ends the test by a signal
     let deep = format!("def f(a) a end def main() {}1{} end", "f(".repeat(128), ")".repeat(128));
     let call = move || analyze(deep.as_bytes(), &mut vec![RED; ANSWER_WORDS], &mut vec![RED; PROGRAM_WORDS], &mut vec![RED; STATE_WORDS]);

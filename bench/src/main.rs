@@ -202,6 +202,24 @@ fn plot(path: &str, title: &str, axis: &str, points: &[(f64, f64, f64)]) {
     std::fs::write(path, out).unwrap_or_else(|e| panic!("{path}: {e}"));
 }
 
+// ---- reading back ----
+
+/// Times the reader of stored answers beside the reference's, on texts whose length doubles.
+fn read_back(answer: &mut [u64]) {
+    println!("{:<24} {:>9} {:>11} {:>11} {:>7} {:>9}", "stored answer", "bytes", "library us", "stored us", "ratio", "ns/byte");
+    let mut words = vec![0u64; ANSWER_WORDS];
+    for instructions in [128, 256, 512, 1_024, 2_048] {
+        let text = texts::all_callers(instructions);
+        let (given, first) = clock::timed(|| dinqosa::read(&text, answer));
+        assert_eq!(given, Ok(dinqosa::Loaded::Answer));
+        let ours = time(first, || { let _ = dinqosa::read(&text, answer); });
+        let (_, first) = clock::timed(|| stored::read(&text, &mut words));
+        let theirs = time(first, || { let _ = stored::read(&text, &mut words); });
+        let name = format!("{instructions} instructions");
+        println!("{name:<24} {:>9} {:>11.1} {:>11.1} {:>7.2} {:>9.2}", text.len(), ours / 1_000.0, theirs / 1_000.0, theirs / ours, ours / text.len() as f64);
+    }
+}
+
 fn run(plots: Option<String>) {
     for setup in [limited::driver::set_up, current::driver::set_up] {
         setup();
@@ -229,6 +247,7 @@ fn run(plots: Option<String>) {
     }
     let least = |label: &str| rows.iter().filter(|r| r.name.starts_with(label)).map(|r| r.rust / r.ours).fold(f64::MAX, f64::min);
     println!("least ratio: 1 KB {:.2}, 16 KB {:.2}", least("1 KB"), least("16 KB"));
+    read_back(&mut answer);
     if let Some(folder) = plots {
         let rows: Vec<&Row> = rows.iter().filter(|r| r.count > 0).collect();
         plot(&format!("{folder}/time-count.svg"), "Time against count", "entries taken off", &rows.iter().map(|r| (r.count as f64, r.ours / 1e3, r.rust / 1e3)).collect::<Vec<_>>());

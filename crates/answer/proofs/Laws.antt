@@ -50,7 +50,7 @@ starts-at k (l ∷ ls) (suc i) h = rw (starts-at (k + length l) ls i (le_of_suc-
 
 -- ---- rows of bits
 
-bit_small : (b : 𝔹) → bit_of b < 2
+pub bit_small : (b : 𝔹) → bit_of b < 2
 bit_small true = omega arith
 bit_small false = omega arith
 

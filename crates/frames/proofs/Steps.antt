@@ -16,6 +16,8 @@ use Rattle.ids.specs.declared.BlockId.{BlockId}
 use Rattle.ids.specs.declared.FunId.{FunId}
 use Rattle.ids.specs.declared.InsnId.{InsnId}
 use Rattle.rules.specs.Lists.{concat}
+use Rattle.rules.specs.Sorts.{of_caller}
+use Rattle.rules.specs.Frames.{frame_line}
 use Rattle.answer.specs.Image.{listed, functions_in, blocks_in, instructions_in, count_in, live_in, tag_in, payload_in, start_in, user_in, word_in, bits_in}
 use Rattle.memory.specs.Layout.{functions_most, blocks_most, instructions_most, uses_most}
 use Rattle.frames.specs.declared.NextFrame.{NextFrame}
@@ -23,7 +25,6 @@ use Rattle.frames.specs.declared.NextFrame.TheVariants.{Totals, Block, Instructi
 use Rattle.frames.specs.declared.Frame.{Frame}
 use Rattle.frames.specs.declared.Frame.TheVariants as F
 use Rattle.frames.specs.Text.{
-  line_of,
   totals_line,
   block_line,
   kind_line,
@@ -77,7 +78,7 @@ module _ {a : List ℕ} where
   block_end {b} r e h = record { text = rw (listed-none (block_line a) b.0 (blocks_in a) (omega (arith, r.0))); falls = omega arith }
 
   pub block_more : {b : BlockId} {r n : ℕ} {l : 𝔹} → (r ≡ blocks_in a) × (r ≤ blocks_most) → n ≡ b.0 → n < r → l ≡ live_in a b.0
-      → Stepped a (Block b) (Some (F.Live b l)) (Some (Block (record { 0 = b.0 + 1 })))
+      → Stepped a (Block b) (Some (F.Block b l)) (Some (Block (record { 0 = b.0 + 1 })))
   unfolding from_block block_line
   block_more {b} is x h e =
       record { text = rw (listed_more (block_line a) b.0 (blocks_in a) (omega (arith, is.0)), e, append_assoc); falls = omega (arith, is.1) }
@@ -128,7 +129,7 @@ module _ {a : List ℕ} {i : InsnId} {j : ℕ} {r n : ℕ} (is : (r ≡ instruct
   use_next h e k = record { text = rw e.0 (next-uses a i.0 j (omega (arith, is.0)) (omega (arith, e.0))); falls = omega (arith, is.1, e.1) }
 
   pub use_more : {e : ℕ} {u : InsnId} → n < r → (e ≡ start_in a (i.0 + 1)) × (e ≤ uses_most) → j < e → u.0 ≡ user_in a j
-      → Stepped a (Use i j) (Some (F.User i u)) (Some (Use i (j + 1)))
+      → Stepped a (Use i j) (Some (F.Use i u)) (Some (Use i (j + 1)))
   unfolding use_line
   use_more h e k u = record { text = more-uses a i.0 j (omega (arith, is.0)) (omega (arith, e.0)) ∙ rw u; falls = omega (arith, e.1) }
 
@@ -180,7 +181,7 @@ module _ (a : List ℕ) where
   unfolding caller_line
   no_line f m z = rw z
 
-  a_line : (f m : ℕ) → (bits_in a f m % 2 ≡ 0 → ⊥) → caller_line a f m ≡ line_of ((1, 5) ∷ (1, f) ∷ (2, m) ∷ [])
+  a_line : (f m : ℕ) → (bits_in a f m % 2 ≡ 0 → ⊥) → caller_line a f m ≡ frame_line of_caller (f ∷ m ∷ [])
   unfolding caller_line
   a_line f m h = rw (ne_eqb (bits_in a f m % 2) 0 h)
 
@@ -209,7 +210,7 @@ module _ {a : List ℕ} {f : FunId} {i : InsnId} {q m : ℕ} (fs : (q ≡ functi
             falls = omega (arith, is.1);
           }
 
-      pub caller_more : (w % 2 ≡ 0 → ⊥) → Stepped a (Caller f i) (Some (F.Call f i)) (Some (Caller f (record { 0 = i.0 + 1 })))
+      pub caller_more : (w % 2 ≡ 0 → ⊥) → Stepped a (Caller f i) (Some (F.Caller f i)) (Some (Caller f (record { 0 = i.0 + 1 })))
       caller_more z =
           record {
             text = more-callers a f.0 i.0 (omega (arith, fs.0)) (omega (arith, is.0)) ∙ rw (a_line a f.0 i.0 (rw bits at z));

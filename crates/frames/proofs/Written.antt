@@ -8,20 +8,20 @@ use native.Mathlib.Omega.{arith}
 use lib.ListN.{length, get_or}
 use Rattle.kinds.specs.declared.Kind.{Kind}
 use Rattle.kinds.specs.declared.Kind.TheVariants.{Empty}
-use Rattle.kinds.specs.Kinds.{bit_of, tag_of, payload_of}
-use Rattle.rules.specs.Lists.{concat, places, places_from}
+use Rattle.rules.specs.Lists.{concat, places_from}
 use Rattle.rules.specs.Actions.{answered, refused}
 use Rattle.rules.specs.Program.{limits, Program}
 use Rattle.rules.specs.Machine.{State}
 use Rattle.rules.specs.Uses.{uses}
-use Rattle.rules.specs.Frames.{field, line, each_at, pairs, frames, refusal_frame, Analysis, analyze, live}
+use Rattle.rules.specs.Sorts.{of_use, of_caller}
+use Rattle.rules.specs.Frames.{each_at, frame_line, totals_frame, block_frame, kind_frame, use_frames, caller_frames, frames, refusal_frame, Analysis, analyze, live}
 use Rattle.answer.specs.Record.{Record, Legal, Shaped, users_from, answer_record}
 use Rattle.answer.specs.Image.{listed, image_of, functions_in, blocks_in, instructions_in, start_in, user_in, users_in, calls_in}
 use Rattle.answer.proofs.Image.{functions-is, blocks_is, instructions-is, count-is, live-is, tag_is, payload-is, users-is, calls_is}
 use Rattle.answer.proofs.Answered.{answer-published}
 use Rattle.frames.specs.declared.NextFrame.{NextFrame}
 use Rattle.frames.specs.declared.NextFrame.TheVariants.{Totals}
-use Rattle.frames.specs.Text.{block_frame, kind_frame, use_frames, caller_frames, record_text, line_of, totals_line, block_line, kind_line, use_line, caller_line, use_lines, caller_lines, from_kind}
+use Rattle.frames.specs.Text.{record_text, totals_line, block_line, kind_line, use_line, caller_line, use_lines, caller_lines, from_kind}
 use Rattle.frames.specs.Text.{from_block, rest_of, rest_at, Run, ended, piece}
 use Rattle.frames.proofs.Steps.{uses-all, callers-all}
 
@@ -57,30 +57,29 @@ places-listed h c (b ∷ row) k e =
 -- ---- the image of a record
 
 module _ (r : Record) (ok : Legal r) where
-  totals-text : totals_line (image_of r) ≡ line (field 1 1 ∷ field 1 (length r.callers) ∷ field 1 (length r.live) ∷ field 2 (length r.kinds) ∷ field 8 r.count ∷ [])
-  unfolding totals_line line_of
+  totals-text : totals_line (image_of r) ≡ totals_frame (length r.callers) (length r.live) (length r.kinds) r.count
+  unfolding totals_line
   totals-text = rw (functions-is r ok, blocks_is r ok, instructions-is r ok, count-is r ok)
 
-  block-text : (b : ℕ) → b < length r.live → block_line (image_of r) b ≡ line (field 1 2 ∷ field 1 b ∷ field 1 (bit_of (get_or r.live b false)) ∷ [])
-  unfolding block_line line_of
+  block-text : (b : ℕ) → b < length r.live → block_line (image_of r) b ≡ block_frame b (get_or r.live b false)
+  unfolding block_line
   block-text b h = rw (live-is r ok b h)
 
-  kind-text : (i : ℕ) → i < length r.kinds
-      → kind_line (image_of r) i ≡ line (field 1 3 ∷ field 2 i ∷ field 1 (tag_of (get_or r.kinds i Empty)) ∷ field 8 (payload_of (get_or r.kinds i Empty)) ∷ [])
-  unfolding kind_line line_of
+  kind-text : (i : ℕ) → i < length r.kinds → kind_line (image_of r) i ≡ kind_frame i (get_or r.kinds i Empty)
+  unfolding kind_line
   kind-text i h = rw (tag_is r ok i h, payload-is r ok i h)
 
-  use_text : (i : ℕ) → i < length r.kinds → use_lines (image_of r) i ≡ pairs 4 2 i (get_or r.users i [])
-  unfolding use_lines use_line line_of users_in
+  use_text : (i : ℕ) → i < length r.kinds → use_lines (image_of r) i ≡ use_frames i (get_or r.users i [])
+  unfolding use_lines use_line users_in
   use_text i h =
-      map-listed (λ m. line (field 1 4 ∷ field 2 i ∷ field 2 m ∷ [])) (user_in (image_of r)) (start_in (image_of r) i) (start_in (image_of r) (suc i) - start_in (image_of r) i)
-      ∙ ap (pairs 4 2 i) (users-is r ok i h)
+      map-listed (λ m. frame_line of_use (i ∷ m ∷ [])) (user_in (image_of r)) (start_in (image_of r) i) (start_in (image_of r) (suc i) - start_in (image_of r) i)
+      ∙ ap (use_frames i) (users-is r ok i h)
 
-  caller-text : (f : ℕ) → f < length r.callers → caller_lines (image_of r) f ≡ pairs 5 1 f (places (λ b. b) (get_or r.callers f []))
-  unfolding caller_lines caller_line line_of
+  caller-text : (f : ℕ) → f < length r.callers → caller_lines (image_of r) f ≡ caller_frames f (get_or r.callers f [])
+  unfolding caller_lines caller_line
   caller-text f h =
       rw (instructions-is r ok, ← ok.rows f h)
-      (places-listed (λ n. line (field 1 5 ∷ field 1 f ∷ field 2 n ∷ [])) (calls_in (image_of r) f) (get_or r.callers f []) 0
+      (places-listed (λ n. frame_line of_caller (f ∷ n ∷ [])) (calls_in (image_of r) f) (get_or r.callers f []) 0
       (λ n k. let z : 0 + n ≡ n = omega arith in rw z (calls_is r ok f n h (omega (arith, ok.rows f h)))))
 
   blocks-text : concat (listed (block_line (image_of r)) 0 (blocks_in (image_of r) - 0)) ≡ each_at block_frame 0 r.live
@@ -116,9 +115,9 @@ module _ (r : Record) (ok : Legal r) where
 
 -- ---- the record of an analysis
 
-users-each : (p : Program) (ks : List Kind) (i : ℕ) → each_at (λ i k. pairs 4 2 i (uses p i)) i ks ≡ each_at use_frames i (users_from p i (length ks))
+users-each : (p : Program) (ks : List Kind) (i : ℕ) → each_at (λ i k. use_frames i (uses p i)) i ks ≡ each_at use_frames i (users_from p i (length ks))
 users-each p [] i = refl
-users-each p (k ∷ ks) i = ap (λ (z : List ℕ). pairs 4 2 i (uses p i) ++ z) (users-each p ks (suc i))
+users-each p (k ∷ ks) i = ap (λ (z : List ℕ). use_frames i (uses p i) ++ z) (users-each p ks (suc i))
 
 -- its text is the analysis's frames
 pub record_frames : (p : Program) (s : State) → Shaped p s → record_text (answer_record p s) ≡ frames p s

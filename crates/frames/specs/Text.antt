@@ -1,9 +1,9 @@
 -- The text that answer memory tells, frame by frame (01, "Frames"), and what a piece of it is. Assumes nothing.
-use Rattle.std.specs.Prelude.{Bool as 𝔹, cond, ◌≡◌, List, [], ◌∷◌, ◌++◌, ℕ, suc, ◌+◌, ◌-◌, ◌*◌, ◌≤◌, ◌<◌, ltb, length, take, drop, Option, None, Some, IfNone, OnSome}
-use Rattle.kinds.specs.declared.Kind.{Kind}
-use Rattle.kinds.specs.Kinds.{bit_of, tag_of, payload_of}
-use Rattle.rules.specs.Lists.{concat, places}
-use Rattle.rules.specs.Frames.{field, line, each_at, pairs, refusal_frame}
+use Rattle.std.specs.Prelude.{cond, ◌≡◌, List, [], ◌∷◌, ◌++◌, ℕ, suc, ◌+◌, ◌-◌, ◌*◌, ◌≤◌, ◌<◌, ltb, length, take, drop, Option, None, Some, IfNone, OnSome}
+use Rattle.kinds.specs.Kinds.{bit_of}
+use Rattle.rules.specs.Lists.{concat}
+use Rattle.rules.specs.Sorts.{Sort, of_totals, of_block, of_kind, of_use, of_caller, of_refusal}
+use Rattle.rules.specs.Frames.{each_at, frame_line, totals_frame, block_frame, kind_frame, use_frames, caller_frames, refusal_frame}
 use Rattle.answer.specs.Record.{Record}
 use Rattle.answer.specs.Image.{listed, functions_in, blocks_in, instructions_in, count_in, live_in, tag_in, payload_in, start_in, user_in, calls_in}
 use Rattle.memory.specs.Layout.{functions_most, blocks_most, instructions_most, uses_most}
@@ -12,51 +12,36 @@ use Rattle.frames.specs.declared.NextFrame.TheVariants.{Totals, Block, Instructi
 use Rattle.frames.specs.declared.Frame.{Frame}
 use Rattle.frames.specs.declared.Frame.TheVariants as F
 
--- ---- the frames of a record: 02 of a block, 03 of an instruction's kind, 04 of its uses, 05 of a function's callers
-
-abbrev pub block_frame : ℕ → 𝔹 → List ℕ
-block_frame b t = line (field 1 2 ∷ field 1 b ∷ field 1 (bit_of t) ∷ [])
-
-abbrev pub kind_frame : ℕ → Kind → List ℕ
-kind_frame i k = line (field 1 3 ∷ field 2 i ∷ field 1 (tag_of k) ∷ field 8 (payload_of k) ∷ [])
-
-abbrev pub use_frames : ℕ → List ℕ → List ℕ
-use_frames i l = pairs 4 2 i l
-
-abbrev pub caller_frames : ℕ → List 𝔹 → List ℕ
-caller_frames f row = pairs 5 1 f (places (λ b. b) row)
-
--- 01, the totals; then each sort in turn
+-- the frames of a record: the totals, then each sort in turn
 unfoldable pub record_text : Record → List ℕ
 record_text r =
-    line (field 1 1 ∷ field 1 (length r.callers) ∷ field 1 (length r.live) ∷ field 2 (length r.kinds) ∷ field 8 r.count ∷ [])
+    totals_frame (length r.callers) (length r.live) (length r.kinds) r.count
     ++ each_at block_frame 0 r.live
     ++ each_at kind_frame 0 r.kinds
     ++ each_at use_frames 0 r.users
     ++ each_at caller_frames 0 r.callers
 
--- ---- lines by their numbers, each behind its width in bytes: what the code writes
+-- ---- frames: their sort, their numbers, their line
 
-abbrev pub fields_of : List (ℕ × ℕ) → List (List ℕ)
-fields_of [] = []
-fields_of (p ∷ ps) = field p.0 p.1 ∷ fields_of ps
+abbrev pub sort_of : Frame → Sort
+sort_of (F.Totals t) = of_totals
+sort_of (F.Block b t) = of_block
+sort_of (F.Kind i t p) = of_kind
+sort_of (F.Use i u) = of_use
+sort_of (F.Caller f i) = of_caller
+sort_of (F.Refusal n) = of_refusal
 
-unfoldable pub line_of : List (ℕ × ℕ) → List ℕ
-line_of ps = line (fields_of ps)
+abbrev pub numbers_of : Frame → List ℕ
+numbers_of (F.Totals t) = t.functions ∷ t.blocks ∷ t.instructions ∷ t.count ∷ []
+numbers_of (F.Block b t) = b.0 ∷ bit_of t ∷ []
+numbers_of (F.Kind i t p) = i.0 ∷ t ∷ p ∷ []
+numbers_of (F.Use i u) = i.0 ∷ u.0 ∷ []
+numbers_of (F.Caller f i) = f.0 ∷ i.0 ∷ []
+numbers_of (F.Refusal n) = n ∷ []
 
--- the bytes that a line takes
-abbrev pub room_for : List (ℕ × ℕ) → ℕ
-room_for [] = 1
-room_for (p ∷ ps) = 2 * p.0 + room_for ps
-
--- the line of a frame
 abbrev pub frame_text : Frame → List ℕ
-frame_text (F.Totals t) = line_of ((1, 1) ∷ (1, t.functions) ∷ (1, t.blocks) ∷ (2, t.instructions) ∷ (8, t.count) ∷ [])
-frame_text (F.Live b t) = line_of ((1, 2) ∷ (1, b.0) ∷ (1, bit_of t) ∷ [])
-frame_text (F.Kind i t p) = line_of ((1, 3) ∷ (2, i.0) ∷ (1, t) ∷ (8, p) ∷ [])
-frame_text (F.User i u) = line_of ((1, 4) ∷ (2, i.0) ∷ (2, u.0) ∷ [])
-frame_text (F.Call f i) = line_of ((1, 5) ∷ (1, f.0) ∷ (2, i.0) ∷ [])
 frame_text (F.Refusal n) = refusal_frame n
+frame_text f = frame_line (sort_of f) (numbers_of f)
 
 -- and none where there is no frame
 abbrev pub text_of : Option Frame → List ℕ
@@ -67,19 +52,19 @@ text_of (Some f) = frame_text f
 
 module _ (a : List ℕ) where
   unfoldable pub totals_line : List ℕ
-  totals_line = line_of ((1, 1) ∷ (1, functions_in a) ∷ (1, blocks_in a) ∷ (2, instructions_in a) ∷ (8, count_in a) ∷ [])
+  totals_line = totals_frame (functions_in a) (blocks_in a) (instructions_in a) (count_in a)
 
   unfoldable pub block_line : ℕ → List ℕ
-  block_line b = line_of ((1, 2) ∷ (1, b) ∷ (1, bit_of (live_in a b)) ∷ [])
+  block_line b = block_frame b (live_in a b)
 
   unfoldable pub kind_line : ℕ → List ℕ
-  kind_line i = line_of ((1, 3) ∷ (2, i) ∷ (1, tag_in a i) ∷ (8, payload_in a i) ∷ [])
+  kind_line i = frame_line of_kind (i ∷ tag_in a i ∷ payload_in a i ∷ [])
 
   unfoldable pub use_line : ℕ → ℕ → List ℕ
-  use_line i j = line_of ((1, 4) ∷ (2, i) ∷ (2, user_in a j) ∷ [])
+  use_line i j = frame_line of_use (i ∷ user_in a j ∷ [])
 
   unfoldable pub caller_line : ℕ → ℕ → List ℕ
-  caller_line f n = cond (calls_in a f n) (line_of ((1, 5) ∷ (1, f) ∷ (2, n) ∷ [])) []
+  caller_line f n = cond (calls_in a f n) (frame_line of_caller (f ∷ n ∷ [])) []
 
   -- all uses of an instruction, all callers of a function
   unfoldable pub use_lines : ℕ → List ℕ

@@ -1,10 +1,12 @@
 // The frames of an answer as text, written line by line from the answer memory.
 #![tactic(auto)]
 
-ghost use Rattle.std.specs.Prelude.{◌≡◌, [], ◌∷◌, ◌≤◌, ◌<◌, length, Some};
+ghost use Rattle.std.specs.Prelude.{◌≡◌, [], ◌∷◌, ◌≤◌, ◌<◌, length, Some, option_map};
 ghost use Rattle.std.specs.Iterator.{at_most};
-ghost use Rattle.rules.specs.Frames.{digit_of, digits};
-ghost use Rattle.frames.specs.Text.{line_of, room_for, line_most, frame_text, left_at, Wrote, Stepped, Gives, Piece};
+ghost use Rattle.rules.specs.Frames.{digit_of, digits, frame_line};
+ghost use Rattle.rules.specs.Sorts.{sort_byte, widths};
+ghost use Rattle.frames.specs.Table.{sort_named, sort_from};
+ghost use Rattle.frames.specs.Text.{line_most, frame_text, left_at, Wrote, Stepped, Gives, Piece};
 
 use answer::Answer;
 use ids::{BlockId, FunId, InsnId};
@@ -12,16 +14,74 @@ use ids::{BlockId, FunId, InsnId};
 // No line is longer, its end included.
 pub const LINE_MOST: usize = 32;
 
+// No frame has more numbers.
+pub const NUMBERS_MOST: usize = 4;
+
+// The sorts of frames, each with the byte that begins its lines.
+// Stays: the bytes are published, and each stands once, as each width does.
+#[derive(Clone, Copy)]
+pub enum Sort {
+    Totals = 1,
+    Block = 2,
+    Kind = 3,
+    Use = 4,
+    Caller = 5,
+    Refusal = 127,
+}
+
+const SORTS: [Sort; 6] = [
+    Sort::Totals,
+    Sort::Block,
+    Sort::Kind,
+    Sort::Use,
+    Sort::Caller,
+    Sort::Refusal,
+];
+
+impl Sort {
+    pub fn byte(self) -> usize
+        ensures { result ≡ sort_byte (sort_named self) }
+    {
+        self as usize
+    }
+
+    // How many bytes wide its numbers are.
+    pub fn widths(self) -> &'static [usize]
+        ensures { result.now ≡ widths (sort_named self) }
+    {
+        match self {
+            Sort::Totals => &[1, 1, 2, 8],
+            Sort::Block => &[1, 1],
+            Sort::Kind => &[2, 1, 8],
+            Sort::Use => &[2, 2],
+            Sort::Caller => &[1, 2],
+            Sort::Refusal => &[1],
+        }
+    }
+
+    // The sort that a byte begins.
+    pub fn from_byte(byte: usize) -> Option<Sort>
+        ensures { option_map sort_named result ≡ sort_from byte }
+    {
+        for sort in SORTS {
+            if sort.byte() == byte {
+                return Some(sort);
+            }
+        }
+        None
+    }
+}
+
 // A frame: the totals; whether a block is live; an instruction's kind, by its tag and payload; its use by another; a function's caller; a refusal's number.
 // Stays: a tag and a payload, since answer memory may hold words that are no kind's; and a refusal's number, since the frame is written for each that a byte
 // holds, and a `Refusal` would ask more of callers.
 #[derive(Clone, Copy)]
 pub enum Frame {
     Totals(Totals),
-    Live(BlockId, bool),
+    Block(BlockId, bool),
     Kind(InsnId, usize, usize),
-    User(InsnId, InsnId),
-    Call(FunId, InsnId),
+    Use(InsnId, InsnId),
+    Caller(FunId, InsnId),
     Refusal(u8),
 }
 
@@ -66,16 +126,18 @@ fn put(n: usize, out: &mut [u8])
     }
 }
 
-// A line: numbers behind their widths in bytes, and the line's end.
-#[tactic(auto, using(crate::proofs::Laws::writing_start))]
-fn write_line(fields: &[(usize, usize)], out: &mut [u8]) -> usize
-    requires { room_for fields.now ≤ length out.old }
-    ensures { Wrote (line_of fields.now) out.old result out.new }
+// A line: the byte of its sort, its numbers, and its end.
+#[tactic(auto, using(crate::proofs::Laws::lining_width, crate::proofs::Laws::lining_fits, crate::proofs::Laws::lining_end))]
+fn write_line(sort: Sort, numbers: &[usize], out: &mut [u8]) -> usize
+    requires { (length numbers.now ≡ length (widths (sort_named sort))) × (line_most ≤ length out.old) }
+    ensures { Wrote (frame_line (sort_named sort) numbers.now) out.old result out.new }
 {
-    let mut at = 0;
-    for &(bytes, number) in fields {
-        let end = at + 2 * bytes;
-        put(number, &mut out[at..end]);
+    put(sort.byte(), &mut out[..2]);
+    let widths = sort.widths();
+    let mut at = 2;
+    for k in 0..numbers.len() {
+        let end = at + 2 * widths[k];
+        put(numbers[k], &mut out[at..end]);
         at = end;
     }
     out[at] = b'\n';
@@ -84,33 +146,22 @@ fn write_line(fields: &[(usize, usize)], out: &mut [u8]) -> usize
 
 impl Frame {
     // Writes the frame's line at the start of memory, and answers how long it is.
-    // Stays: the frames' numbers, 1 to 5 and 127, are published, and each stands once.
-    #[tactic(auto, unfolding(rules::specs::Frames::refusal_frame, crate::specs::Text::line_of))]
+    #[tactic(auto, unfolding(rules::specs::Frames::refusal_frame))]
     pub fn write(self, out: &mut [u8]) -> usize
         requires { line_most ≤ length out.old }
         ensures { Wrote (frame_text self) out.old result out.new }
     {
         match self {
             Frame::Totals(t) => write_line(
-                &[
-                    (1, 1),
-                    (1, t.functions),
-                    (1, t.blocks),
-                    (2, t.instructions),
-                    (8, t.count),
-                ],
+                Sort::Totals,
+                &[t.functions, t.blocks, t.instructions, t.count],
                 out,
             ),
-            Frame::Live(b, live) => write_line(
-                &[(1, 2), (1, b.index()), (1, usize::from(live))],
-                out,
-            ),
-            Frame::Kind(i, tag, payload) => {
-                write_line(&[(1, 3), (2, i.index()), (1, tag), (8, payload)], out)
-            }
-            Frame::User(i, user) => write_line(&[(1, 4), (2, i.index()), (2, user.index())], out),
-            Frame::Call(f, i) => write_line(&[(1, 5), (1, f.index()), (2, i.index())], out),
-            Frame::Refusal(n) => write_line(&[(1, 127), (1, usize::from(n))], out),
+            Frame::Block(b, live) => write_line(Sort::Block, &[b.index(), usize::from(live)], out),
+            Frame::Kind(i, tag, payload) => write_line(Sort::Kind, &[i.index(), tag, payload], out),
+            Frame::Use(i, user) => write_line(Sort::Use, &[i.index(), user.index()], out),
+            Frame::Caller(f, i) => write_line(Sort::Caller, &[f.index(), i.index()], out),
+            Frame::Refusal(n) => write_line(Sort::Refusal, &[usize::from(n)], out),
         }
     }
 }
@@ -165,7 +216,7 @@ impl<'a> Frames<'a> {
             };
         }
         Step {
-            frame: Some(Frame::Live(b, self.answer.live(b))),
+            frame: Some(Frame::Block(b, self.answer.live(b))),
             next: Some(NextFrame::Block(BlockId(b.0 + 1))),
         }
     }
@@ -206,7 +257,7 @@ impl<'a> Frames<'a> {
             };
         }
         Step {
-            frame: Some(Frame::User(i, self.answer.user(j))),
+            frame: Some(Frame::Use(i, self.answer.user(j))),
             next: Some(NextFrame::Use(i, j + 1)),
         }
     }
@@ -240,7 +291,7 @@ impl<'a> Frames<'a> {
             return Step { frame: None, next };
         }
         Step {
-            frame: Some(Frame::Call(f, i)),
+            frame: Some(Frame::Caller(f, i)),
             next,
         }
     }

@@ -9,6 +9,7 @@ pub mod Constructors
 pub mod Paths
 pub mod Machine
 pub mod Bound
+pub mod Sorts
 pub mod Frames
 pub mod Steps
 pub mod Finished

@@ -116,7 +116,7 @@ at_place [] n i e = absurd (let z : ◌≡◌ {A = ℕ} 0 1 = cc in omega arith)
 at_place (x ∷ l) zero i e = Memᴰ.head (sym e)
 at_place (x ∷ l) (suc n) i e = Memᴰ.tail (at_place l n i e)
 
-module _ (L : Limits) (p : Program) (K : Laws (length p.classes)) (T : Tables p) where
+module _ (L : Limits) (p : Program) (K : Laws (length p.classes) (length p.functions)) (T : Tables p) where
   -- ---- entries
 
   pub data_wake : {pend q : List ℕ} (l : List ℕ) {ks : List Kind} {live : List 𝔹} {cb : List (List 𝔹)} {iv : List (List Kind)} {rd : List (List 𝔹)} → Data L p pend q ks live cb iv rd → Data L p pend (q ++ l) ks live cb iv rd

@@ -23,9 +23,9 @@ use Rattle.rules.proofs.Exactness.Laws.{Le, Fine, Laws, wide_classes, le_trans, 
 use Rattle.rules.proofs.Exactness.Answers.{answer, after, get_ivar-is}
 use Rattle.rules.proofs.Exactness.Grow.{kind_in, kind-is, ivar_at}
 
-abbrev pub FineOpnd : ℕ → Opnd → Type 0
-FineOpnd C (Const k) = Fine C k
-FineOpnd C (Insn i) = Unit {0}
+abbrev pub FineOpnd : ℕ → ℕ → Opnd → Type 0
+FineOpnd C F (Const k) = Fine C F k
+FineOpnd C F (Insn i) = Unit {0}
 
 -- an entry of a row is within it
 pub row_in : (row : List 𝔹) (i : ℕ) → get_or row i false ≡ true → i < length row
@@ -65,7 +65,7 @@ wide_is Bool c e = absurd (let z : ◌≡◌ {A = ℕ} 0 1 = cc in omega arith)
 wide_is (Objects s) c e = let q : s ≡ c = cc in ap members_of q
 wide_is Any c e = absurd (let z : ◌≡◌ {A = ℕ} 0 1 = cc in omega arith)
 
-module _ {C : ℕ} (K : Laws C) where
+module _ {C F : ℕ} (K : Laws C F) where
   -- ---- a set of operands has the members of the list
 
   same_opnd_lem : (v w : Opnd) → same_opnd v w ≡ true → v ≡ w
@@ -130,11 +130,11 @@ module _ {C : ℕ} (K : Laws C) where
         least = λ u h. j.least u (le_empty K u) (λ x m. let a = map-∈ (kind_of s) l m in rw (a.2, kind-is s a.0) (h a.0 a.1));
       }
 
-  pub kind_fine : (ks : List Kind) → ((i : ℕ) → Fine C (get_or ks i Empty)) → (v : Opnd) → FineOpnd C v → Fine C (kind_in ks v)
+  pub kind_fine : (ks : List Kind) → ((i : ℕ) → Fine C F (get_or ks i Empty)) → (v : Opnd) → FineOpnd C F v → Fine C F (kind_in ks v)
   kind_fine ks h (Const k) f = f
   kind_fine ks h (Insn i) f = h i
 
-  pub joined_fine : (s : State) (l : List Opnd) (k : Kind) → union_all Empty (map (kind_of s) l) ≡ Ok k → ((i : ℕ) → Fine C (get_or s.kinds i Empty)) → ((v : Opnd) → v ∈ l → FineOpnd C v) → Fine C k
+  pub joined_fine : (s : State) (l : List Opnd) (k : Kind) → union_all Empty (map (kind_of s) l) ≡ Ok k → ((i : ℕ) → Fine C F (get_or s.kinds i Empty)) → ((v : Opnd) → v ∈ l → FineOpnd C F v) → Fine C F k
   joined_fine s l k e h f =
       (is_join K Empty (map (kind_of s) l) k e).fine K.fine_empty (λ x m. let a = map-∈ (kind_of s) l m in rw (a.2, kind-is s a.0) (kind_fine s.kinds h a.0 (f a.0 a.1)))
 
@@ -174,7 +174,7 @@ module _ {C : ℕ} (K : Laws C) where
       pub start : Le k r.0
       pub above : (c a : ℕ) → c ∈ cs → ivar_named p c n ≡ some a → Le (ivar_at s.ivar_kinds c a) r.0
       pub least : (u : Kind) → Le k u → ((c a : ℕ) → c ∈ cs → ivar_named p c n ≡ some a → Le (ivar_at s.ivar_kinds c a) u) → Le r.0 u
-      pub fine : Fine C k → ((c a : ℕ) → Fine C (ivar_at s.ivar_kinds c a)) → Fine C r.0
+      pub fine : Fine C F k → ((c a : ℕ) → Fine C F (ivar_at s.ivar_kinds c a)) → Fine C F r.0
 
     some_inj : {a b : ℕ} → some a ≡ some b → a ≡ b
     some_inj e = cc

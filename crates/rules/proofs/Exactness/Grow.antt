@@ -131,7 +131,7 @@ module _ (L : Limits) (p : Program) where
     pub above : AboveAt s i o k
     pub least : (u : Kind) → AboveAt s i o u → Le k u
 
-module _ {C : ℕ} (K : Laws C) where
+module _ {C F : ℕ} (K : Laws C F) where
   abbrev pub KindsUp : List Kind → List Kind → Type 0
   KindsUp ks ks' = (i : ℕ) → Le (get_or ks i Empty) (get_or ks' i Empty)
 

@@ -55,8 +55,8 @@ module _ (p : Program) where
     pub reads_row : (c : ℕ) → c < length p.classes → length (get_or rd c []) ≡ length p.instructions
 
   pub record FineKinds (ks : List Kind) (iv : List (List Kind)) : Type 0 where
-    pub kind : (i : ℕ) → Fine (length p.classes) (get_or ks i Empty)
-    pub ivar : (c a : ℕ) → Fine (length p.classes) (ivar_at iv c a)
+    pub kind : (i : ℕ) → Fine (length p.classes) (length p.functions) (get_or ks i Empty)
+    pub ivar : (c a : ℕ) → Fine (length p.classes) (length p.functions) (ivar_at iv c a)
 
   -- a Param may wait before its block is live
   abbrev pub Fit : List 𝔹 → ℕ → Type 0
@@ -158,7 +158,7 @@ soon_more : (live : List 𝔹) (w l : List ℕ) {b : ℕ} → Soon live w b → 
 soon_more live w l (inl e) = inl e
 soon_more live w l (inr m) = inr (Memᴰ.append_left l m)
 
-module _ {L : Limits} {p : Program} (K : Laws (length p.classes)) (T : Tables p) where
+module _ {L : Limits} {p : Program} (K : Laws (length p.classes) (length p.functions)) (T : Tables p) where
   -- instructions wait
   pub inv_wake : (pend l : List ℕ) (s : State) → Inv L p pend s → ((i : ℕ) → i ∈ l → Fit p s.live i × (i < length p.instructions)) → Inv L p pend (with_insns (s.insn_worklist ++ l) s)
   inv_wake pend l s v h = record {
@@ -268,7 +268,7 @@ module _ {L : Limits} {p : Program} (K : Laws (length p.classes)) (T : Tables p)
       re c' i' (inr e) = rw e.1 al
 
   -- an attribute is widened, and its reads wait
-  pub inv_widen : (pend : List ℕ) (n : Name) (c a : ℕ) (k : Kind) (s : State) → ivar_named p c n ≡ some a → Inv L p pend s → Le (ivar_at s.ivar_kinds c a) k → Fine (length p.classes) k → Inv L p pend (with_insns (s.insn_worklist ++ woken_reads L p s n c) (set_ivar_kind c a k s))
+  pub inv_widen : (pend : List ℕ) (n : Name) (c a : ℕ) (k : Kind) (s : State) → ivar_named p c n ≡ some a → Inv L p pend s → Le (ivar_at s.ivar_kinds c a) k → Fine (length p.classes) (length p.functions) k → Inv L p pend (with_insns (s.insn_worklist ++ woken_reads L p s n c) (set_ivar_kind c a k s))
   inv_widen pend n c a k s named v le g = record {
     sound = λ i u h. v.sound i u (above_mono K L p s (set_ivar_kind c a k s) (up_set_ivar_kind K c a k s le) i (op_of p i) u h);
     fits = λ i m. ∈-append s.insn_worklist l (λ n. v.fits i n) (λ n. inl (reader i n)) m;
@@ -309,14 +309,14 @@ module _ {L : Limits} {p : Program} (K : Laws (length p.classes)) (T : Tables p)
       iv : List (List Kind)
       iv = set s.ivar_kinds c (set (get_or s.ivar_kinds c []) a k)
 
-      fi : (c' a' : ℕ) → (ivar_at iv c' a' ≡ ivar_at s.ivar_kinds c' a') ⊎ ((c' ≡ c) × (a' ≡ a) × (ivar_at iv c' a' ≡ k)) → Fine (length p.classes) (ivar_at iv c' a')
+      fi : (c' a' : ℕ) → (ivar_at iv c' a' ≡ ivar_at s.ivar_kinds c' a') ⊎ ((c' ≡ c) × (a' ≡ a) × (ivar_at iv c' a' ≡ k)) → Fine (length p.classes) (length p.functions) (ivar_at iv c' a')
       fi c' a' (inl e) = rw e (v.fine.ivar c' a')
       fi c' a' (inr e) = rw e.2 g
 
   -- ---- a kind is stored and the live users wait
 
   pub inv_store : (i : ℕ) (k : Kind) (s : State) → i < length p.instructions → Inv L p (i ∷ []) s → Done p s.kinds s.live s.block_worklist i
-      → Own L p K T i k s.insn_worklist s.kinds s.live s.called_by s.ivar_kinds s.ivar_reads → IsRule L p s i (op_of p i) k → Fine (length p.classes) k → Inv L p [] (with_insns (s.insn_worklist ++ live_uses L p s i) (set_kind i k s))
+      → Own L p K T i k s.insn_worklist s.kinds s.live s.called_by s.ivar_kinds s.ivar_reads → IsRule L p s i (op_of p i) k → Fine (length p.classes) (length p.functions) k → Inv L p [] (with_insns (s.insn_worklist ++ live_uses L p s i) (set_kind i k s))
   inv_store i k s hi v done own rule g = record {
     sound = λ j u h. so j u (above_mono K L p s t up j (op_of p j) u h) (set_cases Empty s.kinds i k j);
     fits = λ j m. ∈-append s.insn_worklist l (λ n. v.fits j n) (λ n. let a = user j n in inl (record { alive = a.1; within = a.0 })) m;
@@ -360,7 +360,7 @@ module _ {L : Limits} {p : Program} (K : Laws (length p.classes)) (T : Tables p)
       so j u h (inl e) = rw e (v.sound j u h)
       so j u h (inr e) = rw e.1 (rule.least u (subst (λ (x : ℕ). AboveAt L p s x (op_of p x) u) e.0 h))
 
-      fi : (j : ℕ) → (get_or (set s.kinds i k) j Empty ≡ get_or s.kinds j Empty) ⊎ ((j ≡ i) × (get_or (set s.kinds i k) j Empty ≡ k)) → Fine (length p.classes) (get_or (set s.kinds i k) j Empty)
+      fi : (j : ℕ) → (get_or (set s.kinds i k) j Empty ≡ get_or s.kinds j Empty) ⊎ ((j ≡ i) × (get_or (set s.kinds i k) j Empty ≡ k)) → Fine (length p.classes) (length p.functions) (get_or (set s.kinds i k) j Empty)
       fi j (inl e) = rw e (v.fine.kind j)
       fi j (inr e) = rw e.1 g
 

@@ -166,9 +166,17 @@ module _ (p : Program) where
 
   -- ---- constants
 
-  constant_fine : (k : Kind) → good_constant p k ≡ true → Fine (length p.classes) k
-  constant_fine k e = record { good = good k e; fits = and_right (leb 1 (tag_of k) && leb (tag_of k) 5) (fits_of k) (and_left _ (all (is_function p) (to_list (function_in k))) (and_left _ (all (is_class p) (to_list (class_in k))) e)) }
+  constant_fine : (k : Kind) → good_constant p k ≡ true → Fine (length p.classes) (length p.functions) k
+  constant_fine k e = record { good = good k e; fits = and_right (leb 1 (tag_of k) && leb (tag_of k) 5) (fits_of k) (and_left _ (all (is_function p) (to_list (function_in k))) (and_left _ (all (is_class p) (to_list (class_in k))) e)); names = names (function_in k) (class_in k) (leb 1 (tag_of k) && leb (tag_of k) 5 && fits_of k) e }
     where
+      below : (o : Option ℕ) → all (is_class p) (to_list o) ≡ true → all (λ c. ltb c (length p.classes)) (to_list o) ≡ true
+      below none h = refl
+      below (some c) h = rw (and_right (leb 4 c) (ltb c (length p.classes)) (and_left (is_class p c) true h)) refl
+
+      names : (o q : Option ℕ) (b : 𝔹) → (b && all (is_function p) (to_list o) && all (is_class p) (to_list q)) ≡ true
+          → (all (λ f. ltb f (length p.functions)) (to_list o) && all (λ c. ltb c (length p.classes)) (to_list q)) ≡ true
+      names o q b h = rw (and_right b (all (is_function p) (to_list o)) (and_left _ (all (is_class p) (to_list q)) h)) (below q (and_right _ (all (is_class p) (to_list q)) h))
+
       good : (k : Kind) → good_constant p k ≡ true → Good (length p.classes) k
       good Empty e = tt
       good Nil e = tt
@@ -181,7 +189,7 @@ module _ (p : Program) where
       good (Objects s) e = absurd (false≢true e)
       good Any e = tt
 
-  opnd_fine : (i : ℕ) (v : Opnd) → good_opnd p i v ≡ true → FineOpnd (length p.classes) v
+  opnd_fine : (i : ℕ) (v : Opnd) → good_opnd p i v ≡ true → FineOpnd (length p.classes) (length p.functions) v
   opnd_fine i (Const k) e = constant_fine k e
   opnd_fine i (Insn j) e = tt
 
@@ -226,10 +234,10 @@ module _ {L : Limits} {p : Program} (R : Finished L p) where
   class_in_lem : (c : ℕ) → is_class p c ≡ true → (4 ≤ c) × (c < length p.classes)
   class_in_lem c e = (le_of 4 c (and_left (leb 4 c) (ltb c (length p.classes)) e), lt_of c (length p.classes) (and_right (leb 4 c) (ltb c (length p.classes)) e))
 
-  operand_fine : (i : ℕ) (v : Opnd) → i < length p.instructions → v ∈ (about (op_of p i)).operands → FineOpnd (length p.classes) v
+  operand_fine : (i : ℕ) (v : Opnd) → i < length p.instructions → v ∈ (about (op_of p i)).operands → FineOpnd (length p.classes) (length p.functions) v
   operand_fine i v h m = opnd_fine p i v (all_in (good_opnd p i) (about (op_of p i)).operands (operands-good i h) m)
 
-  returned_fine : (f : ℕ) (v : Opnd) → v ∈ returns p f → FineOpnd (length p.classes) v
+  returned_fine : (f : ℕ) (v : Opnd) → v ∈ returns p f → FineOpnd (length p.classes) (length p.functions) v
   unfolding returns
   returned_fine f v m =
       let a = concat-∈ (map mine p.instructions) m in
@@ -323,7 +331,7 @@ module _ {L : Limits} {p : Program} (R : Finished L p) where
       each true none = omega (arith, zeros (members_of s))
       each true (some d) = members_once d 1 s
 
-  pub formed : Laws (length p.classes) → Formed p
+  pub formed : Laws (length p.classes) (length p.functions) → Formed p
   formed K = record {
     tables = tables p;
     entry_in = entry_in;

@@ -96,7 +96,7 @@ rested s e = (none s.insn_worklist (omega (arith, q)), none s.block_worklist (om
     none [] h = refl
     none (x ∷ l) h = absurd (omega arith)
 
-module _ (L : Limits) (p : Program) (K : Laws (length p.classes)) (F : Formed p) where
+module _ (L : Limits) (p : Program) (K : Laws (length p.classes) (length p.functions)) (F : Formed p) where
   pub record Stepped (s t : State) : Type 0 where
     pub inv : Inv L p [] t
     pub count : t.count ≡ suc s.count

@@ -30,12 +30,12 @@ use Rattle.rules.proofs.Exactness.Promise.{tables, main_in, entry_in}
 
 -- ---- the attributes' first kinds
 
-module _ (L : Limits) (p : Program) (K : Laws (length p.classes)) where
+module _ (L : Limits) (p : Program) (K : Laws (length p.classes) (length p.functions)) where
   -- the kinds of a row are fine
   abbrev FineRow : List Kind → Type 0
-  FineRow row = (a : ℕ) → Fine (length p.classes) (get_or row a Empty)
+  FineRow row = (a : ℕ) → Fine (length p.classes) (length p.functions) (get_or row a Empty)
 
-  row_fine : (g : Name → Kind) → ((n : Name) → Fine (length p.classes) (g n)) → (l : List Name) → FineRow (map g l)
+  row_fine : (g : Name → Kind) → ((n : Name) → Fine (length p.classes) (length p.functions) (g n)) → (l : List Name) → FineRow (map g l)
   row_fine g h [] a = K.fine_empty
   row_fine g h (n ∷ l) zero = h n
   row_fine g h (n ∷ l) (suc a) = row_fine g h l a
@@ -52,11 +52,11 @@ module _ (L : Limits) (p : Program) (K : Laws (length p.classes)) where
       kinds : ℕ → Name → Kind
       kinds f n = first_kind p (initialized p (reverse_post_order p (entry p f)) n)
 
-      kind_fine : (b : 𝔹) → Fine (length p.classes) (first_kind p b)
+      kind_fine : (b : 𝔹) → Fine (length p.classes) (length p.functions) (first_kind p b)
       kind_fine true = K.fine_empty
       kind_fine false = K.fine_nil
 
-      row : (g : Name → Kind) → ((n : Name) → Fine (length p.classes) (g n)) → map g (class p c).ivars ≡ ks → (length ks ≡ length (class p c).ivars) × FineRow ks
+      row : (g : Name → Kind) → ((n : Name) → Fine (length p.classes) (length p.functions) (g n)) → map g (class p c).ivars ≡ ks → (length ks ≡ length (class p c).ivars) × FineRow ks
       row g h q = rw (← q) (length-map (class p c).ivars g, row_fine g h (class p c).ivars)
 
       on : (f : ℕ) (b : 𝔹) → cond b (answered (map (kinds f) (class p c).ivars)) (refused 13) ≡ answered ks → (length ks ≡ length (class p c).ivars) × FineRow ks
@@ -92,7 +92,7 @@ module _ (L : Limits) (p : Program) (K : Laws (length p.classes)) where
     pub state : s ≡ with_insns (code p (entry p (main_function p))) (set_live (entry p (main_function p)) (blank L p rows))
     pub many : length rows ≡ length p.classes
     pub long : (c : ℕ) → c < length p.classes → length (get_or rows c []) ≡ length (class p c).ivars
-    pub fine : (c a : ℕ) → Fine (length p.classes) (ivar_at rows c a)
+    pub fine : (c a : ℕ) → Fine (length p.classes) (length p.functions) (ivar_at rows c a)
     pub function : 0 < length p.functions
 
   pub first : (s : State) → start L p ≡ answered s → First s

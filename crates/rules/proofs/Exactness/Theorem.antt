@@ -24,8 +24,8 @@ use Rattle.rules.proofs.Exactness.Room.{Roomy, room-run, room-start}
 use Rattle.rules.proofs.Exactness.Theory as Theory
 
 module _ (L : Limits) (few : L.classes ≤ 64) (p : Program) (R : Finished L p) where
-  pub laws : Laws (length p.classes)
-  laws = lawful (length p.classes) (le_of 4 (length p.classes) R.built_ins) (le_trans (classes-few L p R.limits) few)
+  pub laws : Laws (length p.classes) (length p.functions)
+  laws = lawful (length p.classes) (length p.functions) (le_of 4 (length p.classes) R.built_ins) (le_trans (classes-few L p R.limits) few)
 
   -- demand 3: an answer is at rest, its count is at most the bound, and a block is live exactly when it is the main entry or a chain of 01's steps
   -- under the final kinds leads to it

@@ -19,7 +19,7 @@ use Rattle.rules.proofs.Exactness.Run.{stepped, kept, pot_pos, ends, exact, Sett
 use Rattle.rules.proofs.Exactness.Promise.{main_in, entry_in, formed}
 use Rattle.rules.proofs.Exactness.Start.{first, first_inv, first_cost}
 
-module _ (L : Limits) (p : Program) (K : Laws (length p.classes)) (R : Finished L p) where
+module _ (L : Limits) (p : Program) (K : Laws (length p.classes) (length p.functions)) (R : Finished L p) where
   -- what holds at the start and after each step: the invariant, and that count and potential together are at most the bound
   pub record Going (s : State) : Type 0 where
     pub inv : Inv L p [] s

@@ -39,18 +39,18 @@ pub record Formed (p : Program) : Type 0 where
   pub static_in : (i f : ℕ) (l : List Opnd) → i < length p.instructions → op_of p i ≡ Send (Static f) l → f < length p.functions
   pub method_in : (c : ℕ) (n : Name) (f : ℕ) → method_named p c n ≡ some f → f < length p.functions
   pub ivar_in_lem : (c : ℕ) (n : Name) (a : ℕ) → ivar_named p c n ≡ some a → (c < length p.classes) × (a < length (class p c).ivars)
-  pub operand_fine : (i : ℕ) (v : Opnd) → i < length p.instructions → v ∈ (about (op_of p i)).operands → FineOpnd (length p.classes) v
-  pub listed_fine : (i : ℕ) (v : Opnd) → i < length p.instructions → v ∈ (about (op_of p i)).listed → FineOpnd (length p.classes) v
-  pub returned_fine : (f : ℕ) (v : Opnd) → v ∈ returns p f → FineOpnd (length p.classes) v
-  pub new_fine : (i c : ℕ) → i < length p.instructions → op_of p i ≡ New c → Fine (length p.classes) (object c)
-  pub self_fine : (i c : ℕ) → i < length p.instructions → op_of p i ≡ SelfParam c → Fine (length p.classes) (object c)
+  pub operand_fine : (i : ℕ) (v : Opnd) → i < length p.instructions → v ∈ (about (op_of p i)).operands → FineOpnd (length p.classes) (length p.functions) v
+  pub listed_fine : (i : ℕ) (v : Opnd) → i < length p.instructions → v ∈ (about (op_of p i)).listed → FineOpnd (length p.classes) (length p.functions) v
+  pub returned_fine : (f : ℕ) (v : Opnd) → v ∈ returns p f → FineOpnd (length p.classes) (length p.functions) v
+  pub new_fine : (i c : ℕ) → i < length p.instructions → op_of p i ≡ New c → Fine (length p.classes) (length p.functions) (object c)
+  pub self_fine : (i c : ℕ) → i < length p.instructions → op_of p i ≡ SelfParam c → Fine (length p.classes) (length p.functions) (object c)
   pub params_in : (f x : ℕ) → x ∈ parameters p f → (x < length p.instructions) × (is_param (op_of p x) ≡ true)
   pub params_of : (f x : ℕ) → f < length p.functions → x ∈ parameters p f → function_of p x ≡ f
   pub in_returns : (x : ℕ) (v : Opnd) → x < length p.instructions → op_of p x ≡ Ends (Return v) → v ∈ returns p (function_of p x)
   pub params_few : (f : ℕ) → f < length p.functions → length (parameters p f) ≤ params# p
   pub methods_few : (s : ℕ) (n : Name) → sum (λ c. sum (λ f. length (parameters p f)) (to_list (method_named p c n))) (members_of s) ≤ params# p
 
-module _ (L : Limits) (p : Program) (K : Laws (length p.classes)) (F : Formed p) where
+module _ (L : Limits) (p : Program) (K : Laws (length p.classes) (length p.functions)) (F : Formed p) where
   -- an action of an instruction's rule changes no kind and no live block, and puts entries in at the end only
   pub record Calm (s t : State) : Type 0 where
     pub kinds : t.kinds ≡ s.kinds
@@ -152,14 +152,14 @@ module _ (L : Limits) (p : Program) (K : Laws (length p.classes)) (F : Formed p)
   noted i c s v = record { ok = record { inv = inv_add_read K F.tables (i ∷ []) c i s v.inv v.placed; placed = v.placed }; calm = record { kinds = refl; live = refl; count = refl; soon = λ b z. z; queue = λ j m. m; ivars = λ c a. le_refl K _; reads = λ d j m. mark-true s.ivar_reads c i d j m }; cost = omega arith }
 
   -- a union that is not the old kind is higher
-  rises : (a k u : Kind) → Fine (length p.classes) a → Fine (length p.classes) k → union_of a k ≡ Std.Ok u → same_kind u a ≡ false → Le a u × Fine (length p.classes) u × (height p a < height p u)
+  rises : (a k u : Kind) → Fine (length p.classes) (length p.functions) a → Fine (length p.classes) (length p.functions) k → union_of a k ≡ Std.Ok u → same_kind u a ≡ false → Le a u × Fine (length p.classes) (length p.functions) u × (height p a < height p u)
   rises a k u ga gk e d =
       let q = K.union a k u e in
       let le : Le a u = rw q (join-left K a k) in
-      let gu : Fine (length p.classes) u = rw q (K.fine_lub a k ga gk) in
+      let gu : Fine (length p.classes) (length p.functions) u = rw q (K.fine_lub a k ga gk) in
       (le, gu, K.height_lt a u ga gu le (λ (z : a ≡ u). false≢true (sym d ∙ ap (λ (y : Kind). same_kind u y) z ∙ K.same_self u)))
 
-  pub widened : (i : ℕ) (n : Name) (k : Kind) (c : ℕ) (s t : State) → Ok i s → Fine (length p.classes) k → Widened L p n k c s t → Moved i 0 s t
+  pub widened : (i : ℕ) (n : Name) (k : Kind) (c : ℕ) (s t : State) → Ok i s → Fine (length p.classes) (length p.functions) k → Widened L p n k c s t → Moved i 0 s t
   widened i n k c s t v gk w =
       let r = rises (ivar_at s.ivar_kinds c w.place) k w.kind (v.inv.fine.ivar c w.place) gk w.union w.changed in
       let h = F.ivar_in_lem c n w.place w.named in
@@ -254,7 +254,7 @@ module _ (L : Limits) (p : Program) (K : Laws (length p.classes)) (F : Formed p)
     pub leads : (b : ℕ) → Leads p t.kinds o b → Soon t.live t.block_worklist b
     pub passed : Passed t.kinds o
     pub rule : IsRule L p t i o k
-    pub fine : Fine (length p.classes) k
+    pub fine : Fine (length p.classes) (length p.functions) k
     pub held : Held p t.kinds t.live t.ivar_kinds t.ivar_reads k i o
     pub args : (f x : ℕ) → marked t.called_by f i ≡ true → x ∈ parameters p f → Passed-on i x t
     pub ret : (x : Opnd) (c : ℕ) → o ≡ Ends (Return x) → marked t.called_by (function_of p i) c ≡ true → (c ∈ t.insn_worklist) ⊎ Le (kind_in t.kinds x) (get_or t.kinds c Empty)
@@ -271,7 +271,7 @@ module _ (L : Limits) (p : Program) (K : Laws (length p.classes)) (F : Formed p)
       let z = joined-opnds K t (flows_back L p t i) k e in
       record { above = λ f v m n. z.above v (back_in K L p t i v (f, m, n)); least = λ u h. z.least u (λ v m. let b = in_back K L p t i v m in h b.0 v b.1 b.2) }
 
-  sent_fine : (i : ℕ) (t : State) (k : Kind) → FineKinds p t.kinds t.ivar_kinds → union_all Empty (map (kind_of t) (flows_back L p t i)) ≡ Std.Ok k → Fine (length p.classes) k
+  sent_fine : (i : ℕ) (t : State) (k : Kind) → FineKinds p t.kinds t.ivar_kinds → union_all Empty (map (kind_of t) (flows_back L p t i)) ≡ Std.Ok k → Fine (length p.classes) (length p.functions) k
   sent_fine i t k g e = joined_fine K t (flows_back L p t i) k e g.kind (λ v m. let b = in_back K L p t i v m in F.returned_fine b.0 v b.2)
 
   ruled_static : (i f : ℕ) (l : List Opnd) (s : State) (r : Kind × State) → Ok i s → op_of p i ≡ Send (Static f) l → rule L p i (Send (Static f) l) s ≡ answered r → Ruled i (Send (Static f) l) s r.0 r.1
@@ -517,7 +517,7 @@ module _ (L : Limits) (p : Program) (K : Laws (length p.classes)) (F : Formed p)
 
   -- a rule that leaves the state as it is and leads nowhere
   quiet : (i : ℕ) (o : Op) (s : State) (k : Kind) → op_of p i ≡ o → (has (about o).callee ≡ false) × (has (about o).terminator ≡ false) → Inv L p (i ∷ []) s → weight (calls# p) (params# p) o ≡ 1 → ((b : ℕ) → Leads p s.kinds o b → ⊥) → Passed s.kinds o
-      → IsRule L p s i o k → Fine (length p.classes) k → Held p s.kinds s.live s.ivar_kinds s.ivar_reads k i o → Ruled i o s k s
+      → IsRule L p s i o k → Fine (length p.classes) (length p.functions) k → Held p s.kinds s.live s.ivar_kinds s.ivar_reads k i o → Ruled i o s k s
   quiet i o s k q plain v w h ok ru g he = record {
     inv = v;
     count = refl;
@@ -546,17 +546,17 @@ module _ (L : Limits) (p : Program) (K : Laws (length p.classes)) (F : Formed p)
       let q : r.0 ≡ arith_total o (kind_in s.kinds x) (kind_in s.kinds y) = K.arith o _ _ r.0 (rw (← kind-is s x, ← kind-is s y) j.0) in
       rw (q, j.1) (quiet i (Compute o x y) s _ c (refl, refl) v refl (λ b m. m) tt (record { above = le_refl K _; least = λ u h. h }) (K.arith_fine o _ _) (le_refl K _))
 
-  argument_fine : (n c : ℕ) → FineOpnd (length p.classes) (argument L p n c)
+  argument_fine : (n c : ℕ) → FineOpnd (length p.classes) (length p.functions) (argument L p n c)
   argument_fine n c = go (less_or c (length p.instructions))
     where
-      at : (l : List Opnd) (n : ℕ) → ((v : Opnd) → v ∈ l → FineOpnd (length p.classes) v) → FineOpnd (length p.classes) (get_or l n (Const Empty))
+      at : (l : List Opnd) (n : ℕ) → ((v : Opnd) → v ∈ l → FineOpnd (length p.classes) (length p.functions) v) → FineOpnd (length p.classes) (length p.functions) (get_or l n (Const Empty))
       at [] n h = K.fine_empty
       at (x ∷ l) zero h = h x (Memᴰ.head refl)
       at (x ∷ l) (suc n) h = at l n (λ v m. h v (Memᴰ.tail m))
 
-      go : (c < length p.instructions) ⊎ (length p.instructions ≤ c) → FineOpnd (length p.classes) (argument L p n c)
+      go : (c < length p.instructions) ⊎ (length p.instructions ≤ c) → FineOpnd (length p.classes) (length p.functions) (argument L p n c)
       go (inl h) = at (about (op_of p c)).listed n (λ v m. F.listed_fine c v h m)
-      go (inr h) = subst (λ (x : Instruction). FineOpnd (length p.classes) (get_or (about x.op).listed n (Const Empty))) (sym (get_or-eq_default p.instructions (record { block = 0; op = New 0 }) h)) (at [] n (λ v m. not_in_none m))
+      go (inr h) = subst (λ (x : Instruction). FineOpnd (length p.classes) (length p.functions) (get_or (about x.op).listed n (Const Empty))) (sym (get_or-eq_default p.instructions (record { block = 0; op = New 0 }) h)) (at [] n (λ v m. not_in_none m))
 
   ruled_param : (i n : ℕ) (s : State) (r : Kind × State) → op_of p i ≡ Param n → Inv L p (i ∷ []) s → rule L p i (Param n) s ≡ answered r → Ruled i (Param n) s r.0 r.1
   unfolding rule
@@ -599,10 +599,10 @@ module _ (L : Limits) (p : Program) (K : Laws (length p.classes)) (F : Formed p)
           go true e n = rw (∈-one n) (g e)
           go false e n = not_in_none n
 
-      fi : (b : ℕ) (x w : Opnd) → FineOpnd (length p.classes) x → w ∈ side b x → FineOpnd (length p.classes) w
+      fi : (b : ℕ) (x w : Opnd) → FineOpnd (length p.classes) (length p.functions) x → w ∈ side b x → FineOpnd (length p.classes) (length p.functions) w
       fi b x w g m = go (get_or s.live b false) m
         where
-          go : (t : 𝔹) → w ∈ cond t (x ∷ []) [] → FineOpnd (length p.classes) w
+          go : (t : 𝔹) → w ∈ cond t (x ∷ []) [] → FineOpnd (length p.classes) (length p.functions) w
           go true n = rw (∈-one n) g
           go false n = not_in_none n
 
@@ -663,7 +663,7 @@ module _ (L : Limits) (p : Program) (K : Laws (length p.classes)) (F : Formed p)
       rest : List ℕ → State → Answer (Kind × State)
       rest cs t = if_answered (each cs (set_ivar L p n (kind_of t y)) t) (λ z. answered (Empty, z.1))
 
-      fine_y : Fine (length p.classes) (kind_of s y)
+      fine_y : Fine (length p.classes) (length p.functions) (kind_of s y)
       fine_y = rw (kind-is s y) (kind_fine K s.kinds v.inv.fine.kind y (F.operand_fine i y v.placed.within (rw q (Memᴰ.tail (Memᴰ.head refl)))))
 
       some_inj : (a b : ℕ) → some a ≡ some b → a ≡ b

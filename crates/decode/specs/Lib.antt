@@ -1,0 +1,5 @@
+pub mod Lines
+pub mod Stored
+pub mod Standing
+pub mod Taking
+pub mod Load
