@@ -45,7 +45,7 @@ module _ (s m : List ℕ) (c : Counts) (x : ℕ) (n : Name) {r : Option ℕ} (f 
   unfolding ivar_named
   inside {a} e = (places-∈ [] (λ (y : P.Name). same y (name_in s n)) (class (Prog.program_view s m c) x).ivars a (first_in _ (placed e))).0
 
-  at_low : {z : Sizes} {a : ℕ} → StateMatches z m c → x < z.classes → r ≡ Some a → a < 64
+  pub at_low : {z : Sizes} {a : ℕ} → StateMatches z m c → x < z.classes → r ≡ Some a → a < 64
   at_low {z} {a} y lt e =
       let k = y.classes in
       let g : x < c.classes = omega arith in

@@ -3,13 +3,43 @@ use mathlib.Core.Path.{◌≡◌, refl, sym, ap, ◌∙◌}
 use mathlib.Core.List.{List}
 use Prim.Native.Nat.{ℕ, ◌+◌, ◌*◌, ◌≤◌, ◌<◌}
 use native.Mathlib.Omega.{arith}
-use lib.ListN.{length, get_or, drop, length-drop}
-use lib.Seq.{get_or-drop}
+use native.Mathlib.Decide.{ℕ_discrete}
+use lib.ListN.{length, get_or, set, drop, length-set, length-drop}
+use lib.Seq.{get_or-set_same, get_or-set_other, get_or-drop}
 use Rattle.program.specs.declared.Counts.{Counts}
 use Rattle.memory.specs.Layout.{instructions_most, blocks_room}
 use Rattle.chains.specs.Layout.{sort_words, returns_at, chains_size}
-use Rattle.chains.specs.Chains.{at, self, Copied, ChainIs, Carried}
+use Rattle.chains.specs.Chains.{at, self, ChainsOnly, Copied, ChainIs, Carried}
 use Rattle.chains.proofs.Lists.{chained_same}
+
+-- ---- words copied
+
+pub record Copying (base a n : ℕ) (w t₀ t : List ℕ) (i : ℕ) : Type 0 where
+  pub high : i ≤ n
+  pub only : ChainsOnly (base + a) n t₀ t
+  pub here : (k : ℕ) → k < i → get_or t (base + (a + k)) 0 ≡ get_or w (a + k) 0
+
+pub copy_start : (base a n : ℕ) (w t : List ℕ) → Copying base a n w t t 0
+copy_start base a n w t = record { high = omega arith; only = record { len_same = refl; others = λ k h. refl }; here = λ k h. absurd (omega arith) }
+
+module _ {base a n : ℕ} {w t₀ t : List ℕ} {i : ℕ} (z : Copying base a n w t₀ t i) where
+  pub copy_more : base + (a + n) ≤ length t₀ → i < n → Copying base a n w t₀ (set t (base + (a + i)) (get_or w (a + i) 0)) (i + 1)
+  copy_more r h =
+      record {
+        high = omega arith;
+        only = record {
+          len_same = length-set t (base + (a + i)) (get_or w (a + i) 0) ∙ z.only.len_same;
+          others = λ k g. get_or-set_other t (base + (a + i)) k (get_or w (a + i) 0) 0 (λ q. g (omega arith) (omega arith)) ∙ z.only.others k g;
+        };
+        here = λ k g.
+            elim (ℕ_discrete k i) [
+              | yes q ↦ rw q (get_or-set_same t (base + (a + i)) (get_or w (a + i) 0) 0 (omega (arith, z.only.len_same)))
+              | no q ↦ get_or-set_other t (base + (a + i)) (base + (a + k)) (get_or w (a + i) 0) 0 (λ x. q (omega arith)) ∙ z.here k (omega arith)
+            ];
+      }
+
+  pub copy_done : n ≤ i → Copied base a n w t₀ t
+  copy_done h = record { only = z.only; here = λ k g. z.here k (omega arith) }
 
 -- ---- an index carried
 

@@ -43,12 +43,14 @@ module _ (m : List ℕ) (i : ℕ) {r : Row} (e : r ≡ insn_at m i) {sort : Sort
       some_if true = refl
       some_if false = refl
 
-  pub key_return : {c : Counts} {f : ℕ} → sort ≡ Returns → ReadsBlock m c r.block.0 f → r.block.0 < c.blocks → {t : 𝔹} → t ≡ is_return r.op → t ≡ true
-      → Some f ≡ key_of m (place_of sort) i
+  pub key_return : sort ≡ Returns → {t : 𝔹} → t ≡ is_return r.op → t ≡ true → Some (block_at m r.block.0) ≡ key_of m (place_of sort) i
   unfolding key_of
-  key_return {c} h d g q y =
-      rw (h, sym (ap (λ (x : Row). is_return x.op) e), sym q, y)
-      (ap Some (sym (d.is []) ∙ block-is [] m c r.block.0 g) ∙ ap (λ (x : Row). Some (block_at m x.block.0)) e)
+  key_return h q y = rw (h, sym (ap (λ (x : Row). is_return x.op) e), sym q, y) (ap (λ (x : Row). Some (block_at m x.block.0)) e)
+
+  -- by the function that is read of its block
+  pub key_read : {c : Counts} {f : ℕ} → sort ≡ Returns → ReadsBlock m c r.block.0 f → r.block.0 < c.blocks → {t : 𝔹} → t ≡ is_return r.op → t ≡ true
+      → Some f ≡ key_of m (place_of sort) i
+  key_read {c} h d g q y = ap Some (sym (d.is []) ∙ block-is [] m c r.block.0 g) ∙ key_return h q y
 
   pub key_no_return : sort ≡ Returns → {t : 𝔹} → t ≡ is_return r.op → t ≡ false → None ≡ key_of m (place_of sort) i
   unfolding key_of

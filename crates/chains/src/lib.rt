@@ -113,12 +113,14 @@ pub fn build_index(program: &Program, scratch: &mut [usize])
 }
 
 // n words from a place on go to another memory, to a part of it that starts at `base`.
-// Stays: it stands once for the three sorts, whose words keep their place; two slices and `copy_from_slice` would be named three times.
+// Stays: a loop and no `copy_from_slice`, which calls `memmove`: a program in C would have to bring it.
 fn copy(scratch: &[usize], t: &mut [usize], base: usize, at: usize, n: usize)
     requires { (at + n ≤ length scratch.now) × (base + (at + n) ≤ length t.old) }
     ensures { Copied base at n scratch.now t.old t.new }
 {
-    t[base + at..base + at + n].copy_from_slice(&scratch[at..at + n]);
+    for i in 0..n {
+        t[base + (at + i)] = scratch[at + i];
+    }
 }
 
 // What is in use of an index goes to another memory, from `base` on.

@@ -1,6 +1,7 @@
 -- Parsers: what stays of one over its steps, and a step in the words of an earlier parser. Assumes nothing.
 use mathlib.Core.Path.{◌≡◌, refl, ap, ◌∙◌}
 use mathlib.Core.List.{List}
+use lib.ListN.{length}
 use mathlib.Core.Bool.{Bool}
 use Rattle.std.specs.Prelude.{Result}
 use Rattle.refusals.specs.declared.Refusal.{Refusal}
@@ -17,7 +18,7 @@ use Rattle.cursor.specs.Parsers.{cursor_of, Reading, ParserKept, AddsKept, place
 use Rattle.cursor.specs.declared.Parser.{Parser}
 
 pub kept_none : (p : Parser) → ParserKept p p
-kept_none p = record { script = refl; limits = refl; words_loan = refl; scratch_loan = refl }
+kept_none p = record { script = refl; limits = refl; words_loan = refl; scratch_loan = refl; words_room = refl; scratch_room = refl }
 
 pub adds_none : (p : Parser) → AddsKept p p
 adds_none p = record { kept = kept_none p; scratch = refl }
@@ -29,6 +30,8 @@ kept_trans a b =
       limits = b.limits ∙ a.limits;
       words_loan = b.words_loan ∙ a.words_loan;
       scratch_loan = b.scratch_loan ∙ a.scratch_loan;
+      words_room = b.words_room ∙ a.words_room;
+      scratch_room = b.scratch_room ∙ a.scratch_room;
     }
 
 -- where script, program and scratch memory are the same
@@ -39,6 +42,8 @@ kept_same k a b e =
       limits = ap (λ (d : Draft). d.limits) b ∙ k.limits;
       words_loan = ap (λ (d : Draft). d.words.ghost_name) b ∙ k.words_loan;
       scratch_loan = ap (λ z. z.ghost_name) e ∙ k.scratch_loan;
+      words_room = ap (λ (d : Draft). length d.words.now) b ∙ k.words_room;
+      scratch_room = ap (λ z. length z.now) e ∙ k.scratch_room;
     }
 
 pub kept_placed : {p p' : Parser} {at : ℕ} → p' ≡ placed at p → ParserKept p p'
@@ -48,7 +53,14 @@ kept_placed e =
       limits = ap (λ (q : Parser). q.program.limits) e;
       words_loan = ap (λ (q : Parser). q.program.words.ghost_name) e;
       scratch_loan = ap (λ (q : Parser). q.scratch.ghost_name) e;
+      words_room = ap (λ (q : Parser). length q.program.words.now) e;
+      scratch_room = ap (λ (q : Parser). length q.scratch.now) e;
     }
+
+-- whatever a reader gives, a refusal too, both memories are as long as before
+pub rooms_kept : {A : Type 0} {f : P.Limits → List ℕ → Reads A} {j : ℕ} {p p' : Parser} {o : Out A} → ParserDid f j p p' o
+    → (length p'.program.words.now ≡ length p.program.words.now) × (length p'.scratch.now ≡ length p.scratch.now)
+rooms_kept d = (d.kept.words_room, d.kept.scratch_room)
 
 -- a step that leaves scratch memory alone
 pub passed : {A : Type 0} {f : P.Limits → List ℕ → Reads A} {j : ℕ} {p p' : Parser} {o : Out A} → ParserKept p p' → p'.scratch.now ≡ p.scratch.now

@@ -35,11 +35,13 @@ use Rattle.cursor.specs.Promises.{
   match_kind,
   match_literal,
   expect_kind,
+  expect_literal,
   Sees,
   Idents,
   Expects,
   CursorMatches,
   LiteralMatches,
+  LiteralExpects,
   MatchAt,
 }
 use Rattle.cursor.specs.Cursor.{Cursor}
@@ -332,3 +334,14 @@ module _ {s : List ℕ} {k : Token} {c : Cursor} where
     takes = record { is = insists (has_token k) s Matched.Not h.takes; ok = tt };
     moves = λ t sp. record { is = insists (λ w. is w t) s Matched.Not (h.moves t sp); ok = tt };
   }
+
+-- the same of a literal
+module _ {s : List ℕ} {c : Cursor} where
+  pub literal-none : {e : ℕ} → LiteralMatches s c (Matched.Refused e) → LiteralExpects s c (Moved.Refused e)
+  unfolding match_literal expect_literal
+  literal-none h = record { takes = record { is = insists is_literal s (Matched.Refused _) h.takes; ok = tt } }
+
+  pub literal-or : (o : Option ℕ) (d : Cursor) → LiteralMatches s c (matched_to d o) → LiteralExpects s c (moved_at d (ok_or o R.UnexpectedWord))
+  unfolding match_literal expect_literal
+  literal-or (Some n) d h = record { takes = insists_yes is_literal s h.takes (h.further _ refl) }
+  literal-or None d h = record { takes = record { is = insists is_literal s Matched.Not h.takes; ok = tt } }

@@ -1,5 +1,5 @@
 -- The parser as the laws see it: its cursor, what stays of it, and what a reader does to it. Assumes nothing.
-use Rattle.std.specs.Prelude.{Bool as 𝔹, true, false, ◌≡◌, List, ℕ, Result, Ok, Err}
+use Rattle.std.specs.Prelude.{Bool as 𝔹, true, false, ◌≡◌, List, ℕ, Result, Ok, Err, length}
 use Rattle.refusals.specs.declared.Refusal.{Refusal}
 use Rattle.refusals.specs.Refusals.{number_of}
 use Rattle.rules.specs.Program as P
@@ -37,12 +37,14 @@ Reading p = In p.script.now p.program.words.now p.scratch.now (cursor_of p)
 abbrev pub CanAdd : Parser → Type 0
 CanAdd p = Open p.program.words.now (cursor_of p)
 
--- the script and the limits stay, and the parser goes on in the same memories
+-- the script and the limits stay, and the parser goes on in the same memories, which keep their lengths, after a refusal too
 pub record ParserKept (p p' : Parser) : Type 0 where
   pub script : p'.script ≡ p.script
   pub limits : p'.program.limits ≡ p.program.limits
   pub words_loan : p'.program.words.ghost_name ≡ p.program.words.ghost_name
   pub scratch_loan : p'.scratch.ghost_name ≡ p.scratch.ghost_name
+  pub words_room : length p'.program.words.now ≡ length p.program.words.now
+  pub scratch_room : length p'.scratch.now ≡ length p.scratch.now
 
 -- the same where only the program grows
 pub record AddsKept (p p' : Parser) : Type 0 where

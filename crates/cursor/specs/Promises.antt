@@ -125,6 +125,11 @@ match_literal s = do
     pass s
     give true) else give false
 
+unfoldable pub expect_literal : List ℕ → Reads (Unit {0})
+expect_literal s = do
+  w ← next s
+  ask 5 (is_literal w)
+
 -- a name, which lies inside of the script
 pub record Idents (s : List ℕ) (c : Cursor) (r : Ident) : Type 0 where
   pub moves : Moves (expect_ident s) 1 s c (ident_of s r)
@@ -142,6 +147,9 @@ pub record CursorMatches (s : List ℕ) (k : Token) (c : Cursor) (r : Matched) :
 pub record LiteralMatches (s : List ℕ) (c : Cursor) (r : Matched) : Type 0 where
   pub takes : Moves (match_literal s) 0 s c (matched_of c r)
   pub further : (c' : Cursor) → r ≡ Matched.Yes c' → c.at < c'.at
+
+pub record LiteralExpects (s : List ℕ) (c : Cursor) (r : Moved) : Type 0 where
+  pub takes : Moves (expect_literal s) 1 s c (moved_of r)
 
 -- ---- the same of a script and a place, for every cursor that stands there
 
@@ -177,6 +185,9 @@ NumberAt s at r = (c : Cursor) → c.at ≡ at → LiteralMatches s c (matched_a
 
 abbrev pub ExpectAt : List ℕ → Token → ℕ → Result ℕ Refusal → Type 0
 ExpectAt s k at r = (c : Cursor) → c.at ≡ at → Expects s k c (moved_at c r)
+
+abbrev pub LiteralAt : List ℕ → ℕ → Result ℕ Refusal → Type 0
+LiteralAt s at r = (c : Cursor) → c.at ≡ at → LiteralExpects s c (moved_at c r)
 
 -- ---- the steps behind the words
 

@@ -2,7 +2,7 @@
 ghost use Rattle.std.specs.Prelude.{◌≡◌, List, ℕ, Ok};
 ghost use Rattle.lexer.specs.declared.Token.TheVariants.{EndOfText};
 ghost use Rattle.cursor.specs.Cursor.{Cursor};
-ghost use Rattle.cursor.specs.Promises.{Sees, Idents, named_by, NameAt, MatchAt, NumberAt, ExpectAt};
+ghost use Rattle.cursor.specs.Promises.{Sees, Idents, named_by, NameAt, MatchAt, NumberAt, ExpectAt, LiteralAt};
 
 use lexer::{Token, Word};
 use program::Name;
@@ -84,4 +84,11 @@ pub fn expect(script: &[u8], at: usize, k: Token) -> Result<usize, Refusal>
     ensures { ExpectAt script.now k at result }
 {
     match_token(script, at, k)?.ok_or(Refusal::UnexpectedWord)
+}
+
+// The same of a literal, whatever number it writes.
+pub fn expect_number(script: &[u8], at: usize) -> Result<usize, Refusal>
+    ensures { LiteralAt script.now at result }
+{
+    match_number(script, at)?.ok_or(Refusal::UnexpectedWord)
 }

@@ -192,14 +192,14 @@ module _ (L : P.Limits) (s : List ℕ) (E : ℕ → Reads P.Opnd) where
     at_equals : Acted (match_token s "=") 1 s m w c1 m w true c2
     at_equals = match_went at_name.here "=" y spelt_equals f
 
-    right_here : In s m1 w1 c3
+    pub right_here : In s m1 w1 c3
     right_here = (got d (ap parsed_of g)).here
 
     to_right : CursorStep 3 c w c3 w1
     to_right = step_trans (step_trans at_name.step at_equals.step) (got d (ap parsed_of g)).step
 
     -- the two bytes of a name and its `=` pay for the binding
-    pays : 2 * (c3.vars + 1) + c.at ≤ 2 * c.vars + c3.at
+    pub pays : 2 * (c3.vars + 1) + c.at ≤ 2 * c.vars + c3.at
     pays = omega (arith, ident_vars x e, match_vars "=" y spelt_equals f, at_name.step.on, at_equals.step.on, (got d (ap parsed_of g)).step.paid, (got d (ap parsed_of g)).step.on)
 
     name-ok : (w2 : List ℕ) (r : Parsed) → BindsIf c3 w1 w2 r → CursorAfter 1 s c w m1 w2 (parsed_of r)

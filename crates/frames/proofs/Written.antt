@@ -2,10 +2,10 @@
 use mathlib.Core.Bool.{Bool as 𝔹, true, false, cond}
 use mathlib.Core.Path.{◌≡◌, refl, sym, ap, ap₂, ◌∙◌}
 use mathlib.Core.List.{List, [], ◌∷◌, ◌++◌, map, append_assoc}
-use Rattle.std.specs.Prelude.{Option, Some}
+use Rattle.std.specs.Prelude.{Option, None, Some}
 use Prim.Native.Nat.{ℕ, zero, suc, ◌+◌, ◌-◌, ◌<◌}
 use native.Mathlib.Omega.{arith}
-use lib.ListN.{length, get_or}
+use lib.ListN.{length, take, get_or}
 use Rattle.kinds.specs.declared.Kind.{Kind}
 use Rattle.kinds.specs.declared.Kind.TheVariants.{Empty}
 use Rattle.rules.specs.Lists.{concat, places_from}
@@ -22,7 +22,7 @@ use Rattle.answer.proofs.Answered.{answer-published}
 use Rattle.frames.specs.declared.NextFrame.{NextFrame}
 use Rattle.frames.specs.declared.NextFrame.TheVariants.{Totals}
 use Rattle.frames.specs.Text.{record_text, totals_line, block_line, kind_line, use_line, caller_line, use_lines, caller_lines, from_kind}
-use Rattle.frames.specs.Text.{from_block, rest_of, rest_at, Run, ended, piece}
+use Rattle.frames.specs.Text.{from_block, rest_of, rest_at, Piece, Run, ended, piece}
 use Rattle.frames.proofs.Steps.{uses-all, callers-all}
 
 -- ---- lists
@@ -133,6 +133,13 @@ image_frames p s sh ok = image_text (answer_record p s) ok ∙ record_frames p s
 pub run-text : {a : List ℕ} {c : Option NextFrame} {ts : List (List ℕ)} → Run a c ts → concat ts ≡ rest_at a c
 run-text ended = refl
 run-text (piece p rest) = rw (run-text rest) (sym p.text)
+
+-- a piece that begins at the end is empty, and may be the last
+pub last_piece : (a d : List ℕ) → Piece a None d None 0 d
+last_piece a d = record { text = refl; kept = refl; fits = omega arith; count = refl; onward = tt }
+
+pub last_run : (a d : List ℕ) → Run a None (take 0 d ∷ [])
+last_run a d = piece (last_piece a d) ended
 
 -- the pieces that are written from the image of an analysis's record, joined
 pub frames_written : (p : Program) (s : State) {ts : List (List ℕ)} → Shaped p s → Legal (answer_record p s) → Run (image_of (answer_record p s)) (Some Totals) ts → concat ts ≡ frames p s

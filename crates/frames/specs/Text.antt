@@ -144,16 +144,15 @@ pub record Gives (a : List ℕ) (c : Option NextFrame) (f : Option Frame) (c' : 
 
 -- the n bytes at the start are what was left at c up to what is left at c', and the rest is as it was.
 -- Free: how far a piece goes, n and with it c', of which 01 says nothing. What holds of it: whole frames are written, within the buffer, and as long as frames
--- are left a piece goes on, and has a byte unless it reaches the end
+-- are left a piece goes on
 pub record Piece (a : List ℕ) (c : Option NextFrame) (d : List ℕ) (c' : Option NextFrame) (n : ℕ) (d' : List ℕ) : Type 0 where
   pub text : rest_at a c ≡ take n d' ++ rest_at a c'
   pub kept : drop n d' ≡ drop n d
   pub fits : n ≤ length d'
   pub count : n ≡ length (take n d')
   pub onward : OnSome c (left_at c' < left_at c)
-  pub ended : n ≡ 0 → c' ≡ None
 
 -- texts written one after the other, from a place to the end
 pub data Run (a : List ℕ) : Option NextFrame → List (List ℕ) → Type 0 where
   ended : Run a None []
-  piece : {c : NextFrame} {c' : Option NextFrame} {d d' : List ℕ} {n : ℕ} {ts : List (List ℕ)} → Piece a (Some c) d c' n d' → Run a c' ts → Run a (Some c) (take n d' ∷ ts)
+  piece : {c c' : Option NextFrame} {d d' : List ℕ} {n : ℕ} {ts : List (List ℕ)} → Piece a c d c' n d' → Run a c' ts → Run a c (take n d' ∷ ts)

@@ -1,7 +1,7 @@
 // The frames of an answer as text, written line by line from the answer memory.
 #![tactic(auto)]
 
-ghost use Rattle.std.specs.Prelude.{◌≡◌, [], ◌∷◌, ◌≤◌, ◌<◌, length, Some, option_map};
+ghost use Rattle.std.specs.Prelude.{◌≡◌, [], ◌∷◌, ◌≤◌, ◌<◌, length, None, Some, option_map};
 ghost use Rattle.std.specs.Iterator.{at_most};
 ghost use Rattle.rules.specs.Frames.{digit_of, digits, frame_line};
 ghost use Rattle.rules.specs.Sorts.{sort_byte, widths};
@@ -312,6 +312,7 @@ impl<'a> Frames<'a> {
     pub fn fill(&mut self, out: &mut [u8]) -> usize
         requires { line_most ≤ length out.old }
         ensures piece { Piece self.old.answer.words.now self.old.next out.old self.new.next result out.new }
+        ensures ended { result ≡ 0 → self.new.next ≡ None }
         ensures answer { self.new.answer ≡ self.old.answer }
     {
         let mut len = 0;

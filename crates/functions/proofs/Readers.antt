@@ -63,7 +63,7 @@ cleared p = record p { vars = 0; aside = bindings_most }
 
 module _ (p : Parser) (g : HeadWaits p) {p1 : Parser} {x : Result (Unit {0}) Refusal} (a : ParserSelf (cleared p) p1 x) where
   kept1 : ParserKept p p1
-  kept1 = let k = a.kept.kept in record { script = k.script; limits = k.limits; words_loan = k.words_loan; scratch_loan = k.scratch_loan }
+  kept1 = let k = a.kept.kept in record { script = k.script; limits = k.limits; words_loan = k.words_loan; scratch_loan = k.scratch_loan; words_room = k.words_room; scratch_room = k.scratch_room }
 
   a1 : After p p1 p1.program.words.now p.scratch.now
   a1 = record { kept = kept1; words = refl; scratch = a.kept.scratch }

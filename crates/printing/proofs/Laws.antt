@@ -63,8 +63,8 @@ module _ {a out : List ℕ} {c : Option NextFrame} {done : ℕ} (g : Sending a o
     sending_part h = omega (arith, piece-all, g.all)
 
     -- no more is left
-    pub sending_all : n ≡ 0 → done ≡ length (rest_of a Totals)
-    sending_all e = let z : length (rest_at a c') ≡ 0 = rw (p.ended e) in omega (arith, piece-all, g.all)
+    pub sending_all : (n ≡ 0 → c' ≡ None) → n ≡ 0 → done ≡ length (rest_of a Totals)
+    sending_all f e = let z : length (rest_at a c') ≡ 0 = rw (f e) in omega (arith, piece-all, g.all)
 
     -- what the output holds, where it is known
     pub sending_appends : (x y z : Option (List ℕ)) (k : ℕ) → k ≤ n → Appends x y (take done (rest_of a Totals)) → Appends y z (take k (take n out'))

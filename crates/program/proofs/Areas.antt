@@ -3,11 +3,8 @@ use mathlib.Core.Path.{◌≡◌, refl, sym, ap, ap₂, ◌∙◌}
 use mathlib.Core.List.{List, [], ◌∷◌, ◌++◌, map}
 use Prim.Native.Nat.{ℕ, ◌+◌, ◌*◌, ◌≤◌, ◌<◌}
 use native.Mathlib.Omega.{arith}
-use borrow.Rule.Slice.PartMut.{put_mid}
-use lib.ListN.{length, get_or, set, take, length-set, length-append, length-map}
-use lib.Seq.{get_or-set_same, get_or-set_other, get_or-drop, length-take-le}
-use Rattle.std.proofs.lemmas.Slice.{drop-put_mid}
-use Rattle.std.proofs.lemmas.Grind.{common_steps}
+use lib.ListN.{length, get_or, set, length-set, length-append, length-map}
+use lib.Seq.{get_or-set_same, get_or-set_other}
 use Rattle.program.specs.Tab.{tab}
 use Rattle.program.specs.Rows.{opnd_from, opnd_at, opnds_in, opnd_of}
 use Rattle.program.specs.View.{ProgramOnly, Puts}
@@ -93,34 +90,6 @@ puts_one m at t x e h =
           ∙ e);
     }
 
--- words put in the place of others
-only_put : (at k : ℕ) {m : List ℕ} (ys : List ℕ) → at + k ≤ length m → length ys ≡ k → ProgramOnly at (at + k) m (put_mid at k m ys)
-only_put at k {m} ys fits long =
-    record {
-      len_same = grind (arith, common_steps);
-      below = λ j h. grind (arith, common_steps);
-      above = λ j h.
-          let e : j + 0 ≡ j = omega arith in
-          rw e at (sym (get_or-drop j (put_mid at k m ys) 0 0) ∙ ap (λ (l : List ℕ). get_or l 0 0) (drop-put_mid at k m ys j h (omega arith) long) ∙ get_or-drop j m 0 0);
-    }
-
--- the words of n operands, copied
-pub puts_copied : (at n : ℕ) (args : List ℕ) {k : ℕ} {m : List ℕ} (ys : List ℕ) → k ≡ 2 * n → at + 2 * n ≤ length m → 2 * n ≤ length args → ys ≡ take (2 * n) args
-    → Puts at (opnds_in args 0 n) m (put_mid at k m ys)
-unfolding opnds_in
-puts_copied at n args {k} {m} ys e fits long same =
-    rw e
-    (record {
-      only = rw (opnds-length args 0 n) (only_put at (2 * n) ys fits (rw same (length-take-le (2 * n) args long)));
-      here =
-          rw (opnds-length args 0 n)
-          (tab_ext (λ j. opnd_at (put_mid at (2 * n) m ys) (at + 2 * j)) (λ j. opnd_at args (0 + 2 * j)) n
-          (λ j h. ap₂ opnd_from (word (2 * j) (omega arith) (omega arith) (omega arith)) (word (2 * j + 1) (omega arith) (omega arith) (omega arith))));
-    })
-  where
-    word : (j : ℕ) {a b : ℕ} → j < 2 * n → a ≡ at + j → b ≡ j → get_or (put_mid at (2 * n) m ys) a 0 ≡ get_or args b 0
-    word j h p q = rw (p, q, same) (grind (arith, common_steps))
-
 -- further operands behind the first
 pub puts_then : {at k : ℕ} {os ps : List Opnd} {m m1 m2 : List ℕ} → Puts at os m m1 → k ≡ at + 2 * length os → Puts k ps m1 m2 → Puts at (os ++ ps) m m2
 puts_then {at = at} {k = k} {os = os} {ps = ps} {m1 = m1} {m2 = m2} p e q =
@@ -136,3 +105,31 @@ puts_then {at = at} {k = k} {os = os} {ps = ps} {m1 = m1} {m2 = m2} p e q =
           (opnds-same m1 m2 at (length os) (same-below more.only at (at + 2 * length os) (omega arith)) ∙ p.here)
           more.here);
     }
+
+-- ---- operands copied
+
+pub record Copying (args : List ℕ) (n at : ℕ) (m₀ m : List ℕ) (i : ℕ) : Type 0 where
+  pub high : i ≤ n
+  pub puts : Puts at (opnds_in args 0 i) m₀ m
+  pub len_same : length m ≡ length m₀
+
+pub copy_start : (args : List ℕ) (n at : ℕ) (m : List ℕ) → Copying args n at m m 0
+unfolding opnds_in tab
+copy_start args n at m = record { high = omega arith; puts = puts_none at m; len_same = refl }
+
+module _ {args : List ℕ} {n at : ℕ} {m₀ m : List ℕ} {i : ℕ} (g : Copying args n at m₀ m i) where
+  pub copy_more : i < n → at + 2 * n ≤ length m₀
+      → Copying args n at m₀ (set (set m (at + 2 * i) (get_or args (2 * i) 0)) (at + 2 * i + 1) (get_or args (2 * i + 1) 0)) (i + 1)
+  copy_more h long =
+      let same = g.len_same in
+      let z : 0 + 2 * i ≡ 2 * i = omega arith in
+      let one = puts_one m (at + 2 * i) (get_or args (2 * i) 0) (get_or args (2 * i + 1) 0) {o = opnd_at args (0 + 2 * i)} (rw z refl) (omega arith) in
+      let all = puts_then g.puts (ap (λ (k : ℕ). at + 2 * k) (sym (opnds-length args 0 i))) one in
+      record {
+        high = omega arith;
+        puts = rw (opnds-add args 0 i 1, opnds_one args (0 + 2 * i)) all;
+        len_same = all.only.len_same;
+      }
+
+  pub copy_done : n ≤ i → Puts at (opnds_in args 0 n) m₀ m
+  copy_done h = let e : i ≡ n = omega (arith, g.high) in rw e at g.puts

@@ -146,7 +146,7 @@ module _ {m : List ℕ} {c : Counts} (b : BlockId) (o : Op) (n : ℕ) (r : Progr
         }
 
   -- an instruction that ends no block
-  commit_plain : {m' : List ℕ} {e : Bool} {k : ℕ} → k ≡ listed_in o n → PutsRow c.insns (record { block = b; op = o; first = c.opnds; count = n }) m m'
+  pub commit_plain : {m' : List ℕ} {e : Bool} {k : ℕ} → k ≡ listed_in o n → PutsRow c.insns (record { block = b; op = o; first = c.opnds; count = n }) m m'
       → e ≡ ends_block o → e ≡ false
       → Commits b.0 o n m c m' (record { functions = c.functions; classes = c.classes; blocks = c.blocks; insns = c.insns + 1; opnds = c.opnds + n; listed = c.listed + k })
   commit_plain {m' = m'} listed w p q =
@@ -167,7 +167,7 @@ module _ {m : List ℕ} {c : Counts} (b : BlockId) (o : Op) (n : ℕ) (r : Progr
       })
 
   -- one that ends its block
-  commit_end : {m' : List ℕ} {e : Bool} {k : ℕ} → k ≡ listed_in o n → PutsRow c.insns (record { block = b; op = o; first = c.opnds; count = n }) m m'
+  pub commit_end : {m' : List ℕ} {e : Bool} {k : ℕ} → k ≡ listed_in o n → PutsRow c.insns (record { block = b; op = o; first = c.opnds; count = n }) m m'
       → e ≡ ends_block o → e ≡ true
       → Commits b.0 o n m c (set m' (blocks_at + 2 * b.0 + 1) 1)
       (record { functions = c.functions; classes = c.classes; blocks = c.blocks; insns = c.insns + 1; opnds = c.opnds + n; listed = c.listed + k })

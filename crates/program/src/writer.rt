@@ -304,12 +304,15 @@ fn put_given(words: &mut [usize], at: usize, g: Given)
 }
 
 // Operands that stand in another memory.
+// Stays: a loop and no `copy_from_slice`, which calls `memmove`: a program in C would have to bring it.
 fn copy_opnds(args: &[usize], words: &mut [usize], at: usize)
     requires { at + 2 * (length args.now / 2) ≤ length words.old }
     ensures { Puts at (opnds_in args.now 0 (length args.now / 2)) words.old words.new }
 {
-    let n = 2 * (args.len() / 2);
-    words[at..at + n].copy_from_slice(&args[..n]);
+    for i in 0..args.len() / 2 {
+        words[at + 2 * i] = args[2 * i];
+        words[at + 2 * i + 1] = args[2 * i + 1];
+    }
 }
 
 #[tactic(auto, unfolding(crate::specs::Rows::insn_at))]

@@ -1,8 +1,7 @@
 // Batches of scripts: each stands behind its length in four bytes, the highest first.
 ghost use Rattle.replay.specs.batches.Turns.{TurnWithin, line_of};
-ghost use Rattle.std.specs.Prelude.{Some};
+ghost use Rattle.std.specs.Prelude.{◌≡◌};
 
-use std::fmt;
 use std::io::{self, Read};
 use streams::Unwritten;
 
@@ -16,16 +15,25 @@ pub enum Stop {
     Enough,
 }
 
-impl fmt::Display for Stop {
-    ghost output = { λ s. Some (line_of s) };
+// Stays: a macro, since only a macro makes one literal of several.
+macro_rules! line {
+    ($words:literal) => {
+        concat!("replay: ", $words, "\n")
+    };
+}
 
-    fn fmt<W: fmt::Write>(&self, f: &mut fmt::Formatter<W>) -> fmt::Result {
-        f.write_str(match self {
-            Stop::Unread => "standard input can't be read",
-            Stop::Cut => "no batch: a script is cut or too long",
-            Stop::Unwritten => "standard output can't be written",
-            Stop::Enough => "no more scripts are read",
-        })
+impl Stop {
+    // The line for standard error.
+    // Stays: no `Display` that `eprintln!` prints, since a write that a signal interrupts is to be made again as often as `streams` does.
+    pub fn line(self) -> &'static str
+        ensures { result.now ≡ line_of self }
+    {
+        match self {
+            Stop::Unread => line!("standard input can't be read"),
+            Stop::Cut => line!("no batch: a script is cut or too long"),
+            Stop::Unwritten => line!("standard output can't be written"),
+            Stop::Enough => line!("no more scripts are read"),
+        }
     }
 }
 

@@ -23,6 +23,6 @@ fn replay<R: Read, W: Write>(from: &mut R, to: &mut W) -> Result<(), Stop> {
 fn main(rt: HostRuntime) {
     if let Err(stop) = replay(&mut rt.stdin(), &mut rt.stdout()) {
         // Where standard error can't be written, there is nobody to tell.
-        let _ = eprintln!(rt; "replay: {stop}");
+        let _ = streams::write(&mut rt.stderr(), stop.line().as_bytes());
     }
 }

@@ -59,6 +59,12 @@ module _ {s p : List ℕ} {c : Counts} {z : Sizes} {m : List ℕ} {q : Regs} (g 
     pub going_steady : Steady s p c z m
     going_steady = steady-at s p c a.indexed.limits a.indexed.suited z (attrs s p c a.indexed.limits a.indexed.suited) m q (at_once a.indexed.limits a.indexed.suited)
 
+    pub going_count : q.count < 2 ^ 63
+    going_count =
+        let S = a.indexed.suited in
+        let y = (at_of s p c a.indexed.limits S (state_view z (attrs s p c a.indexed.limits S) m q) (at_once a.indexed.limits S)).going.spent in
+        omega (arith, y, bound-fits s p c a.indexed.limits S)
+
     module _ {t : 𝔹} (w : Rests z m q t) (f : t ≡ false) where
       pub going_below : q.count < bound (P.program_view s p c)
       going_below =
@@ -72,7 +78,7 @@ module _ {s p : List ℕ} {c : Counts} {z : Sizes} {m : List ℕ} {q : Regs} (g 
           let S = a.indexed.suited in
           let v = attrs s p c a.indexed.limits S in
           let e : eqb (q.insns.len + q.blocks.len) 0 ≡ false = rest-told z v m q ∙ sym (w v) ∙ f in
-          (positive (q.insns.len + q.blocks.len) e, omega (arith, going_below, bound-fits s p c a.indexed.limits S))
+          (positive (q.insns.len + q.blocks.len) e, going_count)
 
   -- ---- a turn
 

@@ -43,7 +43,7 @@ use Rattle.cursor.specs.outcomes.Moved as On
 use Rattle.cursor.specs.outcomes.Parsed.{Parsed, Done, Refused}
 use Rattle.cursor.proofs.Laws.{after-step, Acted, got, gave, refuses, arrives, moved-did, added_did, step_less, step_trans}
 use Rattle.cursor.proofs.Wording.{spelt_end, spelt_else, is-yes, is_no, word_read, peek-found, peek-none}
-use Rattle.variables.specs.Layout.{entries_most}
+use Rattle.variables.specs.Layout.{entries_most, variables_size}
 use Rattle.statements.specs.declared.Before.{Before}
 use Rattle.statements.specs.declared.Branch.{Branch}
 use Rattle.statements.specs.outcomes.Opened.{Opened}
@@ -314,12 +314,12 @@ module _ (l : Limits) {s m w : List ℕ} {c₀ c : Cursor} (q : Branch) (h : In 
         pub open_old : c₀.vars ≤ c2.vars
         open_old = omega (arith, a.inside.old, chosen_vars)
 
-        pub open_part : (c₀.vars + (c2.vars - c₀.vars) ≤ c₀.aside) × (c₀.aside + (c2.vars - c₀.vars) ≤ entries_most)
+        pub open_part : (variables_size ≤ length w) × ((c₀.vars + (c2.vars - c₀.vars) ≤ c₀.aside) × (c₀.aside + (c2.vars - c₀.vars) ≤ entries_most))
         open_part =
             let k = chosen.here.ready in
             let z : c2.aside ≡ c₀.aside = steps.aside ∙ a.aside in
             let o : c₀.vars ≤ c2.vars = omega (arith, a.inside.old, chosen_vars) in
-            (omega (arith, k.room.law, k.room.script, k.room.aside), omega (arith, k.room.law, k.room.script, k.room.aside))
+            (omega (arith, k.scratch), (omega (arith, k.room.law, k.room.script, k.room.aside), omega (arith, k.room.law, k.room.script, k.room.aside)))
 
         pub open_yes : {n : ℕ} {w' : List ℕ} {t : Cursor} → Leaves s c₀.vars (c2.vars - c₀.vars) c₀.aside w w' n → t ≡ block_cur f (vars_cur c₀.vars (c₀.aside + n) c2)
             → OpensElse l s m w c₀ c q m2 w' (O.On t f)

@@ -268,7 +268,7 @@ module _ (p : Parser) (q : Branch) (h : Reading p) {c₀ : Cursor} (a : Arm c₀
       pub open_part : (q.before.vars + (p2.vars - q.before.vars) ≤ q.before.aside) × (q.before.aside + (p2.vars - q.before.vars) ≤ entries_most)
       open_part =
           rw (place_vars c₀ a.place, place_aside c₀ a.place)
-          (W.open_part p.program.limits q h a o.opens (ap (opened_in p1) f) (adds_of f1 g) (ap (moved_in p2) i))
+          (W.open_part p.program.limits q h a o.opens (ap (opened_in p1) f) (adds_of f1 g) (ap (moved_in p2) i)).1
 
       pub open_yes : {n : ℕ} {w' : List ℕ} → Leaves p2.script.now q.before.vars (p2.vars - q.before.vars) q.before.aside p2.scratch.now w' n
           → OpensElse p.program.limits p.script.now p.program.words.now p.scratch.now c₀ (cursor_of p) q p2.program.words.now w'

@@ -42,7 +42,7 @@ pub record StatementsStand (arm : 𝔹) (depth : ℕ) (p q : Parser) (v : Opnd) 
 
 module _ (p : Parser) (d : Draft) (k : DraftKept p.program d) where
   pub draft_kept : AddsKept p (record p { program = d })
-  draft_kept = record { kept = record { script = refl; limits = k.limits; words_loan = k.loan; scratch_loan = refl }; scratch = refl }
+  draft_kept = record { kept = record { script = refl; limits = k.limits; words_loan = k.loan; scratch_loan = refl; words_room = k.room; scratch_room = refl }; scratch = refl }
 
   pub opens_block : (r : Result BlockId Refusal)
       → View.ProgramDid (View.next_block (View.limits_of p.program.limits)) View.unchanged p.program.counts.blocks (View.more_blocks p.program.counts)

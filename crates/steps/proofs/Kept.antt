@@ -76,8 +76,8 @@ module _ {s p : List ℕ} {c : Counts} {x u : List ℕ} {z : Sizes} {m : List �
   its_operands = record { ready = F.analysed.indexed.ready; range = range n visiting fitting; receiver = read-inside n visiting fitting; value = set-inside n visiting fitting }
 
   -- what is asked where the stamp of a read is made
-  pub stamp_asked : n.tag ≡ 13 → (o : Words) → Decides p z m n (words_of o) → StateMatches z p c × (o.tag ≡ 8 → ClassesBelow z.classes o.bits)
-  stamp_asked e o d = (matches visiting, read_below n visiting fitting e o (d.receiver e))
+  pub stamp_asked : n.tag ≡ 13 → (o : Words) → Decides p z m n (words_of o) → StateMatches z p c × ((o.tag ≡ 8 → ClassesBelow z.classes o.bits) × (i < z.insns))
+  stamp_asked e o d = (matches visiting, (read_below n visiting fitting e o (d.receiver e), F.front.inside))
 
 -- ---- a visit that surely does nothing
 

@@ -119,7 +119,9 @@ module _ (T : Tables) where
 
     -- what is asked where the stamp of a read is made
     pub read_asked : n.tag ≡ 13 → (o : Words) → Decides words s.sizes s.words.now n (words_of o) → StateMatches t.sizes words counts × (o.tag ≡ 8 → ClassesBelow t.sizes.classes o.bits)
-    read_asked k o d = subst (λ (z : Sizes). StateMatches z words counts × (o.tag ≡ 8 → ClassesBelow z.classes o.bits)) (sym V.lent.sizes) (stamp_asked F k o d)
+    read_asked k o d =
+        let a = stamp_asked F k o d in
+        subst (λ (z : Sizes). StateMatches z words counts × (o.tag ≡ 8 → ClassesBelow z.classes o.bits)) (sym V.lent.sizes) (a.0, a.1.0)
 
     module _ {k : ℕ} (h : r ≡ Ok k) where
       abbrev Comes : List ℕ → Type 0

@@ -3,7 +3,7 @@ use mathlib.Core.Bool.{Bool as 𝔹, true, false, not, cond, ◌&&◌, ◌||◌}
 use mathlib.Core.Logic.{◌⊎◌, inl, inr}
 use mathlib.Core.Path.{◌≡◌, refl, sym, ap, ◌∙◌, subst}
 use mathlib.Core.List.{List, [], ◌∷◌}
-use Prim.Native.Nat.{ℕ, zero, suc, ◌≤◌, ◌<◌}
+use Prim.Native.Nat.{ℕ, zero, suc, ◌+◌, ◌≤◌, ◌<◌}
 use native.Mathlib.Omega.{arith}
 use borrow.Author.Tests.{eqb-true}
 use lib.Dec.{eqb}
@@ -124,9 +124,22 @@ insn_by true true i h = (h, λ e. refl)
 insn_by true false i h = (cc, λ e. cc)
 insn_by false b i h = (h, λ e. cc)
 
+differ : true ≡ false → ⊥
+differ e = let z : ◌≡◌ {A = ℕ} 0 1 = cc in omega arith
+
 module _ (z : Sizes) (m : List ℕ) (q : Regs) where
+  pub some_block : {t : 𝔹} → t ≡ block_next q → t ≡ true → 0 < q.insns.len + q.blocks.len → 0 < q.blocks.len
+  some_block e h lt = go (block_by q.draining (eqb q.blocks.len 0) (eqb q.insns.len 0) (sym e ∙ h))
+    where
+      go : (eqb q.insns.len 0 ≡ true) ⊎ ((q.draining ≡ true) × (eqb q.blocks.len 0 ≡ false)) → 0 < q.blocks.len
+      go (inl i) = omega (arith, eqb-true q.insns.len 0 i)
+      go (inr b) = positive q.blocks.len b.1
+
   pub some_insn : {t : 𝔹} → t ≡ block_next q → t ≡ false → 0 < q.insns.len
   some_insn e h = positive q.insns.len (insn_by q.draining (eqb q.blocks.len 0) (eqb q.insns.len 0) (sym e ∙ h)).0
+
+  pub front-block : {t : 𝔹} → t ≡ block_next q → t ≡ true → Front z m q 0
+  front-block e h = record { below = omega arith; inside = λ b. absurd (differ (sym h ∙ e ∙ b)); is = λ b. absurd (differ (sym h ∙ e ∙ b)) }
 
   pub block-step : {fits less : Program → Attrs → Type 0} {t : 𝔹} {w : List ℕ} {r : Acted} → t ≡ block_next q → t ≡ true → ((P : Program) (v : Attrs) → less P v → fits P v)
       → BlockStepped z fits (λ L P s. take_block L P (blocks_in s) s) m q w r → BlockStepped z less step m q w r

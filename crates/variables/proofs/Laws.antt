@@ -162,14 +162,14 @@ module _ {s m : List ℕ} {n : ℕ} {k : Name} {i : ℕ} (g : Finding s m n k i)
 -- ---- value
 
 -- the operand nil, as it is stored
-abbrev nil-stored : 1 < tag_room → Stored
+abbrev pub nil-stored : 1 < tag_room → Stored
 nil-stored p = record { tag = 1; bits = 0; small = p }
 
 module _ (s m : List ℕ) (n w : ℕ) where
-  value_found : {o : Stored} → VariableFinds s m n (name_in s w) (Some o) → Values s m n w o
+  pub value_found : {o : Stored} → VariableFinds s m n (name_in s w) (Some o) → Values s m n w o
   value_found {o} g = record { is = ap (λ z. or_else z nil) g.is }
 
-  value-nil : (p : 1 < tag_room) → VariableFinds s m n (name_in s w) None → Values s m n w (nil-stored p)
+  pub value-nil : (p : 1 < tag_room) → VariableFinds s m n (name_in s w) None → Values s m n w (nil-stored p)
   unfolding opnd_from kind_from
   value-nil p g = record { is = ap (λ z. or_else z nil) g.is }
 

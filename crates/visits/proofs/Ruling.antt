@@ -29,7 +29,7 @@ pub did-fits : {z : Sizes} {fits less : Program → Attrs → Type 0} {f : Limit
     → ((P : Program) (v : Attrs) → less P v → fits P v) → StateDid z fits f m q w r → StateDid z less f m q w r
 did-fits h d = record { is = λ L room P v a. d.is L room P v (h P v a); ok = d.ok }
 
-after_both : (z : Sizes) (q : Regs) (w : List ℕ) (a : Regs) (u : List ℕ) (r : Acted) → StateAfter z q w a → ReadyAfter z a u r → ReadyAfter z q u r
+pub after_both : (z : Sizes) (q : Regs) (w : List ℕ) (a : Regs) (u : List ℕ) (r : Acted) → StateAfter z q w a → ReadyAfter z a u r → ReadyAfter z q u r
 after_both z q w a u (W.On b) x y = record { ready = y.ready; count = y.count ∙ x.count }
 after_both z q w a u (W.Refused n) x y = tt
 

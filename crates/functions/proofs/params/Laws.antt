@@ -51,7 +51,7 @@ use Rattle.functions.specs.params.Promises.{PushesSelf, Funs}
 
 -- only the program changes, and parts of the parser that are no memory
 pub adds-kept : (p p' : Reader) → DraftKept p.program p'.program → p'.script ≡ p.script → p'.scratch.ghost_name ≡ p.scratch.ghost_name → p'.scratch.now ≡ p.scratch.now → AddsKept p p'
-adds-kept p p' k s l w = record { kept = record { script = s; limits = k.limits; words_loan = k.loan; scratch_loan = l }; scratch = w }
+adds-kept p p' k s l w = record { kept = record { script = s; limits = k.limits; words_loan = k.loan; scratch_loan = l; words_room = k.room; scratch_room = ap length w }; scratch = w }
 
 -- ---- names
 

@@ -30,7 +30,7 @@ module _ (s : S.State) (x : List ℕ) (b : ℕ) {y : 𝔹} (e : y ≡ get_or (li
       (along_put (along_start s) (λ L p. push_all L p (code p b)) d (λ L room p v _. lives_new s.sizes s.words.now s.regs b L p v (sym e ∙ h))) r w
       (λ p v a. rw d.lent.sizes a) (λ L room p v a. refl)
 
-next-ready : (z : Sizes) (q a : Regs) (w : List ℕ) (r : Acted) → a.count ≡ q.count + 1 → ReadyAfter z a w r → ReadyNext z q w r
+pub next-ready : (z : Sizes) (q a : Regs) (w : List ℕ) (r : Acted) → a.count ≡ q.count + 1 → ReadyAfter z a w r → ReadyNext z q w r
 next-ready z q a w (On b) e h = record { ready = h.ready; count = h.count ∙ e }
 next-ready z q a w (Refused n) e h = tt
 

@@ -91,7 +91,7 @@ module _ (l : Limits) {s m w : List ℕ} {c : Cursor} (g : Rests s m w c) {u : I
               unfolding parse_class
               twice r = record { is = rw (← ident_is a f m w, ← added_is, ← things_is, ← found r); ok = tt }
 
-              class-yes : {c5 : Cursor} → o ≡ None → c5 ≡ class_cur None c4 → c.class ≡ None → Class m2 w2 (On c5)
+              pub class-yes : {c5 : Cursor} → o ≡ None → c5 ≡ class_cur None c4 → c.class ≡ None → Class m2 w2 (On c5)
               unfolding parse_class
               class-yes r e nobody =
                   let q = things_ok.0.ready in

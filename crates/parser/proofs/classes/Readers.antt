@@ -90,7 +90,14 @@ module _ (p : Parser) (k : ClassId) (g : Resting p) {p1 : Parser} {x : Result (U
         a3 : After p (record p2 { program = d }) d.words.now p.scratch.now
         a3 =
             record {
-              kept = let k = a2.kept in record { script = k.script; limits = h.limits ∙ k.limits; words_loan = h.loan ∙ k.words_loan; scratch_loan = k.scratch_loan };
+              kept = let k = a2.kept in record {
+                script = k.script;
+                limits = h.limits ∙ k.limits;
+                words_loan = h.loan ∙ k.words_loan;
+                scratch_loan = k.scratch_loan;
+                words_room = h.room ∙ k.words_room;
+                scratch_room = k.scratch_room;
+              };
               words = refl;
               scratch = a2.scratch;
             }
@@ -213,7 +220,14 @@ module _ (p : Parser) (g : Resting p) {p1 : Parser} {u : Result Name Refusal} (a
     opened = rw ((F.c1 p g a).kept.limits, (F.c1 p g a).words) at b
 
     kept2 : ParserKept p (record p1 { program = d })
-    kept2 = let k = (F.c1 p g a).kept in record { script = k.script; limits = h.limits ∙ k.limits; words_loan = h.loan ∙ k.words_loan; scratch_loan = k.scratch_loan }
+    kept2 = let k = (F.c1 p g a).kept in record {
+      script = k.script;
+      limits = h.limits ∙ k.limits;
+      words_loan = h.loan ∙ k.words_loan;
+      scratch_loan = k.scratch_loan;
+      words_room = h.room ∙ k.words_room;
+      scratch_room = k.scratch_room;
+    }
 
     b2 : After p (record p1 { program = d }) d.words.now p.scratch.now
     b2 = record { kept = kept2; words = refl; scratch = (F.c1 p g a).scratch }

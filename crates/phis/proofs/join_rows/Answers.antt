@@ -18,7 +18,11 @@ returns-in_err-n-clause-did c =
 pub loop-x-preserved : goal.loop-x-preserved
 loop-x-preserved c = (
   join_more c.loop-x.invariant.0 c.in-Some.ensures c.loop-x.invariant.1.limits _ _ _ c.in_ok-n.ensures.did,
-  record { limits = c.join_one.ensures.kept.limits ∙ c.loop-x.invariant.1.limits; loan = c.join_one.ensures.kept.loan ∙ c.loop-x.invariant.1.loan },
+  record {
+    limits = c.join_one.ensures.kept.limits ∙ c.loop-x.invariant.1.limits;
+    loan = c.join_one.ensures.kept.loan ∙ c.loop-x.invariant.1.loan;
+    room = c.join_one.ensures.kept.room ∙ c.loop-x.invariant.1.room;
+  },
 )
 
 pub returns-clause-did : goal.returns-clause-did

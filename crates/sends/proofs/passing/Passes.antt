@@ -129,10 +129,10 @@ module _ (s x t y : ℕ) where
     set-union : union_of (kind_from s x) (kind_from t y) ≡ Ok (Objects (bit_or x u))
     set-union = rw (objects_from x f) (set-joins x (kind_from t y) u g)
 
-    covers-set : bit_or x u ≡ x → union_of (kind_from s x) (kind_from t y) ≡ Ok (kind_from s x)
+    pub covers-set : bit_or x u ≡ x → union_of (kind_from s x) (kind_from t y) ≡ Ok (kind_from s x)
     covers-set h = set-union ∙ ap Ok (ap Objects h ∙ sym (objects_from x f))
 
-    widens_set : (bit_or x u ≡ x → ⊥) → Widens (kind_from s x) (kind_from t y)
+    pub widens_set : (bit_or x u ≡ x → ⊥) → Widens (kind_from s x) (kind_from t y)
     widens_set h = record { union = Objects (bit_or x u); is = set-union; other = rw (objects_from x f) (other-set (bit_or x u) x h) }
 
     -- what a set tells of another kind

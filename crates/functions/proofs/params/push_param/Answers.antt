@@ -1,5 +1,5 @@
 -- `functions::params::push_param` meets its contract. Assumes nothing.
-use mathlib.Core.Path.{refl, ap}
+use mathlib.Core.Path.{refl, ap, ◌∙◌}
 use native.Mathlib.Omega.{arith}
 use Rattle.cursor.specs.Parsers.{parsed_in}
 use Rattle.lexer.proofs.Tried.{failed}
@@ -29,7 +29,14 @@ pub returns : goal.returns
 returns c =
     let k = c.push.ensures.kept in
     record {
-      kept = record { script = k.kept.script; limits = k.kept.limits; words_loan = k.kept.words_loan; scratch_loan = k.kept.scratch_loan };
+      kept = record {
+        script = k.kept.script;
+        limits = k.kept.limits;
+        words_loan = k.kept.words_loan;
+        scratch_loan = k.kept.scratch_loan;
+        words_room = k.kept.words_room;
+        scratch_room = c.set_var.auto.scratch ∙ k.kept.scratch_room;
+      };
       pushes =
           param_yes c.args.p.now.program.limits c.args.k {x = parsed_in c.push.new.self c.push.result} c.push.ensures.adds (ap (parsed_in c.push.new.self) c.in_ok-v.was)
           (rw k.scratch at c.set_var.ensures) refl;

@@ -1,8 +1,14 @@
 -- `program::writer::copy_opnds` meets its contract. Assumes nothing.
 use native.Mathlib.Omega.{arith}
-use Rattle.std.proofs.Common.{length, ◌/◌}
-use Rattle.program.proofs.Areas.{puts_copied}
+use lib.ListN.{length-set}
+use Rattle.program.proofs.Areas.{copy_start, copy_more, copy_done}
 use Rattle.program.proofs.writer.copy_opnds.Goals as goal
 
+pub loop-i-init : goal.loop-i-init
+loop-i-init c = search copy_start
+
+pub loop-i-preserved : goal.loop-i-preserved
+loop-i-preserved c = search copy_more
+
 pub returns : goal.returns
-returns c = puts_copied c.args.at (length c.args.args.now / 2) c.args.args.now _ (omega arith) c.requires (omega arith) c.copy_from_slice.ensures.after
+returns c = search copy_done
