@@ -77,7 +77,7 @@ get_some : (L : Limits) (p : Program) (n : P.Name) (k : Kind) (x a : ℕ) (s : S
 unfolding get_ivar
 get_some L p n k x a s e = rw e
 
-get_none : (L : Limits) (p : Program) (n : P.Name) (k : Kind) (x : ℕ) (s : State) → ivar_named p x n ≡ none → get_ivar L p n k x s ≡ refused 15
+pub get_none : (L : Limits) (p : Program) (n : P.Name) (k : Kind) (x : ℕ) (s : State) → ivar_named p x n ≡ none → get_ivar L p n k x s ≡ refused 15
 unfolding get_ivar
 get_none L p n k x s e = rw e
 

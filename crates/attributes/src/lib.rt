@@ -51,7 +51,7 @@ pub fn mark_reads(state: &mut State, i: InsnId, o: Opnd) -> Result<(), Refusal>
 }
 
 // The union of k with the attribute's kind in one class, or 15.
-#[tactic(auto, using(crate::proofs::Classes::class_counted))]
+#[tactic(auto, using(crate::proofs::Classes::class_counted, crate::proofs::Found::get_none))]
 fn read_one(program: &Program, state: &Held, n: Name, k: Kind, x: ClassId) -> Result<Kind, Refusal>
     requires state_matches { Matches program.now state.now.sizes }
     requires x_lt_classes { x.0 < state.now.sizes.classes }

@@ -263,6 +263,7 @@ pub fn push_call(
 }
 
 // A call of the function that v names.
+#[tactic(auto, unfolding(crate::specs::Steps::calls))]
 pub fn bare_call(draft: &mut Draft, b: BlockId, v: Opnd, args: &[usize]) -> Result<Opnd, Refusal>
     requires { b.0 < draft.old.counts.blocks }
     ensures kept { DraftKept draft.old draft.new }

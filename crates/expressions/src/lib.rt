@@ -51,7 +51,8 @@ fn parse_name(p: &mut Parser, x: Word, depth: usize) -> Result<Opnd, Refusal>
     ensures { ParserDid (λ L s. parse_name L s (parse_expr L s depth)) 1 p.old p.new (operand p.new result) }
 {
     let n = p.take_name(x)?;
-    if p.match_token(Token::Sign(b'='))? {
+    let sets = p.match_token(Token::Sign(b'='));
+    if sets? {
         let v = parse_expr(p, 0, depth)?;
         return p.assign(n, v);
     }

@@ -1,5 +1,5 @@
 -- Runs of bytes and literals: what their loops keep, on plain values. Assumes nothing.
-use Rattle.std.proofs.Common.{◌≡◌, ℕ, suc, ◌+◌, ◌-◌, ◌*◌, ◌≤◌, ◌<◌, ◌^◌, Bool, true, refl, List, [], ◌∷◌, length, drop, get_or, Some, None, w64, arith, add-one, drop-cons}
+use Rattle.std.proofs.Common.{◌≡◌, ℕ, suc, ◌+◌, ◌-◌, ◌*◌, ◌≤◌, ◌<◌, ◌^◌, Bool, true, refl, sym, List, [], ◌∷◌, length, drop, get_or, Some, None, w64, arith, add-one, drop-cons}
 use borrow.Author.Tests.{lt-ltb, le-ltb}
 use lib.ListN.{drop_of_length-le}
 use Rattle.std.specs.Prelude.{ℤ, pos, ◌+ℤ◌, ◌*ℤ◌, FitsSigned}
@@ -28,6 +28,15 @@ fits {n} h = rw (lt-ltb n (2 ^ 63) h)
 -- what i64 doesn't hold is 2 ^ 63 or more
 large : {n : ℕ} → (FitsSigned w64 (pos n) → ⊥) → 2 ^ 63 ≤ n
 large {n} h = let g : n < 2 ^ 63 → ⊥ = λ l. h (record { sfits = l }) in omega (arith, g)
+
+-- behind the last digit, for a way out of `literal` that no answer names
+pub decimal-end : (n i : ℕ) (digits : List ℕ) → length digits ≤ i → decimal n (drop i digits) ≡ n
+decimal-end n i digits h = rw (drop_of_length-le digits {i = i} h) refl
+
+pub fitting-small : (n : ℕ) → n < 2 ^ 63 → fitting n ≡ Some (pos n)
+fitting-small n h = sym (fits h)
+
+pub ruleset ends = (decimal-end, fitting-small)
 
 -- a literal at its loop's head: what is left writes, behind v, what the whole writes
 pub record Counting (digits : List ℕ) (v : ℤ) (i : ℕ) : Type 0 where
@@ -61,4 +70,4 @@ module _ {digits : List ℕ} {v : ℤ} {i : ℕ} (g : Counting digits v i) where
   sum_large h e d p n = let t = large (rw (p, d, e, g.value) at n) in too_large (omega (arith, t, least h))
 
   pub literal-done : length digits ≤ i → Some v ≡ fitting (decimal 0 digits)
-  literal-done h = rw (g.value, ← (rw (drop_of_length-le digits {i = i} h) at g.same)) (fits g.small)
+  literal-done h = rw (g.value, ← (rw (decimal-end g.read i digits h) at g.same)) (fits g.small)

@@ -116,6 +116,7 @@ pub fn skip_blank(script: &[u8], at: usize) -> usize
 // ---- words
 
 // The number that decimal digits write, unless it leaves i64.
+#[tactic(auto, using(crate::proofs::Runs::ends))]
 fn literal(digits: &[u8]) -> Option<i64>
     ensures { result ≡ fitting (decimal 0 digits.now) }
 {

@@ -10,6 +10,7 @@ use state::State;
 
 // Instruction i, which has `args` arguments, calls f, which has `params` Params; 16 where they are more.
 // Stays: six arguments and two clauses: no number's type knows the state's sizes, and a send asks it for one method after the other, each with its own f, entry and Params.
+#[tactic(auto, using(crate::proofs::calls::Adding::full))]
 pub fn add_call(
     state: &mut State,
     i: InsnId,

@@ -1,12 +1,12 @@
 -- The cycle `expression` of `expressions` meets its contracts. Assumes nothing.
 use mathlib.Core.Path.{◌≡◌, refl, ap, ◌∙◌}
-use Rattle.std.specs.Prelude.{Ok}
+use Rattle.std.specs.Prelude.{true, false, Ok, Err}
 use Rattle.std.proofs.Common.{w64, rules, arith}
 use Rattle.std.proofs.lemmas.Int.{to_z-of_z}
 use Rattle.rules.specs.Reading.{parse_expr}
 use Rattle.lexer.specs.declared.Token.TheVariants as T
 use Rattle.cursor.specs.Steps.{operator_of}
-use Rattle.cursor.specs.Parsers.{parsed_in, ident_in, matched_if, matched_in}
+use Rattle.cursor.specs.Parsers.{parsed_in, ident_in, matched_in}
 use Rattle.lexer.proofs.Tried.{failed}
 use Rattle.cursor.proofs.Kept.{kept_none, after_none, after_placed, after_kept, after_scratch, did_of, idents_of, matches_of, finish}
 use Rattle.cursor.proofs.Wording.{spelt_open, spelt_equals, spelt_close}
@@ -138,34 +138,37 @@ pub parse_name-returns-in_err-n : goal.parse_name-returns-in_err-n
 parse_name-returns-in_err-n t c =
     rw (failed _ c.from_residual.ensures.1) (as_name _ (name_no c.requires.reading (c.take_name.ensures c.requires.sees) _ c.in_err-n.was))
 
-pub parse_name-returns-in_err-match_token : goal.parse_name-returns-in_err-match_token
-parse_name-returns-in_err-match_token t c =
-    rw (failed _ c.from_residual-in_err-match_token.ensures.1) (as_name _
-    (sign_no c.requires.reading
-    (c.take_name.ensures c.requires.sees) c.in_ok-n.was c.match_token.ensures _ spelt_equals c.in_err-match_token.was))
+pub parse_name-returns-in_err-sets : goal.parse_name-returns-in_err-sets
+parse_name-returns-in_err-sets t c =
+    let no : c.match_token-sets.result ≡ Err c.in_err-sets.field-0.0 = grind arith in
+    rw (failed _ c.from_residual-in_err-sets.ensures.1) (as_name _
+    (sign_no c.requires.reading (c.take_name.ensures c.requires.sees) c.in_ok-n.was c.match_token-sets.ensures _ spelt_equals no))
 
 pub parse_name-returns-in_err-v : goal.parse_name-returns-in_err-v
 parse_name-returns-in_err-v t c =
+    let yes : c.match_token-sets.result ≡ Ok true = grind arith in
     rw (failed _ c.from_residual-in_err-v.ensures.1) (as_name _ (sign_then c.requires.reading
-    (c.take_name.ensures c.requires.sees) c.in_ok-n.was c.match_token.ensures _ spelt_equals (c.in_ok-match_token.was ∙ ap Ok c.if-branch.true)
+    (c.take_name.ensures c.requires.sees) c.in_ok-n.was c.match_token-sets.ensures _ spelt_equals yes
     (value_no _ _ c.parse_expr.ensures c.in_err-v.was)))
 
 pub parse_name-returns-then-branch : goal.parse_name-returns-then-branch
 parse_name-returns-then-branch t c =
+    let yes : c.match_token-sets.result ≡ Ok true = grind arith in
     let i = c.take_name.ensures c.requires.sees in
     let a1 = after_placed (after_none c.args.p.now) i.same in
-    let a2 = after_placed a1 c.match_token.ensures.same in
+    let a2 = after_placed a1 c.match_token-sets.ensures.same in
     let a3 = after_kept a2 c.parse_expr.ensures.kept in
     finish (after_scratch a3 c.assign.ensures.kept c.assign.ensures.program)
-    (name_set _ _ (parse_expr _ _ c.args.depth) c.requires.reading (idents_of (after_none c.args.p.now) i) (ap (ident_in c.take_name.new.self) c.in_ok-n.was) (matches_of a1 c.match_token.ensures)
-    (ap (matched_in c.match_token.new.self) c.in_ok-match_token.was ∙ ap (matched_if c.match_token.new.self) c.if-branch.true)
+    (name_set _ _ (parse_expr _ _ c.args.depth) c.requires.reading (idents_of (after_none c.args.p.now) i) (ap (ident_in c.take_name.new.self) c.in_ok-n.was)
+    (matches_of a1 c.match_token-sets.ensures) (ap (matched_in c.match_token-sets.new.self) yes)
     {p = parsed_in c.parse_expr.new.p c.parse_expr.result} (did_of a2 c.parse_expr.ensures) (ap (parsed_in c.parse_expr.new.p) c.in_ok-v.was)
     (rw a3.kept.script at c.assign.ensures.assigns))
 
 pub parse_name-returns : goal.parse_name-returns
 parse_name-returns t c =
-    as_name _ (sign_not c.requires.reading (c.take_name.ensures c.requires.sees) c.in_ok-n.was c.match_token.ensures _ spelt_equals
-    (c.in_ok-match_token.was ∙ ap Ok c.if-branch.false) (λ h. c.name_value.ensures))
+    let no : c.match_token-sets.result ≡ Ok false = grind arith in
+    as_name _ (sign_not c.requires.reading (c.take_name.ensures c.requires.sees) c.in_ok-n.was c.match_token-sets.ensures _ spelt_equals
+    no (λ h. c.name_value.ensures))
 
 pub parse_member-returns-in_err-n : goal.parse_member-returns-in_err-n
 parse_member-returns-in_err-n t c =

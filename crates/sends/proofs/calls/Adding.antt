@@ -2,18 +2,20 @@
 use mathlib.Core.Bool.{Bool as 𝔹, true, false, cond}
 use mathlib.Core.Path.{◌≡◌, refl, sym, ap, ap₂, ◌∙◌}
 use Prim.Native.Nat.{ℕ, ◌≤◌, ◌<◌}
-use borrow.Author.Tests.{le-leb, lt-leb, not-true, not-false}
-use lib.Dec.{leb}
+use borrow.Author.Tests.{le-leb, lt-leb, le-ltb, not-true, not-false}
+use lib.Dec.{leb, ltb}
 use lib.ListN.{length}
-use Rattle.rules.specs.Actions.{Answer, answered, if_answered, ask}
+use Rattle.rules.specs.Actions.{Answer, answered, refused, if_answered, ask}
 use Rattle.rules.specs.Program.{Limits, Program, about, op_of, entry, parameters}
 use Rattle.rules.specs.Machine.{State, marked, add_caller, push_block, add_call}
+use Rattle.memory.specs.Layout.{worklist_most}
 use Rattle.state.specs.declared.Sizes.{Sizes}
 use Rattle.state.specs.declared.Regs.{Regs}
 use Rattle.state.specs.declared.State as S
 use Rattle.state.specs.View.{Attrs, called_of, state_view}
 use Rattle.state.specs.Changes.{Every}
 use Rattle.state.specs.Methods.{view, Added, Did}
+use Rattle.state.proofs.Pushes.{blocks-length}
 use Rattle.state.proofs.Methods.{Along, along_step, along_stop, along_end, along_refused, ready_at}
 use Rattle.std.specs.Prelude.{Result, Ok, Err}
 use Rattle.refusals.specs.declared.Refusal.{Refusal}
@@ -32,6 +34,16 @@ new_is : (L : Limits) (p : Program) (i f : ℕ) (s : State) → marked s.called_
     → add_call L p i f s ≡ asks (length (parameters p f)) (length (about (op_of p i)).listed) (push_block L p (entry p f) (add_caller f i s))
 unfolding add_call
 new_is L p i f s e = rw e
+
+-- a new call where no entry has room, for a way out of `add_call` that no answer names
+pub call-full : (L : Limits) (p : Program) (i f : ℕ) (s : State) → L.worklist ≡ worklist_most → marked s.called_by f i ≡ false → worklist_most ≤ length s.block_worklist
+    → add_call L p i f s ≡ refused 20
+unfolding push_block
+call-full L p i f s room e h =
+    let t : ltb (length s.block_worklist) L.worklist ≡ false = ap (ltb (length s.block_worklist)) room ∙ le-ltb (length s.block_worklist) worklist_most h in
+    rw (new_is L p i f s e, t)
+
+pub ruleset full = (call-full, blocks-length)
 
 module _ (s : S.State) (i f e n k : ℕ) {t : S.State} {b : 𝔹} (a : Added f i s t b) where
   was : b ≡ false → marked (called_of s.sizes s.words.now) f i ≡ true

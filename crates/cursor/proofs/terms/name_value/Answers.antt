@@ -1,9 +1,8 @@
 -- `cursor::terms::name_value` meets its contract. Assumes nothing.
-use mathlib.Core.Path.{refl, ap, ◌∙◌}
-use Rattle.std.specs.Prelude.{Option}
-use Rattle.std.specs.Option.{ok_or}
-use Rattle.program.specs.declared.Opnd.{Opnd}
-use Rattle.refusals.specs.declared.Refusal.TheVariants as R
+use mathlib.Core.Path.{◌≡◌, refl, ap}
+use native.Mathlib.Omega.{arith}
+use Rattle.std.specs.Prelude.{Ok, Err}
+use Rattle.refusals.specs.declared.Refusal.TheVariants.{UnboundName}
 use Rattle.cursor.specs.Promises.{parsed_at}
 use Rattle.cursor.proofs.terms.Terms.{value-fixed, value_fun, value-class, value-last}
 use Rattle.cursor.proofs.terms.name_value.Goals as goal
@@ -24,5 +23,5 @@ pub returns : goal.returns
 returns c = λ d x v k h.
     value-last _ _ _ d c.args.n h c.in_default.ensures.fixed refl (rw k c.in_default-function_named.ensures) refl
     (rw (k, x) c.in_default-class_named.ensures) refl c.get_var-found.result (rw v c.get_var-found.ensures) {p = parsed_at d c.ok_or.result}
-    (λ o e. ap (parsed_at d) (c.ok_or.ensures.value ∙ ap (λ (z : Option Opnd). ok_or z R.UnboundName) e))
-    (λ e. ap (parsed_at d) (c.ok_or.ensures.value ∙ ap (λ (z : Option Opnd). ok_or z R.UnboundName) e))
+    (λ o e. let there : c.ok_or.result ≡ Ok o = grind arith in ap (parsed_at d) there)
+    (λ e. let none : c.ok_or.result ≡ Err UnboundName = grind arith in ap (parsed_at d) none)
