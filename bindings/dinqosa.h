@@ -20,7 +20,7 @@ extern "C" {
 #define DINQOSA_PROGRAM_WORDS 57088
 #define DINQOSA_STATE_WORDS 54272
 
-/* Bytes of stack to give a call. Measured, not proved: the deepest script found takes 190,072 (docs/MEMORY.md). */
+/* Bytes of stack to give a call. Measured, not proved: the deepest script found takes 190,056 (docs/MEMORY.md). */
 #define DINQOSA_STACK_BYTES 786432
 
 /* Where the answer part has its tables: totals (functions, blocks, instructions, count), then by block: live;

@@ -11,7 +11,7 @@ pub const ANSWER_WORDS: usize = 22_788;
 pub const PROGRAM_WORDS: usize = 57_088;
 pub const STATE_WORDS: usize = 54_272;
 
-/// Bytes of stack to give a call. Measured, not proved: the deepest script found takes 190,072 (`docs/MEMORY.md`).
+/// Bytes of stack to give a call. Measured, not proved: the deepest script found takes 190,056 (`docs/MEMORY.md`).
 pub const STACK_BYTES: usize = 786_432;
 
 /// Where the answer part has its tables, behind the totals (functions, blocks, instructions, count).
